@@ -13,7 +13,7 @@ use Rattle.state_core.specs.declared.call.ZoneCall.{ZoneCall}
 use Rattle.state_core.specs.declared.call.ZoneCall.TheVariants.{Map, MapAt, Load, Store, Share, Unmap, Pin, Unpin, TakeOrder, GiveOrder, Mark, Unmark}
 use Rattle.state_core.specs.declared.error.ZoneError.{ZoneError}
 use Rattle.state_core.specs.declared.placement.Placement.{Placement}
-use Rattle.state_core.specs.declared.placement.Placement.TheVariants.{At, Moving}
+use Rattle.state_core.specs.declared.placement.Placement.TheVariants.{At}
 use Rattle.state_core.specs.Access.{placement_refusal, access_refusal, loaded, stored}
 use Rattle.state_core.specs.Calls.{refusal_of, answer_of, after, answers, record_of, IsInRange}
 use Rattle.state_core.specs.HandingOut.{is_order, is_run, lowest_run, take_order_refusal, give_order_refusal, block_taken, block_given}
@@ -43,9 +43,8 @@ both_passed None b e = (refl, e)
 both_passed (Some error) b e = cc
 
 in_a_frame : (o : Option Placement) → placement_refusal o ≡ None → (frame : ℕ) × (o ≡ Some (At frame))
-in_a_frame None e = cc
 in_a_frame (Some (At frame)) e = (frame, refl)
-in_a_frame (Some (Moving serial source target)) e = cc
+in_a_frame _ e = cc
 
 of_this_order : (o : Option ℕ) (order : ℕ) → is_order o order ≡ true → o ≡ Some order
 of_this_order None order e = cc

@@ -33,9 +33,8 @@ use Rattle.state_core.proofs.Entries.{get_insert_same, get_insert_other, get_rem
 
 -- a page is moving under one serial at most
 one_serial : (o : Option Placement) (s t : ℕ) → is_under o s ≡ true → is_under o t ≡ true → s ≡ t
-one_serial None s t e f = cc
-one_serial (Some (At frame)) s t e f = cc
 one_serial (Some (Moving serial source target)) s t e f = sym (eqb-true serial s e) ∙ eqb-true serial t f
+one_serial _ s t e f = cc
 
 -- a page of a zone, isolated under a serial, is moving there under this serial
 pub own_under : (z : ZoneState) (p : IsolatedPage) → is_own z p ≡ true → is_under (map.get z.placement p.page.number) p.serial ≡ true

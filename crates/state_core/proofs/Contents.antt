@@ -8,9 +8,10 @@ use Rattle.std.proofs.lemmas.Option.{none-some, same_Some}
 use Rattle.state_core.specs.Contents.{contents_of, contents_written}
 use Rattle.state_core.specs.Valid.{IsValidZone}
 use Rattle.state_core.specs.Pairs.{HaveMet}
-use Rattle.state_core.specs.Swept.{IsSwept}
 use Rattle.state_core.specs.ZoneState.{ZoneState}
 use Rattle.state_core.proofs.Entries.{get_insert_same, get_insert_other}
+use Rattle.state_core.proofs.StaysMet.{met_same}
+use Rattle.state_core.proofs.Sweeping.{swept_same}
 use Rattle.frame_core.specs.Words.{put_from}
 
 -- values that are put among the words leave as many words
@@ -43,15 +44,6 @@ module _ (v : ZoneState) (law : IsValidZone v) (first order : ℕ) (at : map.get
       | inr other ↦ ap (option_map length) (get_insert_other v.contents first f _ other.1) ∙ law.blocks.contents f
     ]
 
-    swept_written : IsSwept v → IsSwept written
-    swept_written swept = record {
-      below = swept.below;
-      above = swept.above;
-      unheld = swept.unheld;
-      movable = swept.movable;
-      ways = λ page serial source target e. (let way = swept.ways page serial source target e in record { low = way.low; high = way.high; movable = way.movable });
-    }
-
     pub valid_contents_written : IsValidZone (contents_written v first from values)
     valid_contents_written = record {
       size = law.size;
@@ -59,14 +51,9 @@ module _ (v : ZoneState) (law : IsValidZone v) (first order : ℕ) (at : map.get
       agrees = law.agrees;
       pages = law.pages;
       blocks = record { each = law.blocks.each; disjoint = law.blocks.disjoint; contents = contents_after };
-      fingers = record { ordered = law.fingers.ordered; begun = law.fingers.begun; swept = λ quiet. swept_written (law.fingers.swept quiet) };
+      fingers = record { ordered = law.fingers.ordered; begun = law.fingers.begun; swept = λ quiet. swept_same v v.records v.room written.contents (λ page. refl) (law.fingers.swept quiet) };
       sum = law.sum;
     }
 
 pub met_contents_written : (v : ZoneState) (first from : ℕ) (values : List ℕ) → HaveMet v → HaveMet (contents_written v first from values)
-met_contents_written v first from values met page source target is = met page source target (record {
-  from = record { here = is.from.here; movable = is.from.movable; unmarked = is.from.unmarked; low = is.from.low; high = is.from.high };
-  lowest = λ q frame s. is.lowest q frame (record { here = s.here; movable = s.movable; unmarked = s.unmarked; low = s.low; high = s.high });
-  to = record { free = is.to.free; unmarked = is.to.unmarked; low = is.to.low; high = is.to.high };
-  highest = λ frame t. is.highest frame (record { free = t.free; unmarked = t.unmarked; low = t.low; high = t.high });
-})
+met_contents_written v first from values = met_same v v.records v.room _ (λ page. refl)

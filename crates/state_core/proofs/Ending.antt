@@ -1,12 +1,10 @@
 -- The move of a page ends: the page is in its target or in its source, and the other frame is free.
-use Rattle.std.proofs.Common.{◌≡◌, ◌≢◌, ℕ, ◌+◌, ◌<◌, true, false, ◌∷◌, length, inl, refl, sym, ap, subst, ◌∙◌, arith, Option, Some, IsSomeAnd, IsTrue, nat_eq, ◌||◌, ◌↔◌}
+use Rattle.std.proofs.Common.{◌≡◌, ◌≢◌, ℕ, ◌+◌, ◌<◌, true, ◌∷◌, length, inl, refl, sym, ap, subst, ◌∙◌, arith, Option, Some, IsSomeAnd, IsTrue, nat_eq, ◌||◌, ◌↔◌}
 use Rattle.std.specs.Prelude.{⊤}
 use Rattle.std.specs.List.{list_any}
 use Rattle.std.specs.FinMap as map
-use Rattle.std.proofs.Math.Bool.{or-false}
 use Rattle.std.proofs.lemmas.Bool.{both_ways, eq-eqb, eqb-true, ne_eqb, or_left, or_right}
 use Rattle.std.proofs.lemmas.Option.{same_Some}
-use Rattle.frame_core.specs.Below.{count_below}
 use Rattle.frame_core.proofs.OnTheWay.{still_out, ended_out, length_without}
 use Rattle.frame_core.specs.declared.record.Cause.{Cause}
 use Rattle.frame_core.specs.declared.record.Cause.TheVariants.{Pinned, NotCopied}
@@ -22,7 +20,7 @@ use Rattle.state_core.specs.Ending.{HasCause}
 use Rattle.state_core.specs.ZoneState.{ZoneState, frame_count, takes_up, is_free}
 use Rattle.state_core.proofs.Facts.{not_none}
 use Rattle.state_core.proofs.Moving.{CanSettle, IsRecorded, moved_still, back_still}
-use Rattle.state_core.proofs.Places.{IsOutWith, free_old, free_left, free_same, free_count, ways_of}
+use Rattle.state_core.proofs.Places.{IsOutWith, free_left, free_same, ways_of}
 
 module _ (v : ZoneState) (page serial source target : ℕ) (law : IsValidZone v) (at : map.get v.placement page ≡ Some (Moving serial source target)) where
   abbrev way : Placement

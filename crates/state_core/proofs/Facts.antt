@@ -1,5 +1,5 @@
 -- What is known of a valid zone.
-use Rattle.std.proofs.Common.{◌≡◌, ◌≢◌, ℕ, ◌+◌, ◌-◌, ◌^◌, ◌<◌, ◌≤◌, Bool, true, false, cond, List, [], ◌∷◌, length, arith, refl, sym, ap, ◌∙◌, Option, Some, None, IsSome, is_some, nat_eq, ◌||◌, if◌then◌else◌, eq-eqb, ltb-true}
+use Rattle.std.proofs.Common.{◌≡◌, ◌≢◌, ℕ, ◌+◌, ◌-◌, ◌^◌, ◌<◌, Bool, true, false, cond, length, refl, sym, ap, ◌∙◌, Option, Some, None, IsSome, is_some, nat_eq, ◌||◌, if◌then◌else◌, eq-eqb, ltb-true}
 use Rattle.std.specs.FinMap as map
 pub use Rattle.std.proofs.lemmas.Bool.{cond-true as taken, cond-false as skipped}
 use Rattle.std.proofs.lemmas.Bool.{and_parts}
@@ -7,8 +7,6 @@ use Rattle.std.specs.Option.{option_and_then}
 use Rattle.std.proofs.lemmas.Option.{option_and_then_some}
 use Rattle.frame_core.specs.declared.place.Address.{Address}
 use Rattle.frame_core.specs.History.{page_at}
-use Rattle.frame_core.specs.declared.record.Record.{Record}
-use Rattle.frame_core.specs.declared.record.Record.TheVariants.{Isolate}
 use Rattle.frame_core.specs.Moves.{out, isolated}
 use Rattle.state_core.specs.declared.error.ZoneError.TheVariants.{JournalFull}
 use Rattle.state_core.specs.declared.placement.Placement.{Placement}

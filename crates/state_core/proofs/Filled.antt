@@ -2,7 +2,7 @@
 use Rattle.std.proofs.Common.{◌≡◌, ℕ, zero, suc, ◌+◌, ◌-◌, ◌*◌, ◌/◌, ◌%◌, ◌^◌, ◌<◌, ◌≤◌, Bool, true, false, not, refl, sym, ap, ◌∙◌, arith}
 use Rattle.std.specs.Prelude.{nat_eq, ◌&&◌}
 use Rattle.std.specs.FinSet as set
-use Rattle.std.proofs.Math.Nat.{mul-le-mul_left}
+use Rattle.std.proofs.Math.Nat.{mul_comm, mul-le-mul_left}
 use Rattle.std.proofs.lemmas.Nat.{div-add-mod', div-mul-add, le-div, mod_below, pow-add}
 use Rattle.std.proofs.lemmas.Bool.{not-true}
 use Rattle.frame_core.proofs.Searches.{count_same, count_from_same}
@@ -12,19 +12,17 @@ use Rattle.state_core.specs.Pairs.{is_marked, is_free_unmarked}
 use Rattle.state_core.specs.ZoneState.{ZoneState, frame_count, is_free, is_whole}
 use Rattle.state_core.proofs.Runs.{count_from_none, filled_runs, quotient, runs_most}
 
+positive : (a b : ℕ) → a * b ≡ 512 → 0 < a
+positive zero b e = absurd (omega arith)
+positive (suc a) b e = omega arith
+
 -- runs of a size that divides a pageblock
 module _ (size rest : ℕ) (whole : size * rest ≡ 512) where
   size_some : 0 < size
-  size_some = positive size whole where
-    positive : (s : ℕ) → s * rest ≡ 512 → 0 < s
-    positive zero e = absurd (omega arith)
-    positive (suc s) e = omega arith
+  size_some = positive size rest whole
 
   rest_some : 0 < rest
-  rest_some = positive rest whole where
-    positive : (r : ℕ) → size * r ≡ 512 → 0 < r
-    positive zero e = absurd (omega arith)
-    positive (suc r) e = omega arith
+  rest_some = positive rest size (mul_comm rest size ∙ whole)
 
   -- a frame of a run is in the pageblock of the run's first frame
   block_of_run : (i k : ℕ) → k < size → (size * i + k) / 512 ≡ i / rest
@@ -79,15 +77,11 @@ test_same : (a b : ℕ) → a ≡ b → nat_eq a 512 ≡ nat_eq b 512
 test_same a b e = ap (λ (n : ℕ). nat_eq n 512) e
 
 and_same : (m b c : Bool) → (m ≡ true → c ≡ false) → (m ≡ false → c ≡ b) → (not m && b) ≡ c
-and_same true b c shut free = sym (shut refl)
-and_same false b c shut free = sym (free refl)
+and_same m b c shut free = grind (arith, shut, free)
 
 -- the numbers that pass are those that also pass a second test and those that don't
 split : (m w : Bool) → one_if w ≡ one_if (not m && w) + one_if (m && w)
-split true true = refl
-split true false = refl
-split false true = refl
-split false false = refl
+split m w = grind arith
 
 count_split_by : (m w : ℕ → Bool) (n : ℕ) → count_below w n ≡ count_below (λ k. not (m k) && w k) n + count_below (λ k. m k && w k) n
 count_split_by m w zero = refl

@@ -1,9 +1,9 @@
 -- What a zone's searches for a free frame and for an unused page number find.
-use Rattle.std.proofs.Common.{◌≡◌, ℕ, ◌+◌, ◌-◌, ◌<◌, ◌≤◌, Bool, true, ap, ◌∙◌, arith, Some, None, IsSome, is_some, is_none}
+use Rattle.std.proofs.Common.{◌≡◌, ℕ, ◌<◌, true, arith, Some, None, IsSome, is_some, is_none}
 use Rattle.std.specs.FinMap.{get}
 use Rattle.std.proofs.lemmas.Bool.{both_ways, not-true, not-false, true_from_ne_false}
 use Rattle.frame_core.proofs.Searches.{lowest_some, lowest_before, no_lowest, count_all, count_some}
-use Rattle.frame_core.specs.Below.{count_below, count_from}
+use Rattle.frame_core.specs.Below.{count_below}
 use Rattle.state_core.specs.Valid.{IsValidZone}
 use Rattle.state_core.specs.ZoneState.{ZoneState, frame_count, is_free, lowest_free_frame, lowest_unused_page}
 use Rattle.state_core.proofs.Facts.{none_is, some_is}

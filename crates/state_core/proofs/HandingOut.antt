@@ -4,12 +4,12 @@ use Rattle.std.specs.FinMap as map
 use Rattle.std.specs.Option.{option_map}
 use Rattle.std.proofs.Math.Bool.{or-false}
 use Rattle.std.proofs.Math.Nat.{mul-div_cancel}
-use Rattle.std.proofs.lemmas.Bool.{and_parts, and_from, and_right, both_ways, cases_Bool, cond-true, cond-false, eq-eqb, eqb-true, false_from_ne_true, leb-true, le-leb, ltb-true, lt-ltb, ne_eqb, or_from, or_parts, or_right}
+use Rattle.std.proofs.lemmas.Bool.{and_parts, and_from, and_right, both_ways, eq-eqb, eqb-true, false_from_ne_true, leb-true, le-leb, ltb-true, lt-ltb, or_from, or_parts, or_right}
 use Rattle.std.proofs.lemmas.Bool.Decides.{eqb_tells}
 use Rattle.std.proofs.lemmas.List.{length-replicate}
 use Rattle.std.proofs.lemmas.Nat.{pow_pos}
 use Rattle.std.proofs.lemmas.Option.{none-some, same_Some}
-use Rattle.frame_core.proofs.Searches.{count_from_all, count_from_full, lowest_is, lowest_none, lowest_some, lowest_before, no_lowest, none_some, some_at, some_more, some_one}
+use Rattle.frame_core.proofs.Searches.{count_from_all, count_from_full, lowest_is, lowest_some, lowest_before, none_some, some_at, some_more, some_one}
 use Rattle.frame_core.specs.Below.{lowest, one_if, some_below, count_from}
 use Rattle.frame_core.specs.Order.{is_aligned}
 use Rattle.frame_core.specs.declared.record.Record.TheVariants.{TakeHuge, GiveHuge}
@@ -20,7 +20,7 @@ use Rattle.state_core.specs.Clear.{BlocksAreClear}
 use Rattle.state_core.specs.HandingOut.{has_block, is_run, lowest_run, block_taken, block_given}
 use Rattle.state_core.specs.Valid.{IsValidZone, IsBlock}
 use Rattle.state_core.specs.ZoneState.{ZoneState, frame_count, takes_up, covers, is_used, is_held, is_free, is_whole}
-use Rattle.state_core.proofs.Entries.{get_insert_same, get_insert_other, get_remove_same, get_remove_other}
+use Rattle.state_core.proofs.Entries.{written_at, get_insert_same, get_insert_other, get_remove_same, get_remove_other}
 use Rattle.state_core.proofs.Facts.{page_named}
 use Rattle.state_core.proofs.Holding.{at_takes}
 use Rattle.state_core.proofs.Places.{counts_add_up, unheld_frame, untaken}
@@ -55,6 +55,10 @@ held_more {fewer} {more} {first} {order} one n h frame =
     (ap (λ (o : Option ℕ). covers o first frame) one.without)
     (λ q ne. ap (λ (o : Option ℕ). covers o q frame) (one.others q ne))
     ∙ ap (λ (o : Option ℕ). held_in fewer n frame || covers o first frame) one.here
+
+-- a frame that becomes held was free: as many frames are free or held as before
+balance : (used held more : Bool) → (more ≡ true → (not used && not held) ≡ true) → one_if (not used && not (held || more)) + one_if (held || more) ≡ one_if (not used && not held) + one_if held
+balance used held more free = grind (arith, free)
 
 -- a frame of a block that is handed out is held
 pub held_of : (v : ZoneState) → IsValidZone v → (first order frame : ℕ) → map.get v.handed_out first ≡ Some order → in_block first order frame ≡ true → is_held v frame ≡ true
@@ -112,14 +116,7 @@ module _ (v : ZoneState) (first order : ℕ) (run : is_run v order first ≡ tru
   free_taken_out frame there = ap (λ b. not (is_used v frame) && not b) (held_taken frame ∙ ap (λ b. is_held v frame || b) there ∙ or-false (is_held v frame))
 
   balanced_taken : (frame : ℕ) → one_if (is_free taken frame) + one_if (is_held taken frame) ≡ one_if (is_free v frame) + one_if (is_held v frame)
-  balanced_taken frame = elim (cases_Bool (in_block first order frame)) [
-    | inl here ↦
-        (let free = block_free frame here in
-        (λ i. one_if (free_taken_in frame here i) + one_if ((held_taken frame ∙ or_right (is_held v frame) _ here) i))
-        ∙ sym (λ i. one_if (free i) + one_if (unheld_frame v frame free i)))
-    | inr there ↦
-        (λ i. one_if (free_taken_out frame there i) + one_if ((held_taken frame ∙ ap (λ b. is_held v frame || b) there ∙ or-false (is_held v frame)) i))
-  ]
+  balanced_taken frame = ap (λ b. one_if (not (is_used v frame) && not b) + one_if b) (held_taken frame) ∙ balance (is_used v frame) (is_held v frame) _ (block_free frame)
 
   module _ (law : IsValidZone v) (spare : length (out v.records) < v.room) (low : 3 ≤ order) (high : order ≤ 9) where
     clear_taken : (page frame : ℕ) → takes_up (map.get v.placement page) frame ≡ true → is_held taken frame ≡ false
@@ -156,10 +153,7 @@ module _ (v : ZoneState) (first order : ℕ) (run : is_run v order first ≡ tru
     ]
 
     handed_taken : (f : ℕ) → map.get taken.handed_out f ≡ handed_out_by (TakeHuge first order ∷ v.records) f
-    handed_taken f = elim (eqb_tells f first) [
-      | inl same ↦ get_insert_same v.handed_out first f order same.1 ∙ sym (cond-true (nat_eq first f) (Some order) (handed_out_by v.records f) (eq-eqb first f (sym same.1)))
-      | inr other ↦ get_insert_other v.handed_out first f order other.1 ∙ law.agrees.handed f ∙ sym (cond-false (nat_eq first f) (Some order) (handed_out_by v.records f) (ne_eqb first f (λ e. other.1 (sym e))))
-    ]
+    handed_taken = written_at _ (map.get v.handed_out) (handed_out_by v.records) first (Some order) (λ f. get_insert_same v.handed_out first f order) (λ f. get_insert_other v.handed_out first f order) law.agrees.handed
 
     contents_taken : (f : ℕ) → option_map length (map.get taken.contents f) ≡ option_map (λ o. 2 ^ o * v.page_size) (map.get taken.handed_out f)
     contents_taken f = elim (eqb_tells f first) [
@@ -218,20 +212,11 @@ module _ (v : ZoneState) (law : IsValidZone v) (first order : ℕ) (at : map.get
       (ap not (none_some (λ page. takes_up (map.get v.placement page) frame) (frame_count v) (λ page h. unused_in_block page frame here)))
       (ap not (unheld_given frame here))
 
-  free_held_in : (frame : ℕ) → in_block first order frame ≡ true → is_free v frame ≡ false
-  free_held_in frame here = and_right (not (is_used v frame)) _ (ap not (held_of v law first order frame at here))
-
   pub free_given_out : (frame : ℕ) → in_block first order frame ≡ false → is_free given frame ≡ is_free v frame
   free_given_out frame there = sym (ap (λ b. not (is_used v frame) && not b) (held_given frame ∙ ap (λ b. is_held given frame || b) there ∙ or-false (is_held given frame)))
 
   balanced_given : (frame : ℕ) → one_if (is_free given frame) + one_if (is_held given frame) ≡ one_if (is_free v frame) + one_if (is_held v frame)
-  balanced_given frame = elim (cases_Bool (in_block first order frame)) [
-    | inl here ↦
-        (λ i. one_if (free_given_in frame here i) + one_if (unheld_given frame here i))
-        ∙ sym (λ i. one_if (free_held_in frame here i) + one_if (held_of v law first order frame at here i))
-    | inr there ↦
-        sym (λ i. one_if (sym (free_given_out frame there) i) + one_if ((held_given frame ∙ ap (λ b. is_held given frame || b) there ∙ or-false (is_held given frame)) i))
-  ]
+  balanced_given frame = sym (ap (λ b. one_if (not (is_used v frame) && not b) + one_if b) (held_given frame) ∙ balance (is_used v frame) (is_held given frame) _ (free_given_in frame))
 
   -- a block that was handed out is in the zone, and all of its frames are free after it is taken back
   pub block_of_zone : has_block v order first ≡ true
@@ -245,10 +230,7 @@ module _ (v : ZoneState) (law : IsValidZone v) (first order : ℕ) (at : map.get
       (eq-eqb _ _ (count_from_all (is_free given) first (2 ^ order) (λ frame low high. free_given_in frame (in_block_from first order frame low high))))
 
   handed_fewer : (f : ℕ) → map.get given.handed_out f ≡ handed_out_by (GiveHuge first order ∷ v.records) f
-  handed_fewer f = elim (eqb_tells f first) [
-    | inl same ↦ get_remove_same v.handed_out first f same.1 ∙ sym (cond-true (nat_eq first f) None (handed_out_by v.records f) (eq-eqb first f (sym same.1)))
-    | inr other ↦ get_remove_other v.handed_out first f other.1 ∙ law.agrees.handed f ∙ sym (cond-false (nat_eq first f) None (handed_out_by v.records f) (ne_eqb first f (λ e. other.1 (sym e))))
-  ]
+  handed_fewer = written_at _ (map.get v.handed_out) (handed_out_by v.records) first None (get_remove_same v.handed_out first) (get_remove_other v.handed_out first) law.agrees.handed
 
   blocks_given : (f o : ℕ) → map.get given.handed_out f ≡ Some o → IsBlock (frame_count v) f o
   blocks_given f o e = elim (eqb_tells f first) [

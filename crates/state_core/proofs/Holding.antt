@@ -15,9 +15,8 @@ use Rattle.state_core.proofs.Facts.{not_none}
 
 -- where a page with this placement is in a frame, its placement is that frame
 pub stands_at : (o : Option Placement) (frame : ℕ) → stands_in o frame ≡ true → o ≡ Some (At frame)
-stands_at None frame e = cc
 stands_at (Some (At f)) frame e = ap (λ (g : ℕ). Some (At g)) (sym (eqb-true frame f e))
-stands_at (Some (Moving serial source target)) frame e = cc
+stands_at _ frame e = cc
 
 pub at_takes : (o : Option Placement) (frame : ℕ) → o ≡ Some (At frame) → takes_up o frame ≡ true
 at_takes o frame e = ap (λ (p : Option Placement). takes_up p frame) e ∙ eq-eqb frame frame refl

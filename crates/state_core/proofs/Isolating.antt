@@ -4,7 +4,6 @@ use Rattle.std.proofs.Math.Bool.{or-false}
 use Rattle.std.proofs.lemmas.Bool.{and_parts, both_ways, cond-true, cond-false, eq-eqb, eqb-true, ne_eqb, or_cases, or_left, or_right}
 use Rattle.std.proofs.lemmas.Bool.Decides.{eqb_tells}
 use Rattle.std.proofs.lemmas.Option.{same_Some}
-use Rattle.frame_core.specs.Below.{count_below}
 use Rattle.frame_core.proofs.OnTheWay.{out_below, not_moving}
 use Rattle.frame_core.specs.declared.record.Record.TheVariants.{Isolate}
 use Rattle.frame_core.specs.History.{pins}
@@ -18,7 +17,7 @@ use Rattle.state_core.specs.Pairs.{IsPair}
 use Rattle.state_core.specs.ZoneState.{ZoneState, frame_count, is_free}
 use Rattle.state_core.proofs.Facts.{not_none}
 use Rattle.state_core.proofs.Moving.{CanSettle, IsRecorded, isolate_still}
-use Rattle.state_core.proofs.Places.{IsOutWith, free_new, free_same, free_count, ways_of}
+use Rattle.state_core.proofs.Places.{IsOutWith, free_new, free_same, ways_of}
 
 module _ (v : ZoneState) (pair : Pair) (law : IsValidZone v) (is : IsPair v pair.page pair.source pair.target) where
   abbrev serial_next : ℕ

@@ -1,30 +1,22 @@
 -- A pageblock is marked, or its mark is taken off: the zone stays valid.
-use Rattle.std.proofs.Common.{◌≡◌, ℕ, ◌<◌, true, false, ◌∷◌, length, inl, inr, refl, sym, ◌∙◌, nat_eq}
+use Rattle.std.proofs.Common.{◌≡◌, ℕ, ◌<◌, true, false, ◌∷◌, length, refl}
 use Rattle.std.specs.FinSet as set
-use Rattle.std.proofs.lemmas.Bool.{cond-true, cond-false, eq-eqb, ne_eqb}
-use Rattle.std.proofs.lemmas.Bool.Decides.{eqb_tells}
 use Rattle.frame_core.specs.declared.record.Record.TheVariants.{Mark, Unmark}
 use Rattle.frame_core.specs.Blocks.{is_marked_by}
 use Rattle.frame_core.specs.Moves.{out}
 use Rattle.state_core.specs.Valid.{IsValidZone}
 use Rattle.state_core.specs.Marking.{block_marked, block_unmarked}
 use Rattle.state_core.specs.ZoneState.{ZoneState}
-use Rattle.state_core.proofs.Entries.{contains_insert_same, contains_insert_other, contains_remove_same, contains_remove_other}
+use Rattle.state_core.proofs.Entries.{written_at, contains_insert_same, contains_insert_other, contains_remove_same, contains_remove_other}
 use Rattle.state_core.proofs.Noted.{journal_noted}
 use Rattle.state_core.proofs.Quiet.{fingers_ended}
 
 module _ (v : ZoneState) (law : IsValidZone v) (spare : length (out v.records) < v.room) (block : ℕ) where
   marks_more : (b : ℕ) → set.contains (set.insert v.marked block) b ≡ is_marked_by (Mark block ∷ v.records) b
-  marks_more b = elim (eqb_tells b block) [
-    | inl same ↦ contains_insert_same v.marked block b same.1 ∙ sym (cond-true (nat_eq block b) true (is_marked_by v.records b) (eq-eqb block b (sym same.1)))
-    | inr other ↦ contains_insert_other v.marked block b other.1 ∙ law.agrees.marks b ∙ sym (cond-false (nat_eq block b) true (is_marked_by v.records b) (ne_eqb block b (λ e. other.1 (sym e))))
-  ]
+  marks_more = written_at _ (set.contains v.marked) (is_marked_by v.records) block true (contains_insert_same v.marked block) (contains_insert_other v.marked block) law.agrees.marks
 
   marks_fewer : (b : ℕ) → set.contains (set.remove v.marked block) b ≡ is_marked_by (Unmark block ∷ v.records) b
-  marks_fewer b = elim (eqb_tells b block) [
-    | inl same ↦ contains_remove_same v.marked block b same.1 ∙ sym (cond-true (nat_eq block b) false (is_marked_by v.records b) (eq-eqb block b (sym same.1)))
-    | inr other ↦ contains_remove_other v.marked block b other.1 ∙ law.agrees.marks b ∙ sym (cond-false (nat_eq block b) false (is_marked_by v.records b) (ne_eqb block b (λ e. other.1 (sym e))))
-  ]
+  marks_fewer = written_at _ (set.contains v.marked) (is_marked_by v.records) block false (contains_remove_same v.marked block) (contains_remove_other v.marked block) law.agrees.marks
 
   pub valid_marked : IsValidZone (block_marked v block)
   valid_marked = record {

@@ -1,7 +1,6 @@
 -- A page in use takes up other frames; its names, values and pins stay.
 use Rattle.std.proofs.Common.{◌≡◌, ◌≢◌, ℕ, ◌+◌, ◌-◌, ◌<◌, ◌≤◌, ◌^◌, ◌∷◌, List, length, inl, inr, refl, sym, ap, ◌∙◌, arith, Some, IsTrue, is_some, ◌↔◌}
 use Rattle.std.specs.FinMap as map
-use Rattle.frame_core.specs.Below.{count_below}
 use Rattle.frame_core.specs.declared.place.Address.{Address}
 use Rattle.frame_core.specs.declared.record.Cause.{Cause}
 use Rattle.frame_core.specs.declared.record.Record.{Record}
@@ -15,7 +14,7 @@ use Rattle.state_core.specs.Valid.{IsValidZone, is_under}
 use Rattle.state_core.specs.Carrying.{relocated}
 use Rattle.state_core.specs.Swept.{SweptIfQuiet}
 use Rattle.state_core.specs.ZoneState.{ZoneState, frame_count}
-use Rattle.state_core.proofs.Places.{CanChangePlace, IsOutWith, ways_of, where_is, page_count, valid_told}
+use Rattle.state_core.proofs.Places.{CanChangePlace, IsOutWith, ways_of, where_is, valid_told}
 
 -- what has to hold so that a page in use can get another placement
 abbrev pub CanSettle : ZoneState → ℕ → Placement → Placement → Type 0

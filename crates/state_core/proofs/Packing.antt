@@ -46,12 +46,10 @@ module _ (p : ℕ → Bool) where
   )
 
 if_open : (a b : Bool) → (a ≡ true → b ≡ true) → (a && b) ≡ a
-if_open true b h = h refl
-if_open false b h = refl
+if_open a b h = grind (arith, h)
 
 if_shut : (a b : Bool) → (a ≡ true → b ≡ false) → (a && b) ≡ false
-if_shut true b h = h refl
-if_shut false b h = refl
+if_shut a b h = grind (arith, h)
 
 -- where the counted numbers below a size are free up to a bound and not from there on, the number of free ones is that of the
 -- counted ones below the bound
@@ -94,9 +92,7 @@ packed_parted v bound parted = record {
 }
 
 used_of : (a b : Bool) → (not a && not b) ≡ false → b ≡ false → a ≡ true
-used_of true b e f = refl
-used_of false true e f = cc
-used_of false false e f = cc
+used_of a b e f = grind (arith, e, f)
 
 -- a page that takes up a frame and isn't moving is in this frame
 takes_at : (o : Option Placement) (frame : ℕ) → ((serial source target : ℕ) → o ≡ Some (Moving serial source target) → ⊥) → takes_up o frame ≡ true → o ≡ Some (At frame)

@@ -3,7 +3,7 @@ use Rattle.std.proofs.Common.{◌≡◌, ◌≢◌, ℕ, zero, suc, ◌+◌, ◌
 use Rattle.std.specs.Prelude.{Option, Some, None, is_some, length, nat_eq, ◌&&◌, ◌||◌}
 use Rattle.std.specs.FinMap as map
 use Rattle.std.specs.FinSet as set
-use Rattle.std.proofs.lemmas.Bool.{eq-eqb, eqb-true, false_from_ne_true}
+use Rattle.std.proofs.lemmas.Bool.{and_right, eq-eqb, eqb-true, false_from_ne_true}
 use Rattle.std.proofs.lemmas.Bool.Decides.{eqb_tells}
 use Rattle.frame_core.proofs.Searches.{count_same, count_more, count_none, count_from_same, none_some, some_one}
 use Rattle.frame_core.specs.Below.{one_if, count_below, count_from, some_below}
@@ -20,11 +20,7 @@ use Rattle.state_core.proofs.Holding.{at_rest}
 -- Of the counted frames, some are used and some are held, none is both, and the rest is free.
 
 three : (c u h : Bool) → (u ≡ true → h ≡ false) → one_if (c && (not u && not h)) + one_if (c && u) + one_if (c && h) ≡ one_if c
-three false u h apart = refl
-three true true true apart = let bad = apart refl in cc
-three true true false apart = refl
-three true false true apart = refl
-three true false false apart = refl
+three c u h apart = grind (arith, apart)
 
 count_three : (c u h : ℕ → Bool) (n : ℕ) → ((k : ℕ) → k < n → u k ≡ true → h k ≡ false) →
     count_below (λ k. c k && (not (u k) && not (h k))) n + count_below (λ k. c k && u k) n + count_below (λ k. c k && h k) n ≡ count_below c n
@@ -41,17 +37,11 @@ place_is : (o : Option ℕ) (frame : ℕ) → is_place o frame ≡ true → o �
 place_is None frame e = cc
 place_is (Some f) frame e = ap Some (sym (eqb-true frame f e))
 
-off : (c b : Bool) → b ≡ false → (c && b) ≡ false
-off true b e = e
-off false b e = refl
-
 or_skip : (a b : Bool) → a ≡ false → (a || b) ≡ b
-or_skip true b e = cc
-or_skip false b e = refl
+or_skip a b e = grind (arith, e)
 
 shut : (c a b : Bool) → c ≡ false → (c && a) ≡ (c && b)
-shut true a b e = cc
-shut false a b e = refl
+shut c a b e = grind (arith, e)
 
 module _ (place : ℕ → Option ℕ) (counted : ℕ → Bool) (size : ℕ)
     (within : (page frame : ℕ) → place page ≡ Some frame → frame < size)
@@ -60,7 +50,7 @@ module _ (place : ℕ → Option ℕ) (counted : ℕ → Bool) (size : ℕ)
   taken_by m frame = counted frame && some_below (λ page. is_place (place page) frame) m
 
   untaken : (m frame : ℕ) → place m ≡ Some frame → taken_by m frame ≡ false
-  untaken m frame at = off (counted frame) _ (none_some (λ page. is_place (place page) frame) m (λ q h. false_from_ne_true _ (λ e.
+  untaken m frame at = and_right (counted frame) _ (none_some (λ page. is_place (place page) frame) m (λ q h. false_from_ne_true _ (λ e.
       (let same : q ≡ m = apart q m frame (place_is (place q) frame e) at in absurd (omega arith)))))
 
   away : (m frame g : ℕ) → place m ≡ Some g → frame ≢ g → taken_by (suc m) frame ≡ taken_by m frame
@@ -91,7 +81,7 @@ module _ (place : ℕ → Option ℕ) (counted : ℕ → Bool) (size : ℕ)
         )
 
   frames_of_pages : (m : ℕ) → count_below (taken_by m) size ≡ count_below (λ page. stands_counted counted (place page)) m
-  frames_of_pages zero = count_none (taken_by zero) size (λ frame h. off (counted frame) false refl)
+  frames_of_pages zero = count_none (taken_by zero) size (λ frame h. and_right (counted frame) false refl)
   frames_of_pages (suc m) = omega (arith, one_more m (place m) refl, frames_of_pages m)
 
 takes_place : (o : Option Placement) (frame : ℕ) → ((serial source target : ℕ) → o ≡ Some (Moving serial source target) → ⊥) → takes_up o frame ≡ is_place (frame_of o) frame

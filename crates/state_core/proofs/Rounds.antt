@@ -1,9 +1,9 @@
 -- Whether a round begins calm, and what holds of a zone after a round began.
-use Rattle.std.proofs.Common.{◌≡◌, ℕ, ◌<◌, true, false, not, length, refl, sym, ap, ◌∙◌, arith, nat_eq, ◌&&◌}
+use Rattle.std.proofs.Common.{◌≡◌, ℕ, ◌<◌, true, false, not, length, refl, sym, ap, ◌∙◌, arith, ◌&&◌}
 use Rattle.state_core.specs.Rounds.{round_begun}
-use Rattle.std.proofs.lemmas.Bool.{and_right, eq-eqb}
+use Rattle.std.proofs.lemmas.Bool.{eq-eqb}
 use Rattle.std.proofs.lemmas.Option.{same_Some}
-use Rattle.frame_core.proofs.Searches.{some_at, none_some}
+use Rattle.frame_core.proofs.Searches.{none_some}
 use Rattle.frame_core.specs.Moves.{out}
 use Rattle.state_core.specs.declared.round.RoundStart.{RoundStart}
 use Rattle.state_core.specs.Valid.{IsValidZone}

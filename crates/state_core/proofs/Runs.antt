@@ -1,7 +1,7 @@
 -- How many aligned runs have only numbers that pass.
 use Rattle.std.proofs.Common.{◌≡◌, ◌≢◌, ℕ, zero, suc, ◌+◌, ◌-◌, ◌*◌, ◌/◌, ◌<◌, ◌≤◌, Bool, true, false, ◌⊎◌, inl, inr, refl, sym, ap, subst, ◌∙◌, arith}
 use Rattle.std.specs.Prelude.{nat_eq, ◌&&◌, ◌↔◌}
-use Rattle.std.proofs.lemmas.Bool.{both_ways}
+use Rattle.std.proofs.lemmas.Bool.{eq-eqb, ne_eqb, both_ways}
 use Rattle.std.proofs.lemmas.Bool.Decides.{eqb_tells, leb_tells}
 use Rattle.std.proofs.Math.Nat.{mul-le-mul_left}
 use Rattle.std.proofs.lemmas.Nat.{div-mul-add}
@@ -31,16 +31,10 @@ module _ (p : ℕ → Bool) (size : ℕ) where
       ap (count_below p) same ∙ count_split p (size * i) size
 
   pub run_whole : (i : ℕ) → count_from p (size * i) size ≡ size → whole_runs p size (suc i) ≡ whole_runs p size i + 1
-  run_whole i all = elim (eqb_tells (count_from p (size * i) size) size) [
-    | inl whole ↦ (let one : one_if (is_run i) ≡ 1 = ap one_if whole.0 in omega arith)
-    | inr other ↦ absurd (other.1 all)
-  ]
+  run_whole i all = omega (arith, ap one_if (eq-eqb _ size all))
 
   pub run_broken : (i : ℕ) → count_from p (size * i) size ≢ size → whole_runs p size (suc i) ≡ whole_runs p size i
-  run_broken i less = elim (eqb_tells (count_from p (size * i) size) size) [
-    | inl whole ↦ absurd (less whole.1)
-    | inr other ↦ (let none : one_if (is_run i) ≡ 0 = ap one_if other.0 in omega arith)
-  ]
+  run_broken i less = omega (arith, ap one_if (ne_eqb _ size less))
 
   -- at least as many numbers pass as the whole runs have
   pub runs_most : (n : ℕ) → size * whole_runs p size n ≤ count_below p (size * n)

@@ -1,13 +1,12 @@
 -- The names under which other crates cite the facts about a page in use that takes up other frames.
-use Rattle.std.proofs.Common.{◌≡◌, ◌≢◌, ℕ, ◌≤◌, true, false, Some, is_some}
+use Rattle.std.proofs.Common.{◌≡◌, ◌≢◌, ℕ, ◌≤◌, true, Some}
 use Rattle.std.specs.FinMap as map
-use Rattle.frame_core.specs.Below.{count_below}
 use Rattle.frame_core.specs.declared.record.Record.{Record}
 use Rattle.state_core.specs.declared.placement.Placement.{Placement}
 use Rattle.state_core.specs.Valid.{IsValidZone}
 use Rattle.state_core.specs.Carrying.{relocated}
 use Rattle.state_core.specs.Swept.{SweptIfQuiet}
-use Rattle.state_core.specs.ZoneState.{ZoneState, frame_count, takes_up, is_held, is_free}
+use Rattle.state_core.specs.ZoneState.{ZoneState, frame_count, takes_up}
 use Rattle.state_core.proofs.Moving as moving
 use Rattle.state_core.proofs.Places as places
 pub use Rattle.state_core.proofs.Moving.{CanSettle, IsStill, IsRecorded, isolate_still, moved_still, back_still}

@@ -1,6 +1,9 @@
 -- Where the scanners of a quiet round have met, no call that leaves the round quiet makes a pair.
-use Rattle.std.proofs.Common.{◌≡◌, ◌≢◌, ℕ, ◌≤◌, true, not, inl, inr, sym, ap, subst, ◌∙◌, arith, Option, Some, nat_eq}
+use Rattle.std.proofs.Common.{◌≡◌, ◌≢◌, ℕ, ◌≤◌, true, not, inl, inr, refl, sym, ap, subst, ◌∙◌, arith, List, Option, Some, nat_eq, ◌&&◌}
 use Rattle.std.specs.FinMap as map
+use Rattle.std.specs.FinSet as set
+use Rattle.std.specs.Ordering.{nat_cmp}
+use Rattle.frame_core.specs.declared.record.Record.{Record}
 use Rattle.std.proofs.lemmas.Bool.{both_ways, eq-eqb}
 use Rattle.std.proofs.lemmas.Bool.Decides.{eqb_tells}
 use Rattle.frame_core.specs.declared.place.Address.{Address}
@@ -18,21 +21,22 @@ use Rattle.state_core.specs.ZoneState.{ZoneState, is_free, is_quiet}
 use Rattle.state_core.proofs.Ending.{moved_others}
 use Rattle.state_core.proofs.Sweeping.{no_pin, arrived, stayed, on_its_way_not_at, one_frame}
 
-pub met_loaded : (v : ZoneState) (client : ℕ) (address : Address) (word : ℕ) → HaveMet v → HaveMet (loaded v client address word)
-met_loaded v client address word met page from to is = met page from to (record {
-  from = record { here = is.from.here; movable = is.from.movable; unmarked = is.from.unmarked; low = is.from.low; high = is.from.high };
-  lowest = λ q frame s. is.lowest q frame (record { here = s.here; movable = s.movable; unmarked = s.unmarked; low = s.low; high = s.high });
+-- records that leave pins as they are make no pair, nor do the words of blocks that are handed out
+pub met_same : (v : ZoneState) (records : List Record) (room : ℕ) (contents : map.FinMap nat_cmp (List ℕ)) → ((page : ℕ) → pins records page ≡ pins v.records page) → HaveMet v → HaveMet (record v { records = records; room = room; contents = contents })
+met_same v records room contents same met page from to is = met page from to (record {
+  from = record { here = is.from.here; movable = sym (still page) ∙ is.from.movable; unmarked = is.from.unmarked; low = is.from.low; high = is.from.high };
+  lowest = λ q frame s. is.lowest q frame (record { here = s.here; movable = still q ∙ s.movable; unmarked = s.unmarked; low = s.low; high = s.high });
   to = record { free = is.to.free; unmarked = is.to.unmarked; low = is.to.low; high = is.to.high };
   highest = λ frame t. is.highest frame (record { free = t.free; unmarked = t.unmarked; low = t.low; high = t.high });
-})
+}) where
+  still : (q : ℕ) → (nat_eq (pins records q) 0 && not (set.contains v.unmovable q)) ≡ (nat_eq (pins v.records q) 0 && not (set.contains v.unmovable q))
+  still q = ap (λ n. nat_eq n 0 && not (set.contains v.unmovable q)) (same q)
+
+pub met_loaded : (v : ZoneState) (client : ℕ) (address : Address) (word : ℕ) → HaveMet v → HaveMet (loaded v client address word)
+met_loaded v client address word = met_same v _ _ v.contents (λ page. refl)
 
 pub met_stored : (v : ZoneState) (client : ℕ) (address : Address) (word value : ℕ) → HaveMet v → HaveMet (stored v client address word value)
-met_stored v client address word value met page from to is = met page from to (record {
-  from = record { here = is.from.here; movable = is.from.movable; unmarked = is.from.unmarked; low = is.from.low; high = is.from.high };
-  lowest = λ q frame s. is.lowest q frame (record { here = s.here; movable = s.movable; unmarked = s.unmarked; low = s.low; high = s.high });
-  to = record { free = is.to.free; unmarked = is.to.unmarked; low = is.to.low; high = is.to.high };
-  highest = λ frame t. is.highest frame (record { free = t.free; unmarked = t.unmarked; low = t.low; high = t.high });
-})
+met_stored v client address word value = met_same v _ _ v.contents (λ page. refl)
 
 -- a page whose move ends leaves sources and targets as they were: both its frames are outside the fingers
 module _ (v : ZoneState) (page serial source target : ℕ) (law : IsValidZone v) (swept : IsSwept v) (at : map.get v.placement page ≡ Some (Moving serial source target)) where

@@ -1,7 +1,8 @@
 -- A round that begins calm is swept, and each call that leaves it quiet keeps it so.
-use Rattle.std.proofs.Common.{◌≡◌, ◌≢◌, ℕ, ◌+◌, ◌<◌, ◌≤◌, Bool, true, false, not, ◌∷◌, length, inl, inr, refl, sym, ap, ◌∙◌, arith, Some, nat_eq, ◌&&◌, ◌||◌}
+use Rattle.std.proofs.Common.{◌≡◌, ◌≢◌, ℕ, ◌+◌, ◌<◌, ◌≤◌, Bool, true, false, not, List, length, inl, inr, refl, sym, ap, ◌∙◌, arith, Some, nat_eq, ◌&&◌, ◌||◌}
 use Rattle.std.specs.FinMap as map
 use Rattle.std.specs.FinSet as set
+use Rattle.std.specs.Ordering.{nat_cmp}
 use Rattle.std.proofs.lemmas.Bool.{and_parts, eqb-true, false_from_ne_true, not-true, not-false}
 use Rattle.std.proofs.lemmas.Bool.Decides.{eqb_tells, leb_tells}
 use Rattle.frame_core.proofs.Searches.{some_none}
@@ -21,7 +22,7 @@ use Rattle.state_core.specs.Isolating.{isolated_next}
 use Rattle.state_core.specs.Valid.{IsValidZone}
 use Rattle.state_core.specs.Pairs.{IsPair, is_marked, can_move, holder, stays_if_some, is_stuck, is_calm}
 use Rattle.state_core.specs.Swept.{IsSwept}
-use Rattle.state_core.specs.ZoneState.{ZoneState, frame_count, is_free, is_held, noted}
+use Rattle.state_core.specs.ZoneState.{ZoneState, frame_count, is_free, is_held}
 use Rattle.state_core.proofs.Ending.{can_move_on, moved_others}
 use Rattle.state_core.proofs.Holding.{at_rest, at_takes, holder_at}
 use Rattle.state_core.proofs.Isolating.{can_isolate, isolated_others, isolated_target}
@@ -34,9 +35,7 @@ begun v start = record v { migrate = 0; free = frame_count v; round = Some start
 
 -- a frame of an unmarked pageblock that isn't stuck isn't handed out, and its page may be taken
 unstuck : (marked held stays : Bool) → marked ≡ false → (not marked && (held || stays)) ≡ false → (held ≡ false) × (stays ≡ false)
-unstuck true held stays e f = cc
-unstuck false true stays e f = cc
-unstuck false false stays e f = (refl, f)
+unstuck marked held stays e f = grind (arith, e, f)
 
 module _ (v : ZoneState) (law : IsValidZone v) (calm : is_calm v ≡ true) where
   halves : (nat_eq (length (out v.records)) 0 ≡ true) × (not (some_below (is_stuck v) (frame_count v)) ≡ true)
@@ -59,9 +58,9 @@ module _ (v : ZoneState) (law : IsValidZone v) (calm : is_calm v ≡ true) where
     ways = λ page serial source target at. absurd (at_rest v law none_out page serial source target at);
   }
 
--- a swept zone stays swept after one more record that leaves pins as they are
-swept_noted : (v : ZoneState) (entry : Record) → ((page : ℕ) → pins (entry ∷ v.records) page ≡ pins v.records page) → IsSwept v → IsSwept (noted v entry)
-swept_noted v entry same swept = record {
+-- a swept zone stays swept after records that leave pins as they are, and after words of a block that is handed out are written
+pub swept_same : (v : ZoneState) (records : List Record) (room : ℕ) (contents : map.FinMap nat_cmp (List ℕ)) → ((page : ℕ) → pins records page ≡ pins v.records page) → IsSwept v → IsSwept (record v { records = records; room = room; contents = contents })
+swept_same v records room contents same swept = record {
   below = swept.below;
   above = swept.above;
   unheld = swept.unheld;
@@ -70,14 +69,14 @@ swept_noted v entry same swept = record {
       let way = swept.ways page serial source target at in
       record { low = way.low; high = way.high; movable = still page ∙ way.movable };
 } where
-  still : (page : ℕ) → can_move (noted v entry) page ≡ can_move v page
+  still : (page : ℕ) → can_move (record v { records = records }) page ≡ can_move v page
   still page = ap (λ n. nat_eq n 0 && not (set.contains v.unmovable page)) (same page)
 
 pub swept_loaded : (v : ZoneState) (client : ℕ) (address : Address) (word : ℕ) → IsSwept v → IsSwept (loaded v client address word)
-swept_loaded v client address word swept = swept_noted v _ (λ page. refl) swept
+swept_loaded v client address word = swept_same v _ _ v.contents (λ page. refl)
 
 pub swept_stored : (v : ZoneState) (client : ℕ) (address : Address) (word value : ℕ) → IsSwept v → IsSwept (stored v client address word value)
-swept_stored v client address word value swept = swept_noted v _ (λ page. refl) swept
+swept_stored v client address word value = swept_same v _ _ v.contents (λ page. refl)
 
 -- the next pair is isolated
 

@@ -5,7 +5,7 @@ use Rattle.std.specs.FinMap as map
 use Rattle.std.specs.FinSet as set
 use Rattle.std.proofs.lemmas.Bool.{and_from, both_ways, cases_Bool, cond-true, cond-false, eq-eqb, ne_eqb}
 use Rattle.std.proofs.lemmas.Bool.Decides.{eqb_tells}
-use Rattle.frame_core.specs.Below.{one_if, count_below}
+use Rattle.frame_core.specs.Below.{one_if}
 use Rattle.frame_core.specs.declared.place.Address.{Address}
 use Rattle.frame_core.proofs.Maps.{maps_changed, maps_some}
 use Rattle.frame_core.specs.declared.record.Record.TheVariants.{Unmap}
@@ -14,12 +14,12 @@ use Rattle.frame_core.specs.Moves.{out}
 use Rattle.state_core.specs.declared.placement.Placement.TheVariants.{At}
 use Rattle.state_core.specs.Valid.{IsValidZone, is_under}
 use Rattle.state_core.specs.Unmapping.{is_last, without_page, unmapped}
-use Rattle.state_core.specs.ZoneState.{ZoneState, frame_count, is_free, noted}
+use Rattle.state_core.specs.ZoneState.{ZoneState, noted}
 use Rattle.state_core.proofs.Entries.{contains_remove_same, contains_remove_other}
 use Rattle.state_core.proofs.Facts.{not_none}
 use Rattle.state_core.proofs.Noted.{valid_noted}
 use Rattle.state_core.proofs.Quiet.{swept_ended}
-use Rattle.state_core.proofs.Places.{CanChangePlace, IsTold, with_place, where_is, ways_of, free_left, free_kept, free_count, page_count, valid_told}
+use Rattle.state_core.proofs.Places.{CanChangePlace, IsTold, with_place, where_is, ways_of, valid_told}
 
 -- what has to hold so that an address can be unmapped
 pub record CanUnmap (v : ZoneState) (address : Address) (page frame : ℕ) : Type 0 where
