@@ -5,17 +5,9 @@ use Rattle.std.specs.Option.{option_or}
 use Rattle.std.proofs.lemmas.Bool.{eq-eqb, ne_eqb}
 use Rattle.std.proofs.lemmas.Bool.Decides.{leb_tells}
 use Rattle.frame_core.specs.Below.{lowest, highest, one_if, count_below, count_from}
-use Rattle.frame_core.proofs.Searches.{count_from_more, count_from_most}
-
-below_suc : (k n : ℕ) → k < suc n → (k < n) ⊎ (k ≡ n)
-below_suc k n h = elim (leb_tells n k)
-    [ inl at ↦ let same : k ≡ n = omega (arith, at.1) in inr same | inr under ↦ inl under.1 ]
-
-taken : {A : Type 0} (b : Bool) (x y : A) → b ≡ true → (if b then x else y) ≡ x
-taken b x y e = ap (λ t. if t then x else y) e
-
-skipped : {A : Type 0} (b : Bool) (x y : A) → b ≡ false → (if b then x else y) ≡ y
-skipped b x y e = ap (λ t. if t then x else y) e
+pub use Rattle.frame_core.proofs.Searches.{count_most}
+use Rattle.std.proofs.lemmas.Bool.{cond-true as taken, cond-false as skipped}
+use Rattle.frame_core.proofs.Searches.{below_suc, count_from_more, count_from_most}
 
 -- the last number passes, or it doesn't and the rest is searched
 by_last : (n k : ℕ) (o : Option ℕ) (b : Bool) → (if b then Some n else o) ≡ Some k → ((b ≡ true) × (n ≡ k)) ⊎ ((b ≡ false) × (o ≡ Some k))
@@ -91,11 +83,3 @@ module _ (p : ℕ → Bool) where
       let more = count_from_more p (λ q. nat_eq q k || p q) first n k low high fails (ap (λ b. b || p k) (eq-eqb k k refl))
       (λ q ne. ap (λ b. b || p q) (ne_eqb q k ne)) in
       omega (arith, more, count_from_most (λ q. nat_eq q k || p q) first n)
-
-one_most : (b : Bool) → one_if b ≤ 1
-one_most true = omega arith
-one_most false = omega arith
-
-pub count_most : (p : ℕ → Bool) (n : ℕ) → count_below p n ≤ n
-count_most p zero = omega arith
-count_most p (suc n) = omega (arith, one_most (p n), count_most p n)

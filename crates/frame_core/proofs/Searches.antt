@@ -28,7 +28,7 @@ none_right None r e = e
 none_right (Some x) r e = cc
 
 -- a number below suc n is below n, or is n
-below_suc : (k n : ℕ) → k < suc n → (k < n) ⊎ (k ≡ n)
+pub below_suc : (k n : ℕ) → k < suc n → (k < n) ⊎ (k ≡ n)
 below_suc k n h = elim (leb_tells n k) [ inl at ↦ let same : k ≡ n = omega (arith, at.1) in inr same | inr under ↦ inl under.1 ]
 
 test_none : (b : Bool) (n : ℕ) → cond b (Some n) None ≡ None → b ≡ false

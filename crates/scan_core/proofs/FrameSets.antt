@@ -3,8 +3,8 @@ use Rattle.std.proofs.Common.{◌≡◌, ℕ, zero, suc, ◌+◌, ◌-◌, ◌*�
 use Rattle.std.specs.Prelude.{Some, None, nat_eq, nat_lt, slice_get, slice_set, if◌then◌else◌, ◌&&◌, ◌||◌}
 use Rattle.std.specs.FinSet as set
 use Rattle.std.specs.Ordering.{nat_cmp}
-use Rattle.std.proofs.lemmas.Bool.{ne_eqb, lt-ltb, le-ltb, ltb-true, eqb-true, true_from_ne_false}
-use Rattle.std.proofs.lemmas.Bool.Decides.{eqb_tells, leb_tells, nat_tests}
+use Rattle.std.proofs.lemmas.Bool.{lt-ltb, le-ltb, ltb-true, eqb-true, true_from_ne_false}
+use Rattle.std.proofs.lemmas.Bool.Decides.{leb_tells, nat_tests}
 use Rattle.std.proofs.lemmas.Option.{get_or_from_slice_get}
 use Rattle.frame_core.specs.Below.{count_below, count_from, lowest, one_if, some_below}
 use Rattle.frame_core.specs.Order.{is_aligned}

@@ -2,7 +2,7 @@
 use Rattle.std.proofs.Common.{◌≡◌, ℕ, zero, suc, ◌-◌, ◌*◌, ◌%◌, ◌^◌, ◌<◌, max, min, Bool, true, false, not, inl, inr, refl, sym, ap, ◌∙◌, List, length, replicate, slice_index, slice_set, eq-eqb, get_or-set_same, get_or-set_other, arith, w64}
 use Rattle.std.specs.Prelude.{nat_eq, nat_lt, ◌&&◌, ◌||◌, bit_and, bit_or, if◌then◌else◌}
 use Rattle.std.specs.Int.{bit_at, trailing_zeros}
-use Rattle.std.proofs.Math.Bool.{and-false, and_comm, or-false, or-true, or_comm}
+use Rattle.std.proofs.Math.Bool.{and_comm, or_comm}
 pub use Rattle.std.proofs.Math.Bool.{and-true as and_true}
 use Rattle.std.proofs.lemmas.Bool.{ne_eqb, ltb-false, ltb-true, lt-ltb}
 use Rattle.std.proofs.lemmas.Bool.Decides.{eqb_tells, leb_tells, nat_tests}
@@ -67,20 +67,12 @@ remove_if b x m e = grind (arith, e)
 -- the summary after the words of a mask lost their bits
 pub unmarked : (summary words bits i : ℕ) → words < 2 ^ 64 → i < 64 → bits ≡ 0 → has_bit (bit_and summary (2 ^ 64 - 1 - words)) i ≡ (if has_bit words i then nat_lt 0 bits else has_bit summary i)
 unmarked summary words bits i fits low none =
-    has_bit_and summary (2 ^ 64 - 1 - words) i ∙ ap (λ b. has_bit summary i && b) (has_bit_not words i fits low) ∙ lost (has_bit summary i) (has_bit words i)
-  where
-    lost : (s m : Bool) → (s && not m) ≡ (if m then nat_lt 0 bits else s)
-    lost s true = and-false s ∙ ap (nat_lt 0) (sym none)
-    lost s false = and_true s
+    has_bit_and summary (2 ^ 64 - 1 - words) i ∙ ap (λ b. has_bit summary i && b) (has_bit_not words i fits low) ∙ grind (arith, nat_tests, none)
 
 -- the summary after the words of a mask got bits
 pub marked : (summary words bits i : ℕ) → 0 < bits → has_bit (bit_or summary words) i ≡ (if has_bit words i then nat_lt 0 bits else has_bit summary i)
 marked summary words bits i some =
-    has_bit_or summary words i ∙ got (has_bit summary i) (has_bit words i)
-  where
-    got : (s m : Bool) → (s || m) ≡ (if m then nat_lt 0 bits else s)
-    got s true = or-true s ∙ sym (lt-ltb 0 bits some)
-    got s false = or-false s
+    has_bit_or summary words i ∙ grind (arith, nat_tests, some)
 
 -- a summary still agrees with its words after those of a mask got new bits
 pub summed : (words new : List ℕ) (summary now bits i : ℕ) (m : Bool) → has_bit summary i ≡ nat_lt 0 (slice_index words i) → slice_index new i ≡ (if m then bits else slice_index words i) → has_bit now i ≡ (if m then nat_lt 0 bits else has_bit summary i) → has_bit now i ≡ nat_lt 0 (slice_index new i)
