@@ -1,15 +1,11 @@
 -- Where no address is listed under a frame, no address names anything.
-use Rattle.std.proofs.Common.{◌≡◌, ℕ, zero, suc, List, length, replicate, refl, ap, sym, ◌∙◌}
+use Rattle.std.proofs.Common.{◌≡◌, ℕ, List, length, replicate, ap, sym, ◌∙◌}
 use Rattle.std.specs.Prelude.{Option, Some, None, slice_get, unwrap_or}
 use Rattle.std.proofs.lemmas.List.{length-replicate}
 use Rattle.table_core.specs.EntriesInside.{entry_by, entries_of, AreKept}
 use Rattle.table_core.specs.Tables.{place_of, IsBlank}
+use Rattle.table_core.proofs.Listing.{all_same}
 use Rattle.table_core.proofs.Writing.{seen}
-
-all_same : (n place : ℕ) (o : Option ℕ) → unwrap_or (slice_get (replicate n o) place) o ≡ o
-all_same zero place o = refl
-all_same (suc n) zero o = refl
-all_same (suc n) (suc place) o = all_same n place o
 
 pub blank : (n : ℕ) (serials frames : List (Option ℕ)) → frames ≡ replicate n None → IsBlank (entries_of serials frames)
 blank n serials frames e a =

@@ -1,8 +1,8 @@
 -- The lists of a zone's tables still agree with its entries after each change.
-use Rattle.std.proofs.Common.{◌≡◌, ◌≢◌, ℕ, zero, suc, ◌+◌, ◌*◌, ◌/◌, ◌%◌, ◌<◌, Bool, true, false, List, [], ◌∷◌, ◌++◌, length, take, drop, get_or, replicate, ◌⊎◌, inl, inr, refl, sym, ap, subst, ◌∙◌, arith}
-use Rattle.std.specs.Prelude.{Option, Some, nat_eq, slice_get, slice_set, unwrap_or}
+use Rattle.std.proofs.Common.{◌≡◌, ◌≢◌, ℕ, zero, suc, ◌+◌, ◌*◌, ◌/◌, ◌%◌, ◌<◌, true, false, List, [], ◌++◌, length, take, drop, get_or, replicate, ◌⊎◌, inl, inr, refl, sym, ap, subst, ◌∙◌, arith}
+use Rattle.std.specs.Prelude.{Option, Some, slice_get, slice_set, unwrap_or}
 use Rattle.std.specs.List.{SwappedAt}
-use Rattle.std.proofs.lemmas.Bool.{eq-eqb}
+use Rattle.std.proofs.lemmas.Bool.{eq-eqb, eqb-true, ne_eqb, both_ways, false_from_ne_true}
 use Rattle.std.proofs.lemmas.Bool.Decides.{eqb_tells, leb_tells}
 use Rattle.std.proofs.lemmas.List.{length-set, take_all, take-append-le}
 use Rattle.std.proofs.lemmas.Option.{slice_get_within, slice_get_past, slice_get-get_or}
@@ -66,24 +66,18 @@ same_entry (Migration s f) (Migration t g) = elim (eqb_tells s t) [
   | inr other ↦ inr (λ e. let at : s ≡ t = cc in other.1 at)
 ]
 
-pub listed_one : (e : Entry) (f g : ℕ) → is_listed e f ≡ true → is_listed e g ≡ true → f ≡ g
-listed_one Absent f g a b = cc
-listed_one (Present h) f g a b = elim (eqb_tells h f) [
-  | inl x ↦ elim (eqb_tells h g) [ inl y ↦ sym x.1 ∙ y.1 | inr y ↦ (let bad : false ≡ true = sym y.0 ∙ b in cc) ]
-  | inr x ↦ (let bad : false ≡ true = sym x.0 ∙ a in cc)
-]
-listed_one (Migration s h) f g a b = elim (eqb_tells h f) [
-  | inl x ↦ elim (eqb_tells h g) [ inl y ↦ sym x.1 ∙ y.1 | inr y ↦ (let bad : false ≡ true = sym y.0 ∙ b in cc) ]
-  | inr x ↦ (let bad : false ≡ true = sym x.0 ∙ a in cc)
-]
-
-pub clash : (b : Bool) → b ≡ true → b ≡ false → ⊥
-clash true e f = cc
-clash false e f = cc
-
-pub decide : (b : Bool) → (b ≡ true) ⊎ (b ≡ false)
-decide true = inl refl
-decide false = inr refl
+-- a list has the addresses of a frame where the same ones are listed under it that were listed under the frame of the list
+pub moved_list : (old new : List Entry) (f g : ℕ) (names : List Address) → IsListOf old f names → ((b : Address) → InRange b → is_listed (entry_at new b) g ≡ is_listed (entry_at old b) f) → IsListOf new g names
+moved_list old new f g names list same = record {
+  few = list.few;
+  just = record {
+    rising = list.just.rising;
+    each = λ b. (
+      λ h. (let was = (list.just.each b).0 h in (was.0, same b was.0 ∙ was.1)),
+      λ h. (list.just.each b).1 (h.0, sym (same b h.0) ∙ h.1),
+    );
+  };
+}
 
 -- one entry changed, and no other
 pub record Changes (old new : List Entry) (address : Address) (entry : Entry) : Type 0 where
@@ -107,32 +101,17 @@ changes_only old new address entry range change = record {
 -- what a change of one entry does to the list of a frame
 module _ (old new : List Entry) (address : Address) (entry : Entry) (range : InRange address) (change : Changes old new address entry) (frame : ℕ) (names : List Address) (list : IsListOf old frame names) where
   pub list_kept : is_listed (entry_at old address) frame ≡ false → is_listed entry frame ≡ false → IsListOf new frame names
-  list_kept before after = record {
-    few = list.few;
-    just = record {
-      rising = list.just.rising;
-      each = λ b. (
-        λ h. (let was = (list.just.each b).0 h in (
-          was.0,
-          elim (eqb_tells (place_of b) (place_of address)) [
-            | inl same ↦ absurd (clash _ was.1 (ap (λ a. is_listed (entry_at old a) frame) (same_address b address was.0 range same.1) ∙ before))
-            | inr other ↦ ap (λ e. is_listed e frame) (change.elsewhere b other.1) ∙ was.1
-          ],
-        )),
-        λ h. elim (eqb_tells (place_of b) (place_of address)) [
-          | inl same ↦ absurd (clash _ h.1 (ap (λ e. is_listed e frame) (change.here b same.1) ∙ after))
-          | inr other ↦ (list.just.each b).1 (h.0, sym (ap (λ e. is_listed e frame) (change.elsewhere b other.1)) ∙ h.1)
-        ],
-      );
-    };
-  }
+  list_kept before after = moved_list old new frame frame names list (λ b in_b. elim (eqb_tells (place_of b) (place_of address)) [
+    | inl same ↦ ap (λ e. is_listed e frame) (change.here b same.1) ∙ after ∙ sym (ap (λ a. is_listed (entry_at old a) frame) (same_address b address in_b range same.1) ∙ before)
+    | inr other ↦ ap (λ e. is_listed e frame) (change.elsewhere b other.1)
+  ])
 
   pub list_gains : is_listed (entry_at old address) frame ≡ false → is_listed entry frame ≡ true → length names < 4 → IsListOf new frame (inserted names address)
   list_gains before after room = record {
     few = omega (arith, length_inserted names address);
     just = record {
       rising = rising_inserted names address list.just.rising (λ b h at. (let was = (list.just.each b).0 h in
-          clash _ was.1 (ap (λ a. is_listed (entry_at old a) frame) (same_address b address was.0 range at) ∙ before)));
+          both_ways _ (ap (λ a. is_listed (entry_at old a) frame) (same_address b address was.0 range at) ∙ before) was.1));
       each = λ b. (
         λ h. elim (from_inserted names address b h) [
           | inl e ↦ (subst InRange e range, ap (λ e. is_listed e frame) (change.here b (sym (ap place_of e))) ∙ after)
@@ -162,76 +141,61 @@ module _ (old new : List Entry) (address : Address) (entry : Entry) (range : InR
             let was = (list.just.each b).0 k.0 in
             (was.0, ap (λ e. is_listed e frame) (change.elsewhere b k.1) ∙ was.1)),
         λ h. elim (eqb_tells (place_of b) (place_of address)) [
-          | inl same ↦ absurd (clash _ h.1 (ap (λ e. is_listed e frame) (change.here b same.1) ∙ after))
+          | inl same ↦ absurd (both_ways _ (ap (λ e. is_listed e frame) (change.here b same.1) ∙ after) h.1)
           | inr other ↦ to_without names address b ((list.just.each b).1 (h.0, sym (ap (λ e. is_listed e frame) (change.elsewhere b other.1)) ∙ h.1)) other.1
         ],
       );
     };
   }
 
--- one list of many is replaced
-module _ {X : Type 0} where
-  pub set_cases : (xs : List X) (i j : ℕ) (x y : X) → slice_get (slice_set xs i x) j ≡ Some y → ((j ≡ i) × (x ≡ y)) ⊎ ((j ≢ i) × (slice_get xs j ≡ Some y))
-  set_cases [] i j x y e = cc
-  set_cases (z ∷ xs) zero zero x y e = inl (refl, cc)
-  set_cases (z ∷ xs) zero (suc j) x y e = inr ((λ s. cc), e)
-  set_cases (z ∷ xs) (suc i) zero x y e = inr ((λ s. cc), e)
-  set_cases (z ∷ xs) (suc i) (suc j) x y e = elim (set_cases xs i j x y e) [
-    | inl same ↦ inl (ap suc same.0, same.1)
-    | inr other ↦ inr ((λ s. other.0 (omega arith)), other.1)
+-- one list is replaced as its entry changed, which is no migration entry then, and no other list is touched
+pub listed_changed : (old new : List Entry) (lists : List (List Address)) (address : Address) (entry : Entry) (frame : ℕ) (names changed : List Address) →
+    AreListed old lists → InRange address → length new ≡ 32768 → Changes old new address entry → ((serial s : ℕ) → entry ≢ Migration serial s) →
+    slice_get lists frame ≡ Some names → IsListOf new frame changed →
+    ((g : ℕ) → g ≢ frame → (is_listed (entry_at old address) g ≡ false) × (is_listed entry g ≡ false)) → AreListed new (slice_set lists frame changed)
+listed_changed old new lists address entry frame names changed listed range count change rests at list off = record {
+  count = count;
+  each = λ g xs e. elim (eqb_tells g frame) [
+    | inl here ↦ (let both : Some changed ≡ Some xs = sym (slice_get_set_same lists frame g changed here.1 inside) ∙ e in
+        let is : changed ≡ xs = cc in
+        subst (λ (f : ℕ). IsListOf new f xs) (sym here.1) (subst (IsListOf new frame) is list))
+    | inr other ↦ list_kept old new address entry range change g xs (listed.each g xs (sym (slice_get_set_other lists frame g changed other.1) ∙ e)) (off g other.1).0 (off g other.1).1
+  ];
+  within = λ b g e. elim (eqb_tells (place_of b) (place_of address)) [
+    | inl same ↦ elim (eqb_tells g frame) [
+      | inl is ↦ omega (arith, is.1, inside, length-set lists frame changed)
+      | inr ne ↦ absurd (both_ways _ (off g ne.1).1 (sym (ap (λ e. is_listed e g) (change.here b same.1)) ∙ e))
+    ]
+    | inr other ↦ omega (arith, listed.within b g (sym (ap (λ e. is_listed e g) (change.elsewhere b other.1)) ∙ e), length-set lists frame changed)
+  ];
+  one_source = λ a b serial s t p q x y. listed.one_source a b serial s t p q (was a serial s x) (was b serial t y);
+} where
+  inside : frame < length lists
+  inside = slice_get_within lists frame names at
+
+  was : (a : Address) (serial s : ℕ) → entry_at new a ≡ Migration serial s → entry_at old a ≡ Migration serial s
+  was a serial s x = elim (eqb_tells (place_of a) (place_of address)) [
+    | inl same ↦ absurd (rests serial s (sym (change.here a same.1) ∙ x))
+    | inr other ↦ sym (change.elsewhere a other.1) ∙ x
   ]
 
 -- an address is bound to a frame
 pub listed_set : (old new : List Entry) (lists : List (List Address)) (address : Address) (frame : ℕ) (names : List Address) →
     AreListed old lists → InRange address → length new ≡ 32768 → Changes old new address (Present frame) → entry_at old address ≡ Absent →
     slice_get lists frame ≡ Some names → length names < 4 → AreListed new (slice_set lists frame (inserted names address))
-listed_set old new lists address frame names listed range count change absent at room = record {
-  count = count;
-  each = λ g xs e. elim (set_cases lists frame g (inserted names address) xs e) [
-    | inl here ↦ subst (λ (f : ℕ). IsListOf new f xs) (sym here.0) (subst (IsListOf new frame) here.1
-        (list_gains old new address (Present frame) range change frame names (listed.each frame names at) (ap (λ e. is_listed e frame) absent) (eq-eqb frame frame refl) room))
-    | inr other ↦ list_kept old new address (Present frame) range change g xs (listed.each g xs other.1) (ap (λ e. is_listed e g) absent)
-        (elim (eqb_tells frame g) [ inl same ↦ absurd (other.0 (sym same.1)) | inr ne ↦ ne.0 ])
-  ];
-  within = λ b g e. elim (eqb_tells (place_of b) (place_of address)) [
-    | inl same ↦ (let here : nat_eq frame g ≡ true = sym (ap (λ e. is_listed e g) (change.here b same.1)) ∙ e in
-        elim (eqb_tells frame g) [
-          | inl is ↦ omega (arith, is.1, slice_get_within lists frame names at, length-set lists frame (inserted names address))
-          | inr ne ↦ absurd (clash _ here ne.0)
-        ])
-    | inr other ↦ omega (arith, listed.within b g (sym (ap (λ e. is_listed e g) (change.elsewhere b other.1)) ∙ e), length-set lists frame (inserted names address))
-  ];
-  one_source = λ a b serial s t p q x y. listed.one_source a b serial s t p q (was a serial s x) (was b serial t y);
-} where
-  was : (a : Address) (serial s : ℕ) → entry_at new a ≡ Migration serial s → entry_at old a ≡ Migration serial s
-  was a serial s x = elim (eqb_tells (place_of a) (place_of address)) [
-    | inl same ↦ (let bad : Present frame ≡ Migration serial s = sym (change.here a same.1) ∙ x in cc)
-    | inr other ↦ sym (change.elsewhere a other.1) ∙ x
-  ]
+listed_set old new lists address frame names listed range count change absent at room =
+    listed_changed old new lists address (Present frame) frame names (inserted names address) listed range count change (λ serial s e. cc) at
+    (list_gains old new address (Present frame) range change frame names (listed.each frame names at) (ap (λ e. is_listed e frame) absent) (eq-eqb frame frame refl) room)
+    (λ g ne. (ap (λ e. is_listed e g) absent, ne_eqb frame g (λ e. ne (sym e))))
 
 -- an address names nothing any more
 pub listed_clear : (old new : List Entry) (lists : List (List Address)) (address : Address) (frame : ℕ) (names : List Address) →
     AreListed old lists → InRange address → length new ≡ 32768 → Changes old new address Absent → entry_at old address ≡ Present frame →
     slice_get lists frame ≡ Some names → AreListed new (slice_set lists frame (without names address))
-listed_clear old new lists address frame names listed range count change present at = record {
-  count = count;
-  each = λ g xs e. elim (set_cases lists frame g (without names address) xs e) [
-    | inl here ↦ subst (λ (f : ℕ). IsListOf new f xs) (sym here.0) (subst (IsListOf new frame) here.1
-        (list_loses old new address Absent range change frame names (listed.each frame names at) refl))
-    | inr other ↦ list_kept old new address Absent range change g xs (listed.each g xs other.1)
-        (ap (λ e. is_listed e g) present ∙ elim (eqb_tells frame g) [ inl same ↦ absurd (other.0 (sym same.1)) | inr ne ↦ ne.0 ]) refl
-  ];
-  within = λ b g e. elim (eqb_tells (place_of b) (place_of address)) [
-    | inl same ↦ (let bad : false ≡ true = sym (ap (λ e. is_listed e g) (change.here b same.1)) ∙ e in cc)
-    | inr other ↦ omega (arith, listed.within b g (sym (ap (λ e. is_listed e g) (change.elsewhere b other.1)) ∙ e), length-set lists frame (without names address))
-  ];
-  one_source = λ a b serial s t p q x y. listed.one_source a b serial s t p q (was a serial s x) (was b serial t y);
-} where
-  was : (a : Address) (serial s : ℕ) → entry_at new a ≡ Migration serial s → entry_at old a ≡ Migration serial s
-  was a serial s x = elim (eqb_tells (place_of a) (place_of address)) [
-    | inl same ↦ (let bad : Absent ≡ Migration serial s = sym (change.here a same.1) ∙ x in cc)
-    | inr other ↦ sym (change.elsewhere a other.1) ∙ x
-  ]
+listed_clear old new lists address frame names listed range count change present at =
+    listed_changed old new lists address Absent frame names (without names address) listed range count change (λ serial s e. cc) at
+    (list_loses old new address Absent range change frame names (listed.each frame names at) refl)
+    (λ g ne. (ap (λ e. is_listed e g) present ∙ ne_eqb frame g (λ e. ne (sym e)), refl))
 
 -- an address that names something has the place of an address in range
 pub real : (entries : List Entry) (a : Address) → length entries ≡ 32768 → entry_at entries a ≢ Absent → (b : Address) × InRange b × (place_of b ≡ place_of a)
@@ -255,31 +219,11 @@ pub listed_moved : (old new : List Entry) (lists : List (List Address)) (frame s
     ((a : Address) (source : ℕ) → InRange a → entry_at old a ≢ Migration serial source) → AreListed new lists
 listed_moved old new lists frame serial listed count change fresh = record {
   count = count;
-  each = λ g names e. (let list = listed.each g names e in record {
-    few = list.few;
-    just = record {
-      rising = list.just.rising;
-      each = λ b. (
-        λ h. (let was = (list.just.each b).0 h in (was.0, same b g ∙ was.1)),
-        λ h. (list.just.each b).1 (h.0, sym (same b g) ∙ h.1),
-      );
-    };
-  });
+  each = λ g names e. moved_list old new g g names (listed.each g names e) (λ b range. same b g);
   within = λ b g e. listed.within b g (sym (same b g) ∙ e);
-  one_source = λ a b s f g p q x y. elim (same_entry (entry_at old a) (Present frame)) [
-    | inl one ↦ (let both : Migration serial frame ≡ Migration s f = sym (change.there a one) ∙ x in
-        let serial_is : serial ≡ s = cc in
-        let frame_is : frame ≡ f = cc in
-        elim (same_entry (entry_at old b) (Present frame)) [
-          | inl two ↦ (let too : Migration serial frame ≡ Migration s g = sym (change.there b two) ∙ y in let to : frame ≡ g = cc in sym frame_is ∙ to)
-          | inr two ↦ absurd (fresh b g q (sym (change.elsewhere b two) ∙ y ∙ ap (λ n. Migration n g) (sym serial_is)))
-        ])
-    | inr one ↦ elim (same_entry (entry_at old b) (Present frame)) [
-      | inl two ↦ (let too : Migration serial frame ≡ Migration s g = sym (change.there b two) ∙ y in
-          let serial_is : serial ≡ s = cc in
-          absurd (fresh a f p (sym (change.elsewhere a one) ∙ x ∙ ap (λ n. Migration n f) (sym serial_is))))
-      | inr two ↦ listed.one_source a b s f g p q (sym (change.elsewhere a one) ∙ x) (sym (change.elsewhere b two) ∙ y)
-    ]
+  one_source = λ a b s f g p q x y. elim (was a s f x) [
+    | inl one ↦ elim (was b s g y) [ inl two ↦ listed.one_source a b s f g p q one two | inr two ↦ absurd (fresh a f p (one ∙ ap (λ n. Migration n f) two.0)) ]
+    | inr one ↦ elim (was b s g y) [ inl two ↦ absurd (fresh b g q (two ∙ ap (λ n. Migration n g) one.0)) | inr two ↦ one.1 ∙ sym two.1 ]
   ];
 } where
   same : (b : Address) (g : ℕ) → is_listed (entry_at new b) g ≡ is_listed (entry_at old b) g
@@ -288,8 +232,11 @@ listed_moved old new lists frame serial listed count change fresh = record {
     | inr one ↦ ap (λ x. is_listed x g) (change.elsewhere b one)
   ]
 
-pub listed_at : (f g : ℕ) → nat_eq f g ≡ true → f ≡ g
-listed_at f g e = elim (eqb_tells f g) [ inl same ↦ same.1 | inr other ↦ absurd (clash _ e other.0) ]
+  was : (a : Address) (s f : ℕ) → entry_at new a ≡ Migration s f → (entry_at old a ≡ Migration s f) ⊎ ((s ≡ serial) × (f ≡ frame))
+  was a s f x = elim (same_entry (entry_at old a) (Present frame)) [
+    | inl one ↦ (let both : Migration serial frame ≡ Migration s f = sym (change.there a one) ∙ x in inr (cc, cc))
+    | inr one ↦ inl (sym (change.elsewhere a one) ∙ x)
+  ]
 
 -- two lists change places
 pub record Swapped (lists swapped : List (List Address)) (i j : ℕ) : Type 0 where
@@ -315,61 +262,27 @@ module _ (old new : List Entry) (lists swapped : List (List Address)) (serial so
     (left : (a : Address) → InRange a → is_listed (entry_at old a) source ≡ true → entry_at old a ≡ Migration serial source)
     (unnamed : frame ≢ source → (a : Address) → InRange a → is_listed (entry_at old a) frame ≡ false)
     (source_in : source < length lists) (frame_in : frame < length lists) where
-  here : (names : List Address) → slice_get lists source ≡ Some names → IsListOf new frame names
-  here names e = let list = listed.each source names e in record {
-    few = list.few;
-    just = record {
-      rising = list.just.rising;
-      each = λ b. (
-        λ h. (let was = (list.just.each b).0 h in
-            (was.0, ap (λ x. is_listed x frame) (change.there b (left b was.0 was.1)) ∙ eq-eqb frame frame refl)),
-        λ h. elim (same_entry (entry_at old b) (Migration serial source)) [
-          | inl one ↦ (list.just.each b).1 (h.0, ap (λ x. is_listed x source) one ∙ eq-eqb source source refl)
-          | inr one ↦ (let was : is_listed (entry_at old b) frame ≡ true = sym (ap (λ x. is_listed x frame) (change.elsewhere b one)) ∙ h.1 in
-              elim (eqb_tells frame source) [
-                | inl same ↦ (list.just.each b).1 (h.0, ap (is_listed (entry_at old b)) (sym same.1) ∙ was)
-                | inr other ↦ absurd (clash _ was (unnamed other.1 b h.0))
-              ])
-        ],
-      );
-    };
-  }
+  off : (b : Address) → InRange b → entry_at old b ≢ Migration serial source → is_listed (entry_at old b) source ≡ false
+  off b range ne = false_from_ne_true _ (λ e. ne (left b range e))
 
-  there : (names : List Address) → frame ≢ source → slice_get lists frame ≡ Some names → IsListOf new source names
-  there names ne e = let list = listed.each frame names e in record {
-    few = list.few;
-    just = record {
-      rising = list.just.rising;
-      each = λ b. (
-        λ h. (let was = (list.just.each b).0 h in absurd (clash _ was.1 (unnamed ne b was.0))),
-        λ h. absurd (elim (same_entry (entry_at old b) (Migration serial source)) [
-          | inl one ↦ ne (listed_at frame source (sym (ap (λ x. is_listed x source) (change.there b one)) ∙ h.1))
-          | inr one ↦ one (left b h.0 (sym (ap (λ x. is_listed x source) (change.elsewhere b one)) ∙ h.1))
-        ]),
-      );
-    };
-  }
+  here : (b : Address) → InRange b → is_listed (entry_at new b) frame ≡ is_listed (entry_at old b) source
+  here b range = elim (same_entry (entry_at old b) (Migration serial source)) [
+    | inl one ↦ ap (λ x. is_listed x frame) (change.there b one) ∙ eq-eqb frame frame refl ∙ sym (ap (λ x. is_listed x source) one ∙ eq-eqb source source refl)
+    | inr one ↦ ap (λ x. is_listed x frame) (change.elsewhere b one)
+        ∙ elim (eqb_tells frame source) [ inl same ↦ ap (is_listed (entry_at old b)) same.1 | inr other ↦ unnamed other.1 b range ∙ sym (off b range one) ]
+  ]
 
-  apart : (g : ℕ) (names : List Address) → g ≢ frame → g ≢ source → slice_get lists g ≡ Some names → IsListOf new g names
-  apart g names nf ns e = let list = listed.each g names e in record {
-    few = list.few;
-    just = record {
-      rising = list.just.rising;
-      each = λ b. (
-        λ h. (let was = (list.just.each b).0 h in (
-          was.0,
-          elim (same_entry (entry_at old b) (Migration serial source)) [
-            | inl one ↦ absurd (ns (sym (listed_at source g (sym (ap (λ x. is_listed x g) one) ∙ was.1))))
-            | inr one ↦ ap (λ x. is_listed x g) (change.elsewhere b one) ∙ was.1
-          ],
-        )),
-        λ h. elim (same_entry (entry_at old b) (Migration serial source)) [
-          | inl one ↦ absurd (nf (sym (listed_at frame g (sym (ap (λ x. is_listed x g) (change.there b one)) ∙ h.1))))
-          | inr one ↦ (list.just.each b).1 (h.0, sym (ap (λ x. is_listed x g) (change.elsewhere b one)) ∙ h.1)
-        ],
-      );
-    };
-  }
+  there : frame ≢ source → (b : Address) → InRange b → is_listed (entry_at new b) source ≡ is_listed (entry_at old b) frame
+  there ne b range = elim (same_entry (entry_at old b) (Migration serial source)) [
+    | inl one ↦ ap (λ x. is_listed x source) (change.there b one) ∙ ne_eqb frame source ne ∙ sym (unnamed ne b range)
+    | inr one ↦ ap (λ x. is_listed x source) (change.elsewhere b one) ∙ off b range one ∙ sym (unnamed ne b range)
+  ]
+
+  apart : (g : ℕ) → g ≢ frame → g ≢ source → (b : Address) → InRange b → is_listed (entry_at new b) g ≡ is_listed (entry_at old b) g
+  apart g nf ns b range = elim (same_entry (entry_at old b) (Migration serial source)) [
+    | inl one ↦ ap (λ x. is_listed x g) (change.there b one) ∙ ne_eqb frame g (λ e. nf (sym e)) ∙ sym (ap (λ x. is_listed x g) one ∙ ne_eqb source g (λ e. ns (sym e)))
+    | inr one ↦ ap (λ x. is_listed x g) (change.elsewhere b one)
+  ]
 
   was : (a : Address) (s f : ℕ) → entry_at new a ≡ Migration s f → entry_at old a ≡ Migration s f
   was a s f x = elim (same_entry (entry_at old a) (Migration serial source)) [
@@ -381,34 +294,36 @@ module _ (old new : List Entry) (lists swapped : List (List Address)) (serial so
   listed_ended = record {
     count = count;
     each = λ g names e. elim (eqb_tells g frame) [
-      | inl same ↦ subst (λ (f : ℕ). IsListOf new f names) (sym same.1) (here names (sym swap.second ∙ ap (slice_get swapped) (sym same.1) ∙ e))
-      | inr off ↦ elim (eqb_tells g source) [
-        | inl same ↦ subst (λ (f : ℕ). IsListOf new f names) (sym same.1) (there names (λ is. off.1 (same.1 ∙ sym is)) (sym swap.first ∙ ap (slice_get swapped) (sym same.1) ∙ e))
-        | inr other ↦ apart g names off.1 other.1 (sym (swap.others g other.1 off.1) ∙ e)
+      | inl same ↦ subst (λ (f : ℕ). IsListOf new f names) (sym same.1) (moved_list old new source frame names (listed.each source names (sym swap.second ∙ ap (slice_get swapped) (sym same.1) ∙ e)) here)
+      | inr ne ↦ elim (eqb_tells g source) [
+        | inl same ↦ subst (λ (f : ℕ). IsListOf new f names) (sym same.1) (moved_list old new frame source names (listed.each frame names (sym swap.first ∙ ap (slice_get swapped) (sym same.1) ∙ e)) (there (λ is. ne.1 (same.1 ∙ sym is))))
+        | inr other ↦ moved_list old new g g names (listed.each g names (sym (swap.others g other.1 ne.1) ∙ e)) (apart g ne.1 other.1)
       ]
     ];
     within = λ b g e. elim (same_entry (entry_at old b) (Migration serial source)) [
-      | inl one ↦ (let at : frame ≡ g = listed_at frame g (sym (ap (λ x. is_listed x g) (change.there b one)) ∙ e) in omega (arith, swap.count))
+      | inl one ↦ (let at : frame ≡ g = eqb-true frame g (sym (ap (λ x. is_listed x g) (change.there b one)) ∙ e) in omega (arith, swap.count))
       | inr one ↦ omega (arith, listed.within b g (sym (ap (λ x. is_listed x g) (change.elsewhere b one)) ∙ e), swap.count)
     ];
     one_source = λ a b s f g p q x y. listed.one_source a b s f g p q (was a s f x) (was b s g y);
   }
 
+-- a list of copies has nothing else at any index
+pub all_same : {X : Type 0} (n place : ℕ) (x : X) → unwrap_or (slice_get (replicate n x) place) x ≡ x
+all_same zero place x = refl
+all_same (suc n) zero x = refl
+all_same (suc n) (suc place) x = all_same n place x
+
 -- no address names anything
 pub listed_none : (entries : List Entry) (n : ℕ) → length entries ≡ 32768 → IsBlank entries → AreListed entries (replicate n [])
 listed_none entries n count blank = record {
   count = count;
-  each = λ frame names e. subst (IsListOf entries frame) (none_at n frame names e) (record {
+  each = λ frame names e. subst (IsListOf entries frame) (sym (all_same n frame []) ∙ ap (λ (o : Option (List Address)). unwrap_or o []) e) (record {
     few = omega arith;
     just = record { rising = tt; each = λ b. (λ h. absurd h, λ h. (let bad : false ≡ true = sym (ap (λ x. is_listed x frame) (blank b)) ∙ h.1 in cc)) };
   });
   within = λ b frame e. (let bad : false ≡ true = sym (ap (λ x. is_listed x frame) (blank b)) ∙ e in cc);
   one_source = λ a b serial s t p q x y. (let bad : Absent ≡ Migration serial s = sym (blank a) ∙ x in cc);
-} where
-  none_at : (n frame : ℕ) (names : List Address) → slice_get (replicate n []) frame ≡ Some names → [] ≡ names
-  none_at zero frame names e = cc
-  none_at (suc n) zero names e = cc
-  none_at (suc n) (suc frame) names e = none_at n frame names e
+}
 
 -- the addresses of a frame's list that have an entry are all that have it
 pub just_those : (entries : List Entry) (frame : ℕ) (names found : List Address) (entry : Entry) → IsListOf entries frame names → is_listed entry frame ≡ true → IsRising found →

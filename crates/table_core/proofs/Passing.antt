@@ -1,5 +1,5 @@
 -- One more step of a walk over a list of addresses.
-use Rattle.std.proofs.Common.{◌≡◌, ◌≢◌, ℕ, zero, suc, ◌+◌, ◌<◌, ◌≤◌, List, [], ◌∷◌, ◌++◌, length, drop, ◌⊎◌, inl, inr, refl, sym, ap, subst, ◌∙◌, arith}
+use Rattle.std.proofs.Common.{◌≡◌, ◌≢◌, ℕ, zero, suc, ◌+◌, ◌<◌, ◌≤◌, List, [], ◌∷◌, ◌++◌, length, ◌⊎◌, inl, inr, refl, sym, ap, subst, ◌∙◌, arith}
 use Rattle.std.specs.Prelude.{Option, Some, slice_get, slice_set}
 use Rattle.std.proofs.lemmas.Bool.Decides.{eqb_tells, leb_tells}
 use Rattle.frame_core.proofs.Lists.{slice_get_set_same, slice_get_set_other}
@@ -8,11 +8,6 @@ use Rattle.table_core.specs.declared.entry.Entry.{Entry}
 use Rattle.table_core.specs.Names.{IsIn, IsRising}
 use Rattle.table_core.specs.Tables.{place_of, entry_at}
 use Rattle.table_core.proofs.Rising.{from_pushed, to_pushed, rising_pushed}
-
-pub drop_at : {X : Type 0} (xs : List X) (i : ℕ) (x : X) → slice_get xs i ≡ Some x → drop i xs ≡ x ∷ drop (suc i) xs
-drop_at [] i x e = cc
-drop_at (y ∷ ys) zero x e = let same : y ≡ x = cc in λ i. same i ∷ ys
-drop_at (y ∷ ys) (suc i) x e = drop_at ys i x e
 
 pub some_index : (names : List Address) (a : Address) → IsIn names a → (k : ℕ) × (k < length names) × (slice_get names k ≡ Some a)
 some_index [] a h = absurd h

@@ -98,13 +98,6 @@ none_by_serial entries serial none = record { rising = tt; each = λ a. (λ h. a
 abbrev pub NoneBefore : List Entry → ℕ → ℕ → Type 0
 NoneBefore entries serial place = (a : Address) (source : ℕ) → place_of a < place → entry_at entries a ≢ Migration serial source
 
-pub none_on : (entries : List Entry) (serial place : ℕ) (read : Entry) → NoneBefore entries serial place → slice_get entries place ≡ Some read →
-    ((source : ℕ) → read ≢ Migration serial source) → NoneBefore entries serial (place + 1)
-none_on entries serial place read none at isnt a source low e = elim (eqb_tells place (place_of a)) [
-  | inl same ↦ isnt source (ap (λ (o : Option Entry). unwrap_or o Absent) (sym at ∙ ap (slice_get entries) same.1) ∙ e)
-  | inr other ↦ none a source (omega (arith, other.1)) e
-]
-
 pub none_at_all : (entries : List Entry) (serial place : ℕ) → NoneBefore entries serial place → 32768 ≤ place →
     (a : Address) (source : ℕ) → InRange a → entry_at entries a ≢ Migration serial source
 none_at_all entries serial place none end a source range = none a source (omega (arith, range.space, range.vpage))

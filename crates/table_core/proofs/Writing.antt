@@ -1,7 +1,7 @@
 -- Writes into the frames of addresses and the serials of frames, as changes of the entries.
 use Rattle.std.proofs.Common.{◌≡◌, ◌≢◌, ℕ, suc, ◌<◌, true, false, List, [], ◌∷◌, length, ◌⊎◌, inl, inr, refl, sym, ap, ◌∙◌, arith}
 use Rattle.std.specs.Prelude.{Option, Some, None, ◌↔◌, option_map, slice_get, slice_set, unwrap_or}
-use Rattle.std.proofs.lemmas.Bool.{eq-eqb}
+use Rattle.std.proofs.lemmas.Bool.{eq-eqb, both_ways}
 use Rattle.std.proofs.lemmas.Bool.Decides.{eqb_tells}
 use Rattle.std.proofs.lemmas.List.{map-set, length-map, length-set}
 use Rattle.std.proofs.lemmas.Option.{slice_get-map}
@@ -13,7 +13,7 @@ use Rattle.table_core.specs.EntriesInside.{serial_at, entry_under, entry_by, ent
 use Rattle.frame_core.specs.Address.{InRange}
 use Rattle.table_core.specs.Names.{IsIn}
 use Rattle.table_core.specs.Tables.{place_of, entry_at, is_listed, Replaces}
-use Rattle.table_core.proofs.Listing.{address_at, clash, place_at, real, set_cases}
+use Rattle.table_core.proofs.Listing.{address_at, place_at, real}
 
 -- the frame under which an address is listed
 abbrev pub frame_at : List (Option ℕ) → Address → Option ℕ
@@ -48,10 +48,6 @@ same_entries serials more (Some frame ∷ rest) same =
 resting : (g frame : ℕ) (o : Option ℕ) → entry_under g o ≡ Present frame → (g ≡ frame) × (o ≡ None)
 resting g frame None e = (let at : g ≡ frame = cc in at, refl)
 resting g frame (Some serial) e = cc
-
-moving : (g serial frame : ℕ) (o : Option ℕ) → entry_under g o ≡ Migration serial frame → (g ≡ frame) × (o ≡ Some serial)
-moving g serial frame None e = cc
-moving g serial frame (Some s) e = (let at : g ≡ frame = cc in at, let same : s ≡ serial = cc in ap Some same)
 
 pub under : (frame : ℕ) (o : Option ℕ) → is_listed (entry_under frame o) frame ≡ true
 under frame None = eq-eqb frame frame refl
@@ -139,8 +135,7 @@ module _ (serials frames new : List (Option ℕ)) (names : List Address) (serial
   away a ne g at = elim (eqb_tells g source) [
     | inl same ↦ absurd (ne (left a (ap (is_listed (entry_at old a)) (sym same.1) ∙ listed_in a g at)))
     | inr off ↦ elim (eqb_tells g frame) [
-      | inl same ↦ absurd (clash _ (listed_in a g at)
-          (ap (is_listed (entry_at old a)) same.1 ∙ unnamed (λ e. off.1 (same.1 ∙ e)) a))
+      | inl same ↦ absurd (both_ways _ (ap (is_listed (entry_at old a)) same.1 ∙ unnamed (λ e. off.1 (same.1 ∙ e)) a) (listed_in a g at))
       | inr other ↦ not_written (slice_set serials source None) frame g None other.1 ∙ not_written serials source g None off.1
     ]
   ]
@@ -172,16 +167,6 @@ named_at (x ∷ xs) place = elim (eqb_tells (place_of x) place) [
 ]
 
 -- each address stays listed under a frame of the zone
-pub kept_set : (serials frames : List (Option ℕ)) (place frame : ℕ) (serial : Option ℕ) → AreKept serials frames → frame < length serials →
-    AreKept (slice_set serials frame serial) (slice_set frames place (Some frame))
-kept_set serials frames place frame serial kept within = record {
-  count = length-set frames place (Some frame) ∙ kept.count;
-  within = λ p g e. elim (set_cases frames place p (Some frame) (Some g) e) [
-    | inl here ↦ (let same : frame ≡ g = (let is = here.1 in cc) in omega (arith, length-set serials frame serial))
-    | inr other ↦ omega (arith, kept.within p g other.1, length-set serials frame serial)
-  ];
-}
-
 pub kept_come : (serials more frames new : List (Option ℕ)) (names : List Address) (frame : ℕ) → AreKept serials frames → length more ≡ length serials → length new ≡ 32768 →
     frame < length serials → ((a : Address) → IsIn names a → slice_get new (place_of a) ≡ Some (Some frame)) →
     ((place : ℕ) → ((a : Address) → IsIn names a → place_of a ≢ place) → slice_get new place ≡ slice_get frames place) → AreKept more new

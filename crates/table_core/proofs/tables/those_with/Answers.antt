@@ -1,12 +1,11 @@
-use Rattle.std.proofs.Common.{◌≡◌, ◌≢◌, ℕ, suc, ◌+◌, List, ◌∷◌, length, drop, sym, ap, subst, ◌∙◌, arith, rules}
-use Rattle.std.specs.Prelude.{Some}
+use Rattle.std.proofs.Common.{◌≡◌, ◌≢◌, suc, ◌+◌, List, ◌∷◌, length, drop, sym, ap, subst, ◌∙◌, arith, rules}
 use Rattle.arrayvec.specs.ArrayVec.{ArrayVec}
 use Rattle.std.proofs.lemmas.List.{drop_all}
-use Rattle.std.proofs.lemmas.Option.{slice_get-get_or}
+use Rattle.std.proofs.Math.Seq.{drop-cons}
 use Rattle.frame_core.specs.declared.place.Address.{Address}
 use Rattle.table_core.specs.Tables.{entry_at}
 use Rattle.table_core.proofs.Listing.{entry_got}
-use Rattle.table_core.proofs.Passing.{Found, drop_at, find_none, find_more, find_same, find_all}
+use Rattle.table_core.proofs.Passing.{Found, find_none, find_more, find_same, find_all}
 use Rattle.table_core.proofs.tables.those_with.Goals as goal
 use Rattle.table_core.proofs.tables.those_with.Goals.{Joined-eq, then-eq, else-eq}
 
@@ -19,9 +18,8 @@ loop-name-init c = record {
 
 next : (c : Joined-eq) → drop c.loop-name.name-index c.args.names.now ≡ c.name-item.result ∷ drop (c.loop-name.name-index + 1) c.args.names.now
 next c =
-    drop_at c.args.names.now c.loop-name.name-index c.name-item.result
-    (slice_get-get_or c.args.names.now c.loop-name.name-index c.name-item.result c.loop-name-test.true ∙ ap Some (sym c.name-item.is))
-    ∙ ap (λ (n : ℕ). c.name-item.result ∷ drop n c.args.names.now) (let more : suc c.loop-name.name-index ≡ c.loop-name.name-index + 1 = omega arith in more)
+    let more : suc c.loop-name.name-index ≡ c.loop-name.name-index + 1 = omega arith in
+    drop-cons c.args.names.now c.loop-name.name-index c.name-item.result c.loop-name-test.true ∙ (λ i. sym c.name-item.is i ∷ drop (more i) c.args.names.now)
 
 entry_is : (c : Joined-eq) → entry_at c.args.entries.now.entries c.name-item.result ≡ c.get.result
 entry_is c = entry_got c.args.entries.now.entries c.name-item.result c.index_of.result c.get.result c.index_of.ensures.place c.get.ensures
