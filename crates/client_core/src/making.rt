@@ -46,7 +46,7 @@ pub(crate) fn retry_while_moving<K: Keeping, I: Ledger, M: Ledger, B: Ledger, R:
     let mut room = shared.lock(rt);
     for _ in rt.forever() {
         match make_kept(&mut room, slip, client, call) {
-            Err(ZoneError::Moving) => room = shared.wait_for_end(rt, room),
+            Err(ZoneError::Moving) => room = room.wait_for_end(rt),
             made => return made,
         }
     }

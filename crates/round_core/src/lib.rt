@@ -28,4 +28,4 @@ pub use gate::{Gate, NoGate, Point};
 pub use identity::ZoneIdentity;
 pub use keeping::{Keeping, Open};
 pub use round::{Round, Stop};
-pub use shared_zone::{KeptZone, Room, SharedZone};
+pub use shared_zone::{KeptZone, Room, SharedZone, ZoneGuard};

@@ -8,17 +8,18 @@ use hand_core::Stub;
 use hand_core::patience::{TRIES, pause};
 use std::collections::VecDeque;
 use std::marker::{Model, PhantomData};
+use std::ops::{Deref, DerefMut};
 use std::sync::ledger::Ledger;
 use std::sync::{Condvar, Mutex, MutexGuard, Wait};
 use zone_core::{EndSeat, ScanSeat, Zone};
 
-/// What is under the lock: a zone, the stub of its client's receipts where they are kept, and whether a thread waits for the end of a
-/// move in the zone.
+/// What is under the lock: a zone, and the stub of its client's receipts where they are kept. Where threads wait for the end of a move,
+/// it has how many had ended when the first of them began to wait.
 #[derive(Drop)]
 pub struct Room<K: Keeping, I: Ledger, M: Ledger, B: Ledger> {
     pub zone: Zone<I, M, B>,
     pub stub: Option<Stub>,
-    is_awaited: bool,
+    ended_before: Option<u32>,
     of: PhantomData<K>,
 }
 
@@ -51,6 +52,68 @@ impl<K: Keeping, I: Ledger, M: Ledger, B: Ledger> Room<K, I, M, B> {
         ensures keeps { K.keeps self.now }
     {
         &self.zone
+    }
+
+    /// Wakes the threads that wait for the end of a move, if one has ended since they began to.
+    fn tell_ended(&mut self, ended: &Condvar)
+        ensures { self.new ≡ self.old }
+    {
+        if let Some(before) = self.ended_before
+            && before != self.zone.ended()
+        {
+            self.ended_before = None;
+            ended.notify_all();
+        }
+    }
+
+    /// Notes that a thread waits for the end of a move.
+    fn await_end(&mut self)
+        ensures { self.new ≡ self.old }
+    {
+        if self.ended_before.is_none() {
+            self.ended_before = Some(self.zone.ended());
+        }
+    }
+}
+
+/// The lock of a zone, as long as it is held, and the zone under it. Whoever waits for the end of a move is woken when a lock is given
+/// back under which one has ended.
+pub struct ZoneGuard<'a, K: Keeping, I: Ledger, M: Ledger, B: Ledger> {
+    room: MutexGuard<'a, Room<K, I, M, B>>,
+    ended: &'a Condvar,
+}
+
+impl<K: Keeping, I: Ledger, M: Ledger, B: Ledger> Deref for ZoneGuard<'_, K, I, M, B> {
+    type Target = Room<K, I, M, B>;
+
+    fn deref(&self) -> &Room<K, I, M, B> {
+        &self.room
+    }
+}
+
+impl<K: Keeping, I: Ledger, M: Ledger, B: Ledger> DerefMut for ZoneGuard<'_, K, I, M, B> {
+    fn deref_mut(&mut self) -> &mut Room<K, I, M, B> {
+        &mut self.room
+    }
+}
+
+impl<K: Keeping, I: Ledger, M: Ledger, B: Ledger> Drop for ZoneGuard<'_, K, I, M, B> {
+    fn drop(self) {
+        let ZoneGuard { mut room, ended } = self;
+        room.tell_ended(ended);
+    }
+}
+
+impl<K: Keeping, I: Ledger, M: Ledger, B: Ledger> ZoneGuard<'_, K, I, M, B> {
+    /// Waits, without the lock, until a move has ended. It may return earlier, so the caller has to look again.
+    pub fn wait_for_end<R: Wait>(self, rt: &R) -> Self {
+        let ZoneGuard { mut room, ended } = self;
+        room.tell_ended(ended);
+        room.await_end();
+        ZoneGuard {
+            room: ended.wait(rt, room),
+            ended,
+        }
     }
 }
 
@@ -96,7 +159,7 @@ impl<K: Keeping, I: Ledger, M: Ledger, B: Ledger> KeptZone<K, I, M, B> {
         let room = Room {
             zone,
             stub,
-            is_awaited: false,
+            ended_before: None,
             of: PhantomData,
         };
         KeptZone {
@@ -135,9 +198,16 @@ impl<K: Keeping, I: Ledger, M: Ledger, B: Ledger> KeptZone<K, I, M, B> {
         self.blocks
     }
 
-    /// Waits for the lock, and lends the zone as long as the guard lives. It tries for a while before it sleeps. What is known
-    /// of the zone is what `Room::zone` says. A thread that ends a move through the guard calls `tell_ended`.
-    pub fn lock<R: Wait>(&self, rt: &R) -> MutexGuard<'_, Room<K, I, M, B>> {
+    /// Waits for the lock, and lends the zone as long as the guard lives. What is known of the zone is what `Room::zone` says.
+    pub fn lock<R: Wait>(&self, rt: &R) -> ZoneGuard<'_, K, I, M, B> {
+        ZoneGuard {
+            room: self.lock_room(rt),
+            ended: &self.ended,
+        }
+    }
+
+    /// Waits for the lock. It tries for a while before it sleeps.
+    fn lock_room<R: Wait>(&self, rt: &R) -> MutexGuard<'_, Room<K, I, M, B>> {
         for tries in 0..TRIES {
             if let Some(room) = self.room.try_lock() {
                 return room;
@@ -145,26 +215,6 @@ impl<K: Keeping, I: Ledger, M: Ledger, B: Ledger> KeptZone<K, I, M, B> {
             pause(tries);
         }
         self.room.lock(rt)
-    }
-
-    /// Waits, without the lock, until a move has ended. It may return earlier, so the caller has to look again.
-    pub fn wait_for_end<'a, R: Wait>(
-        &self,
-        rt: &R,
-        mut room: MutexGuard<'a, Room<K, I, M, B>>,
-    ) -> MutexGuard<'a, Room<K, I, M, B>> {
-        room.is_awaited = true;
-        self.ended.wait(rt, room)
-    }
-
-    /// Wakes the threads that wait for the end of a move, if there are any.
-    pub fn tell_ended(&self, room: &mut Room<K, I, M, B>)
-        ensures { room.new ≡ room.old }
-    {
-        if room.is_awaited {
-            room.is_awaited = false;
-            self.ended.notify_all();
-        }
     }
 
     /// Begins a round, and isolates pages into the empty list, in their order, until the list is full. Where it stops before, the
@@ -187,8 +237,9 @@ impl<K: Keeping, I: Ledger, M: Ledger, B: Ledger> KeptZone<K, I, M, B> {
         ensures room { deque_capacity pages.new ≡ deque_capacity pages.old }
     {
         let mut room = self.lock(rt);
-        room.zone.begin_round(seat);
-        isolate_pages::<K, I, N, M, B>(&mut room.zone, seat, pages)
+        let zone = &mut room.zone;
+        zone.begin_round(seat);
+        isolate_pages::<K, I, N, M, B>(zone, seat, pages)
     }
 
     /// Isolates pages into the empty list, in their order, until the list is full. Where it stops before, the answer says why.
@@ -210,12 +261,13 @@ impl<K: Keeping, I: Ledger, M: Ledger, B: Ledger> KeptZone<K, I, M, B> {
         ensures room { deque_capacity pages.new ≡ deque_capacity pages.old }
     {
         let mut room = self.lock(rt);
-        room.zone.show_count(seat);
-        isolate_pages::<K, I, N, M, B>(&mut room.zone, seat, pages)
+        let zone = &mut room.zone;
+        zone.show_count(seat);
+        isolate_pages::<K, I, N, M, B>(zone, seat, pages)
     }
 
-    /// Ends the moves of pages with their copies, and wakes the threads that wait for the end of a move. The answer is the
-    /// least serial of those that were refused now or before, if there is one.
+    /// Ends the moves of pages with their copies. The answer is the least serial of those that were refused now or before, if there is
+    /// one.
     pub(crate) fn commit_copies<R: Wait>(
         &self,
         rt: &R,
@@ -228,13 +280,11 @@ impl<K: Keeping, I: Ledger, M: Ledger, B: Ledger> KeptZone<K, I, M, B> {
         ensures back { K.unpinned → seat.new.back ≡ seat.old.back }
     {
         let mut room = self.lock(rt);
-        let stranger = commit_copies::<K, I, M, B>(&mut room.zone, seat, copies, stranger);
-        self.tell_ended(&mut room);
-        stranger
+        commit_copies::<K, I, M, B>(&mut room.zone, seat, copies, stranger)
     }
 
-    /// Ends the moves of pages that weren't copied, in their order, and wakes the threads that wait for the end of a move. The answer
-    /// is the least serial of those that were refused, if there is one.
+    /// Ends the moves of pages that weren't copied, in their order. The answer is the least serial of those that were refused, if there
+    /// is one.
     pub(crate) fn put_back_pages<R: Wait>(
         &self,
         rt: &R,
@@ -247,8 +297,6 @@ impl<K: Keeping, I: Ledger, M: Ledger, B: Ledger> KeptZone<K, I, M, B> {
         ensures back { result ≡ None → seat.new.back ≡ seat.old.back + length pages.old.items }
     {
         let mut room = self.lock(rt);
-        let stranger = put_back_pages::<K, I, M, B>(&mut room.zone, seat, pages);
-        self.tell_ended(&mut room);
-        stranger
+        put_back_pages::<K, I, M, B>(&mut room.zone, seat, pages)
     }
 }

@@ -2,7 +2,7 @@
 
 ghost use Rattle.std.specs.Prelude.{◌≡◌, ◌+◌, ◌≤◌, ◌↔◌, true, false, length, Some, IsOk, IfOk, IfErr, OnOk, OnErr};
 ghost use Rattle.state_core.specs.Valid.{IsValidZone};
-ghost use Rattle.frame_core.specs.Moves.{isolated, out};
+ghost use Rattle.frame_core.specs.Moves.{isolated, moved, out, put_back};
 ghost use Rattle.state_core.specs.Rounds.{round_begun};
 ghost use Rattle.state_core.specs.Isolating.{isolate_refusal, next_answer, next_state, Scans};
 ghost use Rattle.state_core.specs.Ending.{is_own, IsOwnCopy, Ends, ended_as, committed, put_back_to_source};
@@ -132,6 +132,13 @@ impl<const W: usize, I: Ledger, M: Ledger, B: Ledger> Zone<W, I, M, B> {
         self.bare.put_back(isolated)?;
         seat.count_back(&mut self.back);
         Ok(())
+    }
+
+    /// How many moves have ended: those of pages that were moved, and those of pages that were put back.
+    pub fn ended(&self) -> u32
+        ensures { result ≡ moved self.now.records + put_back self.now.records }
+    {
+        self.bare.ended()
     }
 
     /// The counts of pages isolated, moved and put back, which are those of the two seats.

@@ -126,6 +126,13 @@ impl<const W: usize> ZoneTables<W> {
         self.history.quiet()
     }
 
+    /// How many moves have ended: those of pages that were moved, and those of pages that were put back.
+    pub fn ended(&self) -> u32
+        ensures { result ≡ moved self.now.records + put_back self.now.records }
+    {
+        self.moves.ended()
+    }
+
     /// The counts of pages isolated, moved and put back, where no page is moving.
     pub fn counted(&self) -> Option<Audit>
         ensures some { IsSome result ↔ (length (out self.now.records) ≡ 0) }

@@ -60,6 +60,13 @@ impl Moves {
         self.out
     }
 
+    /// How many moves have ended.
+    pub fn ended(&self) -> u32
+        ensures { result ≡ self.now.moved + self.now.back }
+    {
+        self.isolated - self.out
+    }
+
     /// The page that was isolated from a frame last, or page 0 where none was.
     pub fn page_from(&self, source: FrameNo) -> PageNo
         requires { source < length self.now.pages }

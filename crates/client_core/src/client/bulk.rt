@@ -250,7 +250,7 @@ fn all_once_there<C: Bulk, T: Receipts, K: Keeping, I: Ledger, M: Ledger, B: Led
     let mut room = shared.lock(rt);
     for _ in rt.forever() {
         match make_all::<C, T, K, I, M, B>(call, &mut room, words, slip, receipts) {
-            Err(ZoneError::Moving) => room = shared.wait_for_end(rt, room),
+            Err(ZoneError::Moving) => room = room.wait_for_end(rt),
             answer => return answer,
         }
     }

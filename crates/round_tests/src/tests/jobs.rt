@@ -36,7 +36,7 @@ fn wait_by_hand<K: ZoneIdentity, I: Ledger, M: Ledger, B: Ledger, R: Wait>(
         if room.zone().info().moving == 0 {
             return;
         }
-        room = shared.wait_for_end(rt, room);
+        room = room.wait_for_end(rt);
     }
     unreachable!()
 }

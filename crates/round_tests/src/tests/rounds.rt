@@ -58,7 +58,6 @@ impl<
     fn put_back<R: Wait + Abort>(&mut self, rt: &R, page: Isolated) {
         let mut room = self.shared.lock(rt);
         let ended = room.zone.put_back(&mut self.seats.ends, page);
-        self.shared.tell_ended(&mut room);
         assert!(rt; ended.is_ok());
     }
 

@@ -1,8 +1,8 @@
 //! The steps of rounds: pages are isolated, and their moves end.
 
-ghost use Rattle.std.specs.Prelude.{◌≡◌, ◌↔◌, true, false, length, nat_lt, Some, None, if◌then◌else◌, IsOk, IfOk, IfErr, OnOk, OnErr};
+ghost use Rattle.std.specs.Prelude.{◌≡◌, ◌+◌, ◌↔◌, true, false, length, nat_lt, Some, None, if◌then◌else◌, IsOk, IfOk, IfErr, OnOk, OnErr};
 ghost use Rattle.std.specs.Result.{result_err};
-ghost use Rattle.frame_core.specs.Moves.{out};
+ghost use Rattle.frame_core.specs.Moves.{moved, out, put_back};
 ghost use Rattle.state_core.specs.Ending.{is_own, IsOwnCopy, Ends, ended_as, committed, put_back_to_source};
 ghost use Rattle.state_core.specs.Isolating.{isolate_refusal, next_answer, next_state, Scans};
 ghost use Rattle.state_core.specs.Valid.{IsValidZone};
@@ -109,6 +109,13 @@ impl<const W: usize> BareZone<W> {
         };
         self.tables.go_back(&way, Cause::NotCopied);
         Ok(())
+    }
+
+    /// How many moves have ended: those of pages that were moved, and those of pages that were put back.
+    pub fn ended(&self) -> u32
+        ensures { result ≡ moved self.now.records + put_back self.now.records }
+    {
+        self.tables.ended()
     }
 
     /// The counts of pages isolated, moved and put back.
