@@ -13,7 +13,7 @@ use Rattle.hand_core.specs.Batches.{Batch}
 use Rattle.hand_core.specs.Queue.{Each}
 use Rattle.hand_core.specs.CopyQueue.{taker_account, sender_account, sender_of, messages_of, sent_by, all_sent, InTurn, after_send, Comes, folded, nothing_known, Tells}
 use Rattle.hand_core.specs.CopyEnds.{has_mark}
-use Rattle.hand_core.proofs.EachEnd.{each_set}
+use Rattle.hand_core.proofs.EachEnd.{each_set, each_new}
 use Rattle.hand_core.proofs.Messages.{messages-append, messages_own, messages_other, nobody_sent, nothing_after_mark, all_sent-copies, all_sent-mark}
 
 -- what the rule says of a sender, and of the taker
@@ -30,15 +30,11 @@ opens = record {
   taker = 0;
   made = 0;
   end_of = λ sender. 0;
-  sent = λ number v at sends. absurd (true≢false (sym sends ∙ ap (λ (u : Account). u.sends) (sym (only number v at).1)));
+  sent = each_new (Sent (λ sender. 0) 0 []) [] taker_account (λ j u at. absurd (some-ne-none u (sym at))) (λ sends. absurd (true≢false (sym sends)));
   closed = λ sender. ([], false, refl);
   others = λ sender le. refl;
-  taken = λ number v at takes. let o = only number v at in (o.0, ap (λ (u : Account). u.came) (sym o.1), ap (λ (u : Account). u.made) (sym o.1));
+  taken = each_new (Taken 0 [] 0) [] taker_account (λ j u at. absurd (some-ne-none u (sym at))) (λ _. (refl, refl, refl));
 }
-  where
-    only : (number : ℕ) (v : Account) → get_elem? (taker_account ∷ []) number ≡ some v → (number ≡ 0) × (taker_account ≡ v)
-    only zero v at = (refl, some-injective taker_account v at)
-    only (suc number) v at = absurd (some-ne-none v (sym at))
 
 same_or_other : (a b : ℕ) → (a ≡ b) ⊎ (a ≢ b)
 same_or_other a b = ⊎_elim (λ (low : a < b). inr (λ e. omega arith)) (λ (le : b ≤ a). ⊎_elim (λ (low : b < a). inr (λ e. omega arith)) (λ (ge : a ≤ b). inl (omega arith)) (cases_lt b a)) (cases_lt a b)
@@ -123,13 +119,6 @@ off number v takes x queue ends r at =
       (refl, subst (λ n. sender_of x < n) (sym this.2) known),
     )
 
--- a new end stands after all others
-at_end : (ends : List Account) (new v : Account) (number : ℕ) → get_elem? ends number ≢ some v → get_elem? (ends ++ new ∷ []) number ≡ some v → number ≡ length ends
-at_end [] new v zero old at = refl
-at_end [] new v (suc number) old at = absurd (some-ne-none v (sym at))
-at_end (x ∷ ends) new v zero old at = absurd (old at)
-at_end (x ∷ ends) new v (suc number) old at = ap suc (at_end ends new v number old at)
-
 -- the taker makes one sender more
 pub makes : (number : ℕ) (v : Account) → v.takes ≡ true → v.sends ≡ false → Forks InTurn number v (record v { made = v.made + 1 }) (sender_account v.made)
 makes number v takes plain queue ends r at =
@@ -150,23 +139,15 @@ makes number v takes plain queue ends r at =
       taker = r.taker;
       made = r.made + 1;
       end_of = end_of;
-      sent = λ j u e. ⊎_elim (λ x. kept j u (old j u x))
-          (λ (is : new ≡ u). λ s.
-          let sender : u.sender ≡ r.made = ap (λ (y : Account). y.sender) (sym is) ∙ this.2 in
-          let here : j ≡ length ws = at_end ws new u j (λ x. let low = (old j u x s).1 in absurd (omega arith)) e in (
-            ap (λ (b : Bool). cond b (length ws) (r.end_of u.sender)) (eq-eqb u.sender r.made sender) ∙ sym here,
-            omega arith,
-            subst (λ k. messages_of k all ≡ all_sent u) (sym sender) (r.others r.made (omega arith) ∙ ap all_sent is),
-          ))
-          (at_snoc ws new u j e);
+      sent = each_new (Sent end_of (r.made + 1) all) ws new (λ j u e. kept j u (old j u e))
+          (λ s. (ap (λ (b : Bool). cond b (length ws) (r.end_of v.made)) (eq-eqb v.made r.made this.2), omega arith, subst (λ k. messages_of k all ≡ []) (sym this.2) (r.others r.made (omega arith))));
       closed = r.closed;
       others = λ sender le. r.others sender (omega arith);
-      taken = λ j u e. ⊎_elim
-          (λ x. each_set (Taken r.taker r.came (r.made + 1)) ends number w
+      taken = each_new (Taken r.taker r.came (r.made + 1)) ws new
+          (each_set (Taken r.taker r.came (r.made + 1)) ends number w
           (λ t. (this.0, this.1, ap (λ k. k + 1) this.2))
-          (λ i y apart f t. absurd (apart ((r.taken i y f t).0 ∙ sym this.0))) j u x)
-          (λ (is : new ≡ u). λ t. absurd (true≢false (sym t ∙ ap (λ (y : Account). y.takes) (sym is))))
-          (at_snoc ws new u j e);
+          (λ i y apart f t. absurd (apart ((r.taken i y f t).0 ∙ sym this.0))))
+          (λ t. absurd (true≢false (sym t)));
     }
 
 -- the taker gets the knowledge of a sender

@@ -1,8 +1,8 @@
 -- What holds of each end of a queue, after a step of one of them.
-use Rattle.std.proofs.Common.{◌≡◌, ◌≢◌, ℕ, List, [], ◌∷◌, ◌++◌, set, sym, subst, ⊎_elim}
-use mathlib.Core.Option.{some}
+use Rattle.std.proofs.Common.{◌≡◌, ◌≢◌, ℕ, zero, suc, List, [], ◌∷◌, ◌++◌, length, set, sym, subst, ⊎_elim}
+use mathlib.Core.Option.{some, some-ne-none, some-injective}
 use lib.ListN.{get_elem?}
-use Rattle.atomic_table.proofs.Lists.{at_set, at_snoc}
+use Rattle.atomic_table.proofs.Lists.{at_set}
 use Rattle.hand_core.specs.Queue.{Each}
 
 -- it holds of each end after one of them changed
@@ -14,7 +14,9 @@ each_set {V} holds ends number w this others other u at =
     (λ (x : (other ≢ number) × (get_elem? ends other ≡ some u)). others other u x.0 x.1)
     (at_set ends number other w u at)
 
--- it holds of each end after one was added
-pub each_new : {V : Type 0} (holds : ℕ → V → Type 0) (ends : List V) (new : V) → Each ends holds → ((number : ℕ) → holds number new) → Each (ends ++ new ∷ []) holds
-each_new holds ends new old fresh number u at =
-    ⊎_elim (λ x. old number u x) (λ (is : new ≡ u). subst (holds number) is (fresh number)) (at_snoc ends new u number at)
+-- it holds of each end after one was added behind them
+pub each_new : {V : Type 0} (holds : ℕ → V → Type 0) (ends : List V) (new : V) → Each ends holds → holds (length ends) new → Each (ends ++ new ∷ []) holds
+each_new holds [] new old fresh zero u at = subst (holds 0) (some-injective new u at) fresh
+each_new holds [] new old fresh (suc number) u at = absurd (some-ne-none u (sym at))
+each_new holds (v ∷ ends) new old fresh zero u at = old 0 u at
+each_new holds (v ∷ ends) new old fresh (suc number) u at = each_new (λ k. holds (suc k)) ends new (λ k. old (suc k)) fresh number u at

@@ -5,6 +5,8 @@ use Rattle.std.specs.List.{list_all, range_with_len}
 use Rattle.std.proofs.lemmas.Bool.{eq-eqb, ne_eqb}
 use Rattle.std.proofs.lemmas.List.Elements.{filter-append}
 use Rattle.std.proofs.lemmas.List.{map-append}
+use Rattle.std.proofs.Math.Bool.{or-false}
+use Rattle.std.proofs.lemmas.List.Folds.{list_any-append}
 use Rattle.std.proofs.lemmas.List.FromFn.{length-range_with_len, get_or-range_with_len}
 use Rattle.std.proofs.lemmas.List.Sums.{AllPass-from_list_all}
 use Rattle.hand_core.specs.declared.copy_queue.Message.{Message}
@@ -51,33 +53,14 @@ all_sent-mark v fresh =
     ap (λ (b : Bool). (map (Copies v.sender) v.sent ++ cond b (Mark v.sender ∷ []) []) ++ Mark v.sender ∷ []) fresh
     ∙ ap (λ l. l ++ Mark v.sender ∷ []) (append-nil (map (Copies v.sender) v.sent))
 
-marks-append : (sender : ℕ) (xs ys : List Message) → has_mark (xs ++ ys) sender ≡ (has_mark xs sender || has_mark ys sender)
-marks-append sender [] ys = refl
-marks-append sender (x ∷ xs) ys = ap (λ b. is_mark_of sender x || b) (marks-append sender xs ys) ∙ or_assoc (is_mark_of sender x) (has_mark xs sender) (has_mark ys sender)
-  where
-    or_assoc : (a b c : Bool) → (a || (b || c)) ≡ ((a || b) || c)
-    or_assoc true b c = refl
-    or_assoc false b c = refl
-
 -- a batch is nobody's mark
-pub marks-copies : (sender other : ℕ) (copies : Batch) (came : List Message) → has_mark (came ++ Copies other copies ∷ []) sender ≡ has_mark came sender
-marks-copies sender other copies came = marks-append sender came (Copies other copies ∷ []) ∙ nothing (has_mark came sender)
-  where
-    nothing : (b : Bool) → (b || false) ≡ b
-    nothing true = refl
-    nothing false = refl
-
-pub all_marks-copies : (other : ℕ) (copies : Batch) (came : List Message) (senders : List ℕ) → list_all (has_mark (came ++ Copies other copies ∷ [])) senders ≡ list_all (has_mark came) senders
-all_marks-copies other copies came [] = refl
-all_marks-copies other copies came (sender ∷ senders) = and_both (marks-copies sender other copies came) (all_marks-copies other copies came senders)
-  where
-    and_both : {a b c d : Bool} → a ≡ b → c ≡ d → (a && c) ≡ (b && d)
-    and_both {a} {b} {c} {d} e f = ap (λ x. x && c) e ∙ ap (λ x. b && x) f
+marks-copies : (other : ℕ) (copies : Batch) (came : List Message) (sender : ℕ) → has_mark (came ++ Copies other copies ∷ []) sender ≡ has_mark came sender
+marks-copies other copies came sender = list_any-append (is_mark_of sender) came (Copies other copies ∷ []) ∙ or-false (has_mark came sender)
 
 -- the last mark that was waited for is received with no copies
 pub last_alone : (v w : Account) (m : Message) (senders : List ℕ) → Comes v m w → list_all (has_mark v.came) senders ≡ false → list_all (has_mark w.came) senders ≡ true → copies_in_one m ≡ []
 last_alone v w (Copies sender copies) senders comes going ended =
-    absurd (true≢false (sym ended ∙ ap (λ (u : Account). list_all (has_mark u.came) senders) comes.0 ∙ all_marks-copies sender copies v.came senders ∙ going))
+    absurd (true≢false (sym ended ∙ ap (λ (u : Account). list_all (has_mark u.came) senders) comes.0 ∙ (λ i. list_all (λ k. marks-copies sender copies v.came k i) senders) ∙ going))
 last_alone v w (Mark sender) senders comes going ended = refl
 
 -- the marks of the first senders of four
@@ -105,56 +88,35 @@ mark_kept sender (Mark other ∷ messages) = marked (other == sender) refl ∙ a
         ap (λ c. has_mark (cond c (Mark other ∷ messages_of sender messages) (messages_of sender messages)) sender) is
         ∙ ap (λ c. c || has_mark (messages_of sender messages) sender) (sym is)
 
-nil_back : (xs ys : List Message) → xs ++ ys ≡ [] → ys ≡ []
-nil_back [] ys e = e
-nil_back (x ∷ xs) ys e = absurd (cc)
-
-nil_front : (xs ys : List Message) → xs ++ ys ≡ [] → xs ≡ []
-nil_front [] ys e = refl
-nil_front (x ∷ xs) ys e = absurd (cc)
-
--- a sender's messages received up to its mark are all that it sent
+-- where a sender's mark was received, so was all that it sent, and nothing of it is left
 up_to_mark : (sender : ℕ) (sent : List Batch) (marked : Bool) (came queue : List Message)
-    → came ++ queue ≡ map (Copies sender) sent ++ cond marked (Mark sender ∷ []) [] → has_mark came sender ≡ true → copies_in came ≡ pages_of sent
+    → came ++ queue ≡ sent_by sender sent marked → has_mark came sender ≡ true → (copies_in came ≡ pages_of sent) × (queue ≡ [])
 up_to_mark sender [] true [] queue is has = absurd (cc)
 up_to_mark sender [] false [] queue is has = absurd (cc)
 up_to_mark sender [] false (x ∷ came) queue is has = absurd (cc)
-up_to_mark sender [] true (x ∷ came) queue is has =
-    let first : x ≡ Mark sender = cc in
-    let rest : came ≡ [] = nil_front came queue (cc) in
-    ap (λ m. copies_in_one m ++ copies_in came) first ∙ ap copies_in rest
+up_to_mark sender [] true (x ∷ []) queue is has =
+    let first : x ≡ Mark sender = cc in (ap (λ m. copies_in (m ∷ [])) first, (cc))
+up_to_mark sender [] true (x ∷ y ∷ came) queue is has = absurd (cc)
 up_to_mark sender (c ∷ sent) marked [] queue is has = absurd (cc)
 up_to_mark sender (c ∷ sent) marked (x ∷ came) queue is has =
     let first : x ≡ Copies sender c = cc in
-    let rest : came ++ queue ≡ map (Copies sender) sent ++ cond marked (Mark sender ∷ []) [] = cc in
-    let has_rest : has_mark came sender ≡ true = ap (λ m. is_mark_of sender m || has_mark came sender) (sym first) ∙ has in
-    ap (λ m. copies_in_one m ++ copies_in came) first ∙ ap (λ l. c.items ++ l) (up_to_mark sender sent marked came queue rest has_rest)
+    let rest : came ++ queue ≡ sent_by sender sent marked = cc in
+    let inner = up_to_mark sender sent marked came queue rest (ap (λ m. is_mark_of sender m || has_mark came sender) (sym first) ∙ has) in
+    (ap (λ m. copies_in_one m ++ copies_in came) first ∙ ap (λ l. c.items ++ l) inner.0, inner.1)
+
+up_to_own_mark : (sender : ℕ) (sent : List Batch) (marked : Bool) (came queue : List Message) → messages_of sender (came ++ queue) ≡ sent_by sender sent marked
+    → has_mark came sender ≡ true → (copies_of sender came ≡ pages_of sent) × (messages_of sender queue ≡ [])
+up_to_own_mark sender sent marked came queue is has =
+    up_to_mark sender sent marked (messages_of sender came) (messages_of sender queue) (sym (messages-append sender came queue) ∙ is) (mark_kept sender came ∙ has)
 
 -- once a sender's mark was received, so were all its copies
 pub all_came : (v : Account) (came queue : List Message) → messages_of v.sender (came ++ queue) ≡ all_sent v → has_mark came v.sender ≡ true → copies_of v.sender came ≡ pages_of v.sent
-all_came v came queue is has =
-    up_to_mark v.sender v.sent v.marked (messages_of v.sender came) (messages_of v.sender queue)
-    (sym (messages-append v.sender came queue) ∙ is)
-    (mark_kept v.sender came ∙ has)
+all_came v came queue is has = (up_to_own_mark v.sender v.sent v.marked came queue is has).0
 
--- a sender's mark is the last of its messages
-mark_is_last : (sender : ℕ) (sent : List Batch) (marked : Bool) (came queue : List Message)
-    → came ++ queue ≡ map (Copies sender) sent ++ cond marked (Mark sender ∷ []) [] → has_mark came sender ≡ true → queue ≡ []
-mark_is_last sender [] true [] queue is has = absurd (cc)
-mark_is_last sender [] false [] queue is has = absurd (cc)
-mark_is_last sender [] false (x ∷ came) queue is has = absurd (cc)
-mark_is_last sender [] true (x ∷ came) queue is has = nil_back came queue (cc)
-mark_is_last sender (c ∷ sent) marked [] queue is has = absurd (cc)
-mark_is_last sender (c ∷ sent) marked (x ∷ came) queue is has =
-    let first : x ≡ Copies sender c = cc in
-    let rest : came ++ queue ≡ map (Copies sender) sent ++ cond marked (Mark sender ∷ []) [] = cc in
-    mark_is_last sender sent marked came queue rest (ap (λ m. is_mark_of sender m || has_mark came sender) (sym first) ∙ has)
-
--- once a sender's mark was received, the queue holds none of its messages
+-- and the queue holds none of its messages
 pub nothing_after_mark : (sender : ℕ) (sent : List Batch) (marked : Bool) (came queue : List Message)
     → messages_of sender (came ++ queue) ≡ sent_by sender sent marked → has_mark came sender ≡ true → messages_of sender queue ≡ []
-nothing_after_mark sender sent marked came queue is has =
-    mark_is_last sender sent marked (messages_of sender came) (messages_of sender queue) (sym (messages-append sender came queue) ∙ is) (mark_kept sender came ∙ has)
+nothing_after_mark sender sent marked came queue is has = (up_to_own_mark sender sent marked came queue is has).1
 
 -- where all numbers of a run pass, each of them does
 pub each_passes : (test : ℕ → Bool) (first count k : ℕ) → list_all test (range_with_len first count) ≡ true → k < count → test (first + k) ≡ true

@@ -2,7 +2,7 @@
 use Rattle.std.proofs.Common.{◌≡◌, ◌≢◌, ℕ, zero, suc, ◌+◌, ◌-◌, ◌<◌, true, false, true≢false, List, [], ◌∷◌, ◌++◌, length, map, set, All, sym, refl, ap, ◌∙◌, subst, ⊎_elim, append_assoc, append-nil, arith}
 use Rattle.std.specs.Prelude.{◌≤◌, max, replicate}
 use Rattle.std.proofs.Math.Nat.{le-max_left, le-max_right}
-use Rattle.std.proofs.lemmas.List.Elements.{All-nil, All-push}
+use Rattle.std.proofs.lemmas.List.Elements.{All-nil, All-push, All-tail}
 use Rattle.std.proofs.lemmas.Grind.{flat_map-append}
 use Rattle.std.proofs.lemmas.List.{map-append, replicate_more}
 use Rattle.std.specs.List.Sorted.{IsPermutation}
@@ -58,24 +58,57 @@ front_mark [] zero queue is = absurd (cc)
 front_mark [] (suc marks) queue is = (marks, refl, refl, (cc))
 front_mark (g ∷ waiting) marks queue is = absurd (cc)
 
-abbrev Gave : ℕ → List IsolatedPage → ℕ → ℕ → Known → Type 0
-Gave giver given marks number v = v.gives ≡ true → (number ≡ giver) × (v.given ≡ given) × (v.marks ≡ marks)
+-- what the rule says of one end
+record Obeys (giver : ℕ) (given : List IsolatedPage) (waiting : List Batch) (marks number : ℕ) (v : Known) : Type 0 where
+  rises : v.gives ≡ false → IsRising v.off
+  gave : v.gives ≡ true → (number ≡ giver) × (v.given ≡ given) × (v.marks ≡ marks) × All (λ (h : Batch). length h.items ≤ v.largest) waiting
+  spent : v.shares ≡ 0 → (v.off ≡ []) × (v.ended ≡ 0)
 
-abbrev Spent : ℕ → Known → Type 0
-Spent number v = v.shares ≡ 0 → (v.off ≡ []) × (v.ended ≡ 0)
+-- a hand-over has one giver, so nothing of what was given is asked of another end
+another : {giver number other marks marks' : ℕ} {given given' : List IsolatedPage} {waiting waiting' : List Batch} {u : Known}
+    → number ≡ giver → other ≢ number → Obeys giver given waiting marks other u → Obeys giver given' waiting' marks' other u
+another this apart o = record { rises = o.rises; gave = λ gives. absurd (apart ((o.gave gives).0 ∙ sym this)); spent = o.spent }
 
-abbrev Fits : List Batch → ℕ → Known → Type 0
-Fits waiting number v = v.gives ≡ true → All (λ (h : Batch). length h.items ≤ v.largest) waiting
+-- the rule still holds of an end where the pages given and the marks are the same, and no other batches wait
+still : {giver number marks marks' : ℕ} {given given' : List IsolatedPage} {waiting waiting' : List Batch} {u : Known}
+    → given ≡ given' → marks ≡ marks' → ((most : ℕ) → All (λ (h : Batch). length h.items ≤ most) waiting → All (λ (h : Batch). length h.items ≤ most) waiting')
+    → Obeys giver given waiting marks number u → Obeys giver given' waiting' marks' number u
+still {u = u} pages count fits o = record {
+  rises = o.rises;
+  gave = λ gives. let g = o.gave gives in (g.0, g.1 ∙ pages, g.2 ∙ count, fits u.largest g.3);
+  spent = o.spent;
+}
 
-abbrev Rises : ℕ → Known → Type 0
-Rises number v = v.gives ≡ false → IsRising v.off
+-- a taker gave nothing
+taker_obeys : {giver number marks : ℕ} {given : List IsolatedPage} {waiting : List Batch} (w : Known) → w.gives ≡ false → 0 < w.shares → IsRising w.off → Obeys giver given waiting marks number w
+taker_obeys w plain share rises = record { rises = λ _. rises; gave = λ gives. absurd (true≢false (sym gives ∙ plain)); spent = λ none. absurd (omega arith) }
 
--- a hand-over has one giver
-other_giver : (giver : ℕ) (given given_new : List IsolatedPage) (marks marks_new number other : ℕ) (u : Known) → number ≡ giver → other ≢ number → Gave giver given marks other u → Gave giver given_new marks_new other u
-other_giver giver given given_new marks marks_new number other u this apart h gives = absurd (apart ((h gives).0 ∙ sym this))
+obeyed : (queue : List Note) (ends : List Known) (r : InOrder queue ends) → Each ends (Obeys r.giver (r.off ++ pages_of r.waiting) r.waiting (all_ended ends + r.marks))
+obeyed queue ends r number v at = record {
+  rises = r.rising number v at;
+  gave = λ gives. let g = r.given number v at gives in (g.0, g.1, g.2, r.fits number v at gives);
+  spent = r.spent number v at;
+}
 
-same_giver : (giver : ℕ) (given given_new : List IsolatedPage) (marks marks_new other : ℕ) (u : Known) → given ≡ given_new → marks ≡ marks_new → Gave giver given marks other u → Gave giver given_new marks_new other u
-same_giver giver given given_new marks marks_new other u pages count h gives = ((h gives).0, (h gives).1 ∙ pages, (h gives).2 ∙ count)
+ordered : {queue : List Note} {ends : List Known} (giver base : ℕ) (off : List IsolatedPage) (waiting : List Batch) (marks : ℕ) → HasSerialsFrom base (off ++ pages_of waiting)
+    → queue ≡ queue_of waiting marks → IsPermutation (all_off ends) off → (0 < all_ended ends → waiting ≡ []) → total (λ v. v.shares) ends ≡ 1024
+    → Each ends (Obeys giver (off ++ pages_of waiting) waiting (all_ended ends + marks)) → InOrder queue ends
+ordered giver base off waiting marks serials queued together done shares each = record {
+  giver = giver;
+  base = base;
+  off = off;
+  waiting = waiting;
+  marks = marks;
+  serials = serials;
+  queued = queued;
+  together = together;
+  rising = λ j u e. (each j u e).rises;
+  done = done;
+  given = λ j u e gives. let g = (each j u e).gave gives in (g.0, g.1, g.2);
+  fits = λ j u e gives. ((each j u e).gave gives).3;
+  shares = shares;
+  spent = λ j u e. (each j u e).spent;
+}
 
 -- the largest batch is the largest of all with one more
 larger : (largest : ℕ) (h : Batch) (waiting : List Batch) → All (λ (g : Batch). length g.items ≤ largest) waiting
@@ -85,40 +118,26 @@ larger largest h waiting every =
     let left = le-max_left largest (length h.items) in
     All-push Small waiting h (λ k d low. let this = every k d low in omega arith) (le-max_right largest (length h.items))
 
-others_fit : (largest : ℕ) (h : Batch) (rest : List Batch) → All (λ (g : Batch). length g.items ≤ largest) (h ∷ rest) → All (λ (g : Batch). length g.items ≤ largest) rest
-others_fit largest h rest every k d low = every (suc k) d (omega arith)
-
 -- the rule holds of a queue that was just opened, whose one end is the giver
 pub opens : InOrder [] (giver_knows ∷ [])
-opens =
-    let only : (holds : ℕ → Known → Type 0) → holds 0 giver_knows → Each (giver_knows ∷ []) holds = λ holds h. each_set holds (giver_knows ∷ []) 0 giver_knows h (λ j u other at. absurd (none j u other at)) in
-    record {
-      giver = 0;
-      base = 0;
-      off = [];
-      waiting = [];
-      marks = 0;
-      serials = refl;
-      queued = refl;
-      together = IsPermutation-refl [];
-      rising = only Rises (λ plain. rising-nil);
-      done = λ some. refl;
-      given = only (Gave 0 [] 0) (λ _. (refl, refl, refl));
-      fits = only (Fits []) (λ _. All-nil (λ (h : Batch). length h.items ≤ 0));
-      shares = refl;
-      spent = only Spent (λ _. (refl, refl));
-    }
-  where
-    none : (j : ℕ) (u : Known) → j ≢ 0 → get_elem? (giver_knows ∷ []) j ≡ some u → ⊥
-    none zero u other at = other refl
-    none (suc j) u other at = some-ne-none u (sym at)
+opens = ordered 0 0 [] [] 0 refl refl (IsPermutation-refl []) (λ some. refl) refl (each_new (Obeys 0 [] [] 0) [] giver_knows (λ j u at. absurd (some-ne-none u (sym at)))
+    (record { rises = λ plain. rising-nil; gave = λ _. (refl, refl, refl, All-nil (λ (h : Batch). length h.items ≤ 0)); spent = λ _. (refl, refl) }))
+
+-- what one end's step leaves, where no page comes off for it and it keeps its share
+module _ {queue : List Note} {ends : List Known} (r : InOrder queue ends) (number : ℕ) (v w : Known) (at : get_elem? ends number ≡ some v) (off_is : w.off ≡ v.off) where
+  off_stays : IsPermutation (all_off (set ends number w)) r.off
+  off_stays = subst (λ l. IsPermutation l r.off) (sym (off_same ends number v w at off_is)) r.together
+
+  shares_stay : w.shares ≡ v.shares → total (λ u. u.shares) (set ends number w) ≡ 1024
+  shares_stay same = total_same (λ u. u.shares) ends number v w at same ∙ r.shares
 
 -- a batch goes in at the back
 pub pages_in : (room number : ℕ) (v : Known) (h : Batch) (base : ℕ) → v.gives ≡ true → v.marks ≡ 0 → HasSerialsFrom base v.given → HasSerialsFrom (base + length v.given) h.items
     → Pushes InOrder room number v (Pages h) (λ w. w ≡ after_put v (Pages h))
 pages_in room number v h base gives unmarked serials next queue ends short r at =
     let w = after_put v (Pages h) in
-    let this = r.given number v at gives in
+    let was = obeyed queue ends r number v at in
+    let this = was.gave gives in
     let count = this.2 in
     let none : r.marks ≡ 0 = omega arith in
     let waiting : List Batch = r.waiting ++ h ∷ [] in
@@ -127,26 +146,11 @@ pages_in room number v h base gives unmarked serials next queue ends short r at 
     let ended : all_ended (set ends number w) ≡ all_ended ends = total_same (λ u. u.ended) ends number v w at refl in
     let marks : v.marks ≡ all_ended (set ends number w) + 0 = omega arith in (
       w,
-      record {
-        giver = r.giver;
-        base = base;
-        off = r.off;
-        waiting = waiting;
-        marks = 0;
-        serials = subst (HasSerialsFrom base) given (serials-append base v.given h.items serials next);
-        queued = queued_pages queue r.waiting r.marks h r.queued none;
-        together = subst (λ l. IsPermutation l r.off) (sym (off_same ends number v w at refl)) r.together;
-        rising = each_set Rises ends number w (r.rising number v at) (λ j u other e. r.rising j u e);
-        done = λ some. absurd (omega arith);
-        given = each_set (Gave r.giver (r.off ++ pages_of waiting) (all_ended (set ends number w) + 0)) ends number w
-            (λ _. (this.0, given, marks))
-            (λ j u other e. other_giver r.giver (r.off ++ pages_of r.waiting) (r.off ++ pages_of waiting) (all_ended ends + r.marks) (all_ended (set ends number w) + 0) number j u this.0 other (r.given j u e));
-        fits = each_set (Fits waiting) ends number w
-            (λ _. larger v.largest h r.waiting (r.fits number v at gives))
-            (λ j u other e his. absurd (other ((r.given j u e his).0 ∙ sym this.0)));
-        shares = total_same (λ u. u.shares) ends number v w at refl ∙ r.shares;
-        spent = each_set Spent ends number w (r.spent number v at) (λ j u other e. r.spent j u e);
-      },
+      ordered r.giver base r.off waiting 0 (subst (HasSerialsFrom base) given (serials-append base v.given h.items serials next)) (queued_pages queue r.waiting r.marks h r.queued none)
+          (off_stays r number v w at refl) (λ some. absurd (omega arith)) (shares_stay r number v w at refl refl)
+          (each_set (Obeys r.giver (r.off ++ pages_of waiting) waiting (all_ended (set ends number w) + 0)) ends number w
+          (record { rises = was.rises; gave = λ _. (this.0, given, marks, larger v.largest h r.waiting this.3); spent = was.spent })
+          (λ j u other e. another this.0 other (obeyed queue ends r j u e))),
       refl,
     )
 
@@ -154,29 +158,17 @@ pages_in room number v h base gives unmarked serials next queue ends short r at 
 pub mark_in : (room number : ℕ) (v : Known) → v.gives ≡ true → Pushes InOrder room number v Mark (λ w. w ≡ after_put v Mark)
 mark_in room number v gives queue ends short r at =
     let w = after_put v Mark in
-    let this = r.given number v at gives in
+    let was = obeyed queue ends r number v at in
+    let this = was.gave gives in
     let count = this.2 in
     let ended : all_ended (set ends number w) ≡ all_ended ends = total_same (λ u. u.ended) ends number v w at refl in
     let marks : v.marks + 1 ≡ all_ended (set ends number w) + (r.marks + 1) = omega arith in (
       w,
-      record {
-        giver = r.giver;
-        base = r.base;
-        off = r.off;
-        waiting = r.waiting;
-        marks = r.marks + 1;
-        serials = r.serials;
-        queued = queued_mark queue r.waiting r.marks r.queued;
-        together = subst (λ l. IsPermutation l r.off) (sym (off_same ends number v w at refl)) r.together;
-        rising = each_set Rises ends number w (r.rising number v at) (λ j u other e. r.rising j u e);
-        done = λ some. r.done (omega arith);
-        given = each_set (Gave r.giver (r.off ++ pages_of r.waiting) (all_ended (set ends number w) + (r.marks + 1))) ends number w
-            (λ _. (this.0, this.1, marks))
-            (λ j u other e. other_giver r.giver (r.off ++ pages_of r.waiting) (r.off ++ pages_of r.waiting) (all_ended ends + r.marks) (all_ended (set ends number w) + (r.marks + 1)) number j u this.0 other (r.given j u e));
-        fits = each_set (Fits r.waiting) ends number w (r.fits number v at) (λ j u other e. r.fits j u e);
-        shares = total_same (λ u. u.shares) ends number v w at refl ∙ r.shares;
-        spent = each_set Spent ends number w (r.spent number v at) (λ j u other e. r.spent j u e);
-      },
+      ordered r.giver r.base r.off r.waiting (r.marks + 1) r.serials (queued_mark queue r.waiting r.marks r.queued)
+          (off_stays r number v w at refl) (λ some. r.done (omega arith)) (shares_stay r number v w at refl refl)
+          (each_set (Obeys r.giver (r.off ++ pages_of r.waiting) r.waiting (all_ended (set ends number w) + (r.marks + 1))) ends number w
+          (record { rises = was.rises; gave = λ _. (this.0, this.1, marks, this.3); spent = was.spent })
+          (λ j u other e. another this.0 other (obeyed queue ends r j u e))),
       refl,
     )
 
@@ -199,28 +191,15 @@ pages_off number v h queue ends plain share r at =
     (All-permutation (λ (q : IsolatedPage). q.serial < r.base + length r.off) r.off (all_off ends) (IsPermutation-sym (all_off ends) r.off r.together)
     (serials_below r.base r.off (serials_front r.base r.off (pages_of r.waiting) r.serials))) in
     let rises : IsRising (v.off ++ h.items) = rising-append v.off (r.base + length r.off) h.items (r.rising number v at plain) below next in (
-      record {
-        giver = r.giver;
-        base = r.base;
-        off = r.off ++ h.items;
-        waiting = rest;
-        marks = r.marks;
-        serials = serials;
-        queued = front.2;
-        together = IsPermutation-trans (all_off (set ends number w)) (all_off ends ++ h.items) (r.off ++ h.items)
-            (off_longer ends number v w h.items at refl)
-            (IsPermutation-append_left h.items (all_off ends) r.off r.together);
-        rising = each_set Rises ends number w (λ _. rises) (λ j u other e. r.rising j u e);
-        done = λ some. absurd (nothing (sym first ∙ r.done (omega arith)));
-        given = each_set (Gave r.giver ((r.off ++ h.items) ++ pages_of rest) (all_ended (set ends number w) + r.marks)) ends number w
-            (λ gives. absurd (true≢false (sym gives ∙ plain)))
-            (λ j u other e. same_giver r.giver (r.off ++ pages_of r.waiting) ((r.off ++ h.items) ++ pages_of rest) (all_ended ends + r.marks) (all_ended (set ends number w) + r.marks) j u moved (ap (λ n. n + r.marks) (sym ended)) (r.given j u e));
-        fits = each_set (Fits rest) ends number w
-            (λ gives. absurd (true≢false (sym gives ∙ plain)))
-            (λ j u other e his. others_fit u.largest h rest (subst (All (λ (g : Batch). length g.items ≤ u.largest)) first (r.fits j u e his)));
-        shares = total_same (λ u. u.shares) ends number v w at refl ∙ r.shares;
-        spent = each_set Spent ends number w (λ none. absurd (omega arith)) (λ j u other e. r.spent j u e);
-      },
+      ordered r.giver r.base (r.off ++ h.items) rest r.marks serials front.2
+          (IsPermutation-trans (all_off (set ends number w)) (all_off ends ++ h.items) (r.off ++ h.items)
+          (off_longer ends number v w h.items at refl)
+          (IsPermutation-append_left h.items (all_off ends) r.off r.together))
+          (λ some. absurd (nothing (sym first ∙ r.done (omega arith))))
+          (total_same (λ u. u.shares) ends number v w at refl ∙ r.shares)
+          (each_set (Obeys r.giver ((r.off ++ h.items) ++ pages_of rest) rest (all_ended (set ends number w) + r.marks)) ends number w (taker_obeys w plain share rises)
+          (λ j u other e. still moved (ap (λ n. n + r.marks) (sym ended))
+          (λ most every. All-tail (λ (g : Batch). length g.items ≤ most) h rest (subst (All (λ (g : Batch). length g.items ≤ most)) first every)) (obeyed _ ends r j u e))),
       rises,
     )
   where
@@ -234,30 +213,16 @@ mark_off number v queue ends plain share r at =
     let w = after_take v Mark in
     let front = front_mark r.waiting r.marks queue r.queued in
     let left : ℕ = front.0 in
-    let none : r.waiting ≡ [] = front.1 in
     let fewer : r.marks ≡ suc left = front.2 in
     let one : all_ended (set ends number w) + v.ended ≡ all_ended ends + (v.ended + 1) = total_set (λ u. u.ended) ends number v w at in
     let marks : all_ended ends + r.marks ≡ all_ended (set ends number w) + left = omega arith in
-    let pages : r.off ++ pages_of r.waiting ≡ r.off ++ [] = ap (λ l. r.off ++ pages_of l) none in (
-      record {
-        giver = r.giver;
-        base = r.base;
-        off = r.off;
-        waiting = [];
-        marks = left;
-        serials = subst (HasSerialsFrom r.base) pages r.serials;
-        queued = front.3;
-        together = subst (λ l. IsPermutation l r.off) (sym (off_same ends number v w at refl)) r.together;
-        rising = each_set Rises ends number w (r.rising number v at) (λ j u other e. r.rising j u e);
-        done = λ some. refl;
-        given = each_set (Gave r.giver (r.off ++ []) (all_ended (set ends number w) + left)) ends number w
-            (λ gives. absurd (true≢false (sym gives ∙ plain)))
-            (λ j u other e. same_giver r.giver (r.off ++ pages_of r.waiting) (r.off ++ []) (all_ended ends + r.marks) (all_ended (set ends number w) + left) j u pages marks (r.given j u e));
-        fits = each_set (Fits []) ends number w (λ gives. absurd (true≢false (sym gives ∙ plain))) (λ j u other e his. All-nil (λ (g : Batch). length g.items ≤ u.largest));
-        shares = total_same (λ u. u.shares) ends number v w at refl ∙ r.shares;
-        spent = each_set Spent ends number w (λ none. absurd (omega arith)) (λ j u other e. r.spent j u e);
-      },
-      r.rising number v at plain,
+    let pages : r.off ++ pages_of r.waiting ≡ r.off ++ [] = ap (λ l. r.off ++ pages_of l) front.1 in
+    let rises = r.rising number v at plain in (
+      ordered r.giver r.base r.off [] left (subst (HasSerialsFrom r.base) pages r.serials) front.3
+          (off_stays r number v w at refl) (λ some. refl) (shares_stay r number v w at refl refl)
+          (each_set (Obeys r.giver (r.off ++ []) [] (all_ended (set ends number w) + left)) ends number w (taker_obeys w plain share rises)
+          (λ j u other e. still pages marks (λ most every. All-nil (λ (g : Batch). length g.items ≤ most)) (obeyed _ ends r j u e))),
+      rises,
     )
 
 -- a taker takes the message at the front
@@ -270,29 +235,18 @@ pub cuts : (number : ℕ) (v : Known) → 1 < v.shares → Forks InOrder number 
 cuts number v shares queue ends r at =
     let w : Known = record v { shares = v.shares - 1 } in
     let ws : List Known = set ends number w in
-    let every : (holds : ℕ → Known → Type 0) → holds number w → ((j : ℕ) → holds j taker_knows) → Each ends holds → Each (ws ++ taker_knows ∷ []) holds =
-    λ holds this new old. each_new holds ws taker_knows (each_set holds ends number w this (λ j u other e. old j u e)) new in
     let ended : all_ended (ws ++ taker_knows ∷ []) ≡ all_ended ends =
     let a = total_new (λ u. u.ended) ws taker_knows in let b = total_same (λ u. u.ended) ends number v w at refl in omega arith in
-    record {
-      giver = r.giver;
-      base = r.base;
-      off = r.off;
-      waiting = r.waiting;
-      marks = r.marks;
-      serials = r.serials;
-      queued = r.queued;
-      together = subst (λ l. IsPermutation l r.off) (sym (off_new ws taker_knows refl ∙ off_same ends number v w at refl)) r.together;
-      rising = every Rises (r.rising number v at) (λ j plain. rising-nil) r.rising;
-      done = λ some. r.done (omega arith);
-      given = every (Gave r.giver (r.off ++ pages_of r.waiting) (all_ended (ws ++ taker_knows ∷ []) + r.marks))
-          (same_giver r.giver (r.off ++ pages_of r.waiting) (r.off ++ pages_of r.waiting) (all_ended ends + r.marks) (all_ended (ws ++ taker_knows ∷ []) + r.marks) number w refl (ap (λ n. n + r.marks) (sym ended)) (r.given number v at))
-          (λ j gives. absurd (true≢false (sym gives)))
-          (λ j u e. same_giver r.giver (r.off ++ pages_of r.waiting) (r.off ++ pages_of r.waiting) (all_ended ends + r.marks) (all_ended (ws ++ taker_knows ∷ []) + r.marks) j u refl (ap (λ n. n + r.marks) (sym ended)) (r.given j u e));
-      fits = every (Fits r.waiting) (r.fits number v at) (λ j none. absurd (true≢false (sym none))) r.fits;
-      shares = let a = total_new (λ u. u.shares) ws taker_knows in let b = total_set (λ u. u.shares) ends number v w at in let e = r.shares in omega arith;
-      spent = every Spent (λ none. absurd (omega arith)) (λ j none. absurd (omega arith)) r.spent;
-    }
+    let Rule : ℕ → Known → Type 0 = Obeys r.giver (r.off ++ pages_of r.waiting) r.waiting (all_ended (ws ++ taker_knows ∷ []) + r.marks) in
+    let stays : Each ends Rule = λ j u e. still refl (ap (λ n. n + r.marks) (sym ended)) (λ most every. every) (obeyed queue ends r j u e) in
+    let was = stays number v at in
+    ordered r.giver r.base r.off r.waiting r.marks r.serials r.queued
+    (subst (λ l. IsPermutation l r.off) (sym (off_new ws taker_knows refl)) (off_stays r number v w at refl))
+    (λ some. r.done (omega arith))
+    (let a = total_new (λ u. u.shares) ws taker_knows in let b = total_set (λ u. u.shares) ends number v w at in let e = r.shares in omega arith)
+    (each_new Rule ws taker_knows
+    (each_set Rule ends number w (record { rises = was.rises; gave = was.gave; spent = λ none. absurd (omega arith) }) (λ j u other. stays j u))
+    (taker_obeys taker_knows refl (omega arith) rising-nil))
 
 -- the giver takes a share back
 pub joins : (number : ℕ) (v : Known) (other : ℕ) (u : Known) → v.gives ≡ true → 0 < v.shares → Merges InOrder number v other u (joined v u) nothing_known
@@ -301,30 +255,19 @@ joins number v other u gives share queue ends r at apart at_other =
     let vs : List Known = set ends number both in
     let us : List Known = set vs other nothing_known in
     let was : get_elem? ends other ≡ some u = ⊎_elim (λ x. absurd (apart x.0)) (λ x. x.1) (at_set ends number other both u at_other) in
-    let every : (holds : ℕ → Known → Type 0) → holds number both → holds other nothing_known → Each ends holds → Each us holds =
-    λ holds this that old. each_set holds vs other nothing_known that (λ j y apart_j e. each_set holds ends number both this (λ i z o e_i. old i z e_i) j y e) in
     let sums : (f : Known → ℕ) → f nothing_known ≡ 0 → f both ≡ f v + f u → total f us ≡ total f ends =
     λ f none sum. let a = total_set f vs other u nothing_known at_other in let b = total_set f ends number v both at in omega arith in
     let ended : all_ended us ≡ all_ended ends = sums (λ y. y.ended) refl refl in
-    record {
-      giver = r.giver;
-      base = r.base;
-      off = r.off;
-      waiting = r.waiting;
-      marks = r.marks;
-      serials = r.serials;
-      queued = r.queued;
-      together = IsPermutation-trans (all_off us) (all_off ends) r.off (off_joined ends number other v u both nothing_known apart at was refl refl) r.together;
-      rising = every Rises (λ plain. absurd (true≢false (sym gives ∙ plain))) (λ plain. rising-nil) r.rising;
-      done = λ some. r.done (omega arith);
-      given = every (Gave r.giver (r.off ++ pages_of r.waiting) (all_ended us + r.marks))
-          (same_giver r.giver (r.off ++ pages_of r.waiting) (r.off ++ pages_of r.waiting) (all_ended ends + r.marks) (all_ended us + r.marks) number both refl (ap (λ n. n + r.marks) (sym ended)) (r.given number v at))
-          (λ none. absurd (true≢false (sym none)))
-          (λ j y e. same_giver r.giver (r.off ++ pages_of r.waiting) (r.off ++ pages_of r.waiting) (all_ended ends + r.marks) (all_ended us + r.marks) j y refl (ap (λ n. n + r.marks) (sym ended)) (r.given j y e));
-      fits = every (Fits r.waiting) (r.fits number v at) (λ none. absurd (true≢false (sym none))) r.fits;
-      shares = sums (λ y. y.shares) refl refl ∙ r.shares;
-      spent = every Spent (λ none. absurd (omega arith)) (λ none. (refl, refl)) r.spent;
-    }
+    let Rule : ℕ → Known → Type 0 = Obeys r.giver (r.off ++ pages_of r.waiting) r.waiting (all_ended us + r.marks) in
+    let stays : Each ends Rule = λ j y e. still refl (ap (λ n. n + r.marks) (sym ended)) (λ most every. every) (obeyed queue ends r j y e) in
+    ordered r.giver r.base r.off r.waiting r.marks r.serials r.queued
+    (IsPermutation-trans (all_off us) (all_off ends) r.off (off_joined ends number other v u both nothing_known apart at was refl refl) r.together)
+    (λ some. r.done (omega arith))
+    (sums (λ y. y.shares) refl refl ∙ r.shares)
+    (each_set Rule vs other nothing_known (record { rises = λ plain. rising-nil; gave = λ none. absurd (true≢false (sym none)); spent = λ none. (refl, refl) })
+    (λ j y away. each_set Rule ends number both
+    (record { rises = λ plain. absurd (true≢false (sym gives ∙ plain)); gave = (stays number v at).gave; spent = λ none. absurd (omega arith) })
+    (λ i z far. stays i z) j y))
 
 -- an end that has every share knows all lists
 pub settles : (number : ℕ) (v : Known) → v.gives ≡ true → v.shares ≡ 1024 → 0 < v.ended → v.ended ≡ v.marks → Learns InOrder number v (Settles v)
