@@ -1,8 +1,7 @@
 -- No more copies are in a queue than its batches may have.
 use Rattle.std.proofs.Common.{◌≡◌, ℕ, zero, suc, ◌+◌, ◌*◌, ◌<◌, ◌≤◌, Bool, true, false, List, [], ◌∷◌, ◌++◌, length, map, All, sym, refl, ap, ◌∙◌, subst, ⊎_elim, length-append, arith, cond}
-use Rattle.std.proofs.Math.Nat.{suc-mul}
 use Rattle.std.proofs.lemmas.Bool.{cases_lt}
-use Rattle.std.proofs.lemmas.List.Elements.{All-nil, All-cons, All-head, All-tail, All-append, All-map, All-weaker, All-contains}
+use Rattle.std.proofs.lemmas.List.Elements.{All-nil, All-cons, All-head, All-append, All-map, All-weaker, All-contains}
 use Rattle.hand_core.specs.declared.copy_queue.Message.{Message}
 use Rattle.hand_core.specs.declared.copy_queue.Message.TheVariants.{Copies, Mark}
 use Rattle.hand_core.specs.declared.copy_queue.Account.{Account}
@@ -11,6 +10,7 @@ use Rattle.hand_core.specs.CopyQueue.{sender_of, messages_of, sent_by, all_sent}
 use Rattle.hand_core.specs.CopyRoom.{IsAmong, HoldsWith}
 use Rattle.hand_core.specs.Batches.{Batch}
 use Rattle.hand_core.proofs.Messages.{messages-append, messages_own}
+use Rattle.hand_core.proofs.Hands.{few_in_all}
 use Rattle.hand_core.proofs.Serials.{all_front, all_back}
 
 abbrev Small : ℕ → Message → Type 0
@@ -35,16 +35,6 @@ all_small most (x ∷ messages) each =
     (All-head (Small most) x [] (subst (All (Small most)) (messages_own own x refl) (all_front (Small most) (messages_of own (x ∷ [])) (messages_of own messages) (parts own))))
     (all_small most messages (λ k. all_back (Small most) (messages_of k (x ∷ [])) (messages_of k messages) (parts k)))
 
--- so many messages, each with at most so many copies
-few_copies : (room most : ℕ) (queue : List Message) → length queue ≤ room → All (Small most) queue → length (copies_in queue) ≤ room * most
-few_copies room most [] low every = omega arith
-few_copies zero most (x ∷ queue) low every = absurd (omega arith)
-few_copies (suc room) most (x ∷ queue) low every =
-    let this : length (copies_in_one x) ≤ most = All-head (Small most) x queue every in
-    let rest = few_copies room most queue (omega arith) (All-tail (Small most) x queue every) in
-    let sum = suc-mul room most in
-    let longer = length-append (copies_in_one x) (copies_in queue) in omega arith
-
 -- no message of a sender is larger than a batch
 of_sender : (queue : List Message) (t : DoneTaker) (senders : List DoneSender) (most : ℕ) → HoldsWith queue t senders → All (λ (s : DoneSender). s.most ≤ most) senders
     → (k : ℕ) → All (Small most) (messages_of k queue)
@@ -66,4 +56,4 @@ of_sender queue t senders most h each k =
 
 pub keeps_to_room : (queue : List Message) (t : DoneTaker) (senders : List DoneSender) (most : ℕ) → HoldsWith queue t senders → All (λ (s : DoneSender). s.most ≤ most) senders
     → length (copies_in queue) ≤ t.room * most
-keeps_to_room queue t senders most h each = few_copies t.room most queue h.room (all_small most queue (of_sender queue t senders most h each))
+keeps_to_room queue t senders most h each = few_in_all copies_in_one t.room most queue h.room (all_small most queue (of_sender queue t senders most h each))

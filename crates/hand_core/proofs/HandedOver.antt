@@ -5,7 +5,8 @@ use Rattle.std.specs.List.{range_with_len}
 use Rattle.std.specs.List.Sorted.{IsPermutation}
 use Rattle.std.proofs.lemmas.List.Sorted.{IsPermutation-map, length_permutation}
 use Rattle.std.proofs.lemmas.List.{length-map}
-use Rattle.std.proofs.Math.Nat.{suc-mul, div-mul-le_self}
+use Rattle.std.proofs.lemmas.List.Elements.{All-weaker}
+use Rattle.std.proofs.Math.Nat.{div-mul-le_self}
 use Rattle.std.proofs.Math.Seq.{take-append_seam, drop-append_seam}
 use Rattle.frame_core.specs.Page.{IsolatedPage}
 use Rattle.frame_core.specs.Serials.{serials_of, HasSerialsFrom}
@@ -18,6 +19,7 @@ use Rattle.hand_core.specs.PageEnds.{Giver, Taker, off, off_by, count_ended}
 use Rattle.hand_core.specs.PageQueue.{all_off, all_ended}
 use Rattle.hand_core.proofs.PageSteps.{queue_of}
 use Rattle.hand_core.proofs.Serials.{serials_front, serials_after}
+use Rattle.hand_core.proofs.Hands.{few_in_all}
 
 off_is : (takers : List Taker) → all_off (map known_to takers) ≡ off_by takers
 off_is [] = refl
@@ -49,22 +51,9 @@ fewer_batches room waiting marks queue is low =
     let as_many = length-map waiting Pages in
     let same = ap (λ l. length l) is in omega arith
 
-small : (largest most : ℕ) (waiting : List Batch) → largest ≤ most → All (λ (h : Batch). length h.items ≤ largest) waiting → All (λ (h : Batch). length h.items ≤ most) waiting
-small largest most waiting le every k d low = let this = every k d low in omega arith
-
 -- a queue of batches has no room for more pages
 pub room_fits : (cap most : ℕ) → cap / most * most ≤ cap
 room_fits cap most = div-mul-le_self cap most
-
--- so many batches, each with at most so many pages
-few_pages : (room most : ℕ) (waiting : List Batch) → length waiting ≤ room → All (λ (h : Batch). length h.items ≤ most) waiting → length (pages_of waiting) ≤ room * most
-few_pages room most [] low every = omega arith
-few_pages zero most (h ∷ waiting) low every = absurd (omega arith)
-few_pages (suc room) most (h ∷ waiting) low every =
-    let this : length h.items ≤ most = every 0 h (omega arith) in
-    let rest = few_pages room most waiting (omega arith) (λ k d lt. every (suc k) d (omega arith)) in
-    let sum = suc-mul room most in
-    let longer = length-append h.items (pages_of waiting) in omega arith
 
 pub handed_over : (queue : List Note) (g : Giver) (takers : List Taker) → Holds queue g takers → IsHandedOver queue g takers
 handed_over queue g takers holds =
@@ -91,7 +80,8 @@ handed_over queue g takers holds =
       queued_whole = waits ∙ sym (ap (λ l. drop (length (off_by takers)) l) pages ∙ ap (λ n. drop n (r.off ++ pages_of r.waiting)) (sym many) ∙ drop-append_seam r.off (pages_of r.waiting));
       marks = (r.waiting, r.queued ∙ ap (λ m. map Pages r.waiting ++ replicate m Mark) (sym left));
       ended = λ some. sym (ap (λ l. length l) (pages ∙ ap (λ l. r.off ++ pages_of l) (none some) ∙ append-nil r.off) ∙ many);
-      few = subst (λ l. length l ≤ g.room * g.most) (sym waits) (few_pages g.room g.most r.waiting (fewer_batches g.room r.waiting r.marks queue r.queued holds.room) (small holds.largest g.most r.waiting holds.most (r.fits 0 _ refl refl)));
+      few = subst (λ l. length l ≤ g.room * g.most) (sym waits) (few_in_all (λ (h : Batch). h.items) g.room g.most r.waiting (fewer_batches g.room r.waiting r.marks queue r.queued holds.room)
+          (All-weaker (λ (h : Batch). length h.items ≤ holds.largest) (λ (h : Batch). length h.items ≤ g.most) (λ h low. let most = holds.most in omega arith) r.waiting (r.fits 0 _ refl refl)));
       empty = λ some all. (let over : r.marks ≡ 0 = omega arith in r.queued ∙ ap (λ l. queue_of l r.marks) (none some) ∙ ap (λ m. queue_of [] m) over);
     }
 

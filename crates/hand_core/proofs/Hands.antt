@@ -1,6 +1,10 @@
 -- Which of the pages received were answered, where the last of them are still in hand.
-use Rattle.std.proofs.Common.{◌≡◌, ℕ, ◌-◌, ◌<◌, ◌≤◌, ⊎_elim, List, [], ◌∷◌, ◌++◌, length, take, Some, None, Option, MatchOption, IfSome, ap, sym, ◌∙◌, append_assoc, append-nil, length-append, arith}
+use Rattle.std.proofs.Common.{◌≡◌, ℕ, ◌-◌, ◌*◌, ◌<◌, ◌≤◌, ⊎_elim, List, [], ◌∷◌, ◌++◌, length, take, Some, None, Option, MatchOption, IfSome, ap, sym, ◌∙◌, All, append_assoc, append-nil, length-append, arith}
 use Rattle.std.specs.Option.{option_to_list}
+use Rattle.std.specs.List.{flat_map}
+use Rattle.std.proofs.Math.Nat.{mul-le-mul_right}
+use Rattle.std.proofs.lemmas.List.Concat.{length-flat_map}
+use Rattle.std.proofs.lemmas.List.Sums.{sum_by-le}
 use Rattle.std.proofs.Math.Seq.{take-append_seam}
 use Rattle.std.proofs.lemmas.Bool.{cases_lt}
 use Rattle.frame_core.specs.Page.{IsolatedPage}
@@ -47,3 +51,7 @@ next_taken came before in_hand rest (Some p) is first =
 -- a single page always fits in a batch
 pub fits : (count most : ℕ) → 0 < most → (1 < count → count ≤ most) → count ≤ most
 fits count most some several = ⊎_elim (λ (more : 1 < count). several more) (λ (single : count ≤ 1). omega arith) (cases_lt 1 count)
+
+-- so many batches, each with at most so many pages
+pub few_in_all : {X A : Type 0} (of : X → List A) (room most : ℕ) (xs : List X) → length xs ≤ room → All (λ x. length (of x) ≤ most) xs → length (flat_map of xs) ≤ room * most
+few_in_all of room most xs low every = omega (arith, length-flat_map of xs, sum_by-le (λ x. length (of x)) most xs every, mul-le-mul_right most low)

@@ -16,9 +16,9 @@ use Rattle.hand_core.specs.declared.page_queue.Note.{Note}
 use Rattle.hand_core.specs.declared.page_queue.Note.TheVariants.{Pages, Mark}
 use Rattle.hand_core.specs.declared.page_queue.Known.{Known}
 use Rattle.frame_core.specs.Serials.{HasSerialsFrom, IsRising}
-use Rattle.hand_core.specs.PageQueue.{giver_knows, taker_knows, total, all_off, all_ended, InOrder, after_put, after_take, Takes, joined, nothing_known, Settles}
+use Rattle.hand_core.specs.PageQueue.{giver_knows, taker_knows, all_off, all_ended, InOrder, after_put, after_take, Takes, joined, nothing_known, Settles}
 use Rattle.hand_core.specs.Batches.{Batch, pages_of}
-use Rattle.hand_core.specs.Queue.{Each}
+use Rattle.hand_core.specs.Queue.{Each, total}
 use Rattle.hand_core.proofs.EachEnd.{each_set, each_new}
 use Rattle.hand_core.proofs.Serials.{serials-append, serials_front, serials_after, serials_below, rising-append, rising-nil}
 use Rattle.hand_core.proofs.Totals.{total_set, total_same, total_new, total_alone, off_same, off_new, off_longer, off_joined, off_alone, all_of_end}

@@ -11,59 +11,38 @@ use Rattle.std.proofs.lemmas.List.Elements.{All-map, All-take, All-drop, All-con
 use Rattle.frame_core.specs.Page.{IsolatedPage}
 use Rattle.frame_core.specs.Serials.{serials_of, HasSerialsFrom, IsRising}
 
--- the numbers from a first one on, with one more
-range_with_len-suc : (first count : ℕ) → range_with_len first (suc count) ≡ range_with_len first count ++ (first + count) ∷ []
-range_with_len-suc first zero = ap (λ n. n ∷ []) (let e : first ≡ first + 0 = omega arith in e)
-range_with_len-suc first (suc count) =
-    ap (λ l. first ∷ l) (range_with_len-suc (first + 1) count)
-    ∙ ap (λ n. first ∷ (range_with_len (first + 1) count ++ n ∷ [])) (let e : first + 1 + count ≡ first + suc count = omega arith in e)
-
-tail_of : (a b : ℕ) (xs ys : List ℕ) → a ∷ xs ≡ b ∷ ys → xs ≡ ys
-tail_of a b xs ys e = cc
-
-head_of : (a b : ℕ) (xs ys : List ℕ) → a ∷ xs ≡ b ∷ ys → a ≡ b
-head_of a b xs ys e = cc
-
--- one more page with the next serial
-pub serials-snoc : (first : ℕ) (pages : List IsolatedPage) (p : IsolatedPage) → HasSerialsFrom first pages → p.serial ≡ first + length pages → HasSerialsFrom first (pages ++ p ∷ [])
-serials-snoc first pages p h next =
-    let longer : length (pages ++ p ∷ []) ≡ suc (length pages) = let e = length-append pages (p ∷ []) in omega arith in
-    map-append (λ (q : IsolatedPage). q.serial) pages (p ∷ [])
-    ∙ ap (λ l. l ++ p.serial ∷ []) h
-    ∙ ap (λ n. range_with_len first (length pages) ++ n ∷ []) next
-    ∙ sym (range_with_len-suc first (length pages))
-    ∙ ap (λ n. range_with_len first n) (sym longer)
+-- the first of pages with serials in order, and the others
+parts : (first : ℕ) (p : IsolatedPage) (pages : List IsolatedPage) → HasSerialsFrom first (p ∷ pages) → (p.serial ≡ first) × HasSerialsFrom (first + 1) pages
+parts first p pages h = first_and_rest p.serial first (serials_of pages) (range_with_len (first + 1) (length pages)) h
+  where
+    first_and_rest : (a b : ℕ) (xs ys : List ℕ) → a ∷ xs ≡ b ∷ ys → (a ≡ b) × (xs ≡ ys)
+    first_and_rest a b xs ys e = (cc, cc)
 
 -- more pages with the next serials
 pub serials-append : (first : ℕ) (pages more : List IsolatedPage) → HasSerialsFrom first pages → HasSerialsFrom (first + length pages) more → HasSerialsFrom first (pages ++ more)
 serials-append first [] more h next = subst (λ n. HasSerialsFrom n more) (let e : first + 0 ≡ first = omega arith in e) next
 serials-append first (p ∷ pages) more h next =
-    let inner = serials-append (first + 1) pages more
-    (tail_of p.serial first (serials_of pages) (range_with_len (first + 1) (length pages)) h)
-    (subst (λ n. HasSerialsFrom n more) (let e : first + suc (length pages) ≡ first + 1 + length pages = omega arith in e) next) in
-    let same : p.serial ≡ first = head_of p.serial first (serials_of pages) (range_with_len (first + 1) (length pages)) h in
-    ap (λ l. p.serial ∷ l) inner ∙ ap (λ n. n ∷ range_with_len (first + 1) (length (pages ++ more))) same
+    let this = parts first p pages h in
+    let inner = serials-append (first + 1) pages more this.1 (subst (λ n. HasSerialsFrom n more) (let e : first + suc (length pages) ≡ first + 1 + length pages = omega arith in e) next) in
+    λ i. this.0 i ∷ inner i
+
+-- one more page with the next serial
+pub serials-snoc : (first : ℕ) (pages : List IsolatedPage) (p : IsolatedPage) → HasSerialsFrom first pages → p.serial ≡ first + length pages → HasSerialsFrom first (pages ++ p ∷ [])
+serials-snoc first pages p h next = serials-append first pages (p ∷ []) h (ap (λ n. n ∷ []) next)
 
 -- the pages at the front of a list have serials in order
 pub serials_front : (first : ℕ) (pages rest : List IsolatedPage) → HasSerialsFrom first (pages ++ rest) → HasSerialsFrom first pages
 serials_front first [] rest h = refl
 serials_front first (p ∷ pages) rest h =
-    let inner = serials_front (first + 1) pages rest (tail_of p.serial first (serials_of (pages ++ rest)) (range_with_len (first + 1) (length (pages ++ rest))) h) in
-    let same : p.serial ≡ first = head_of p.serial first (serials_of (pages ++ rest)) (range_with_len (first + 1) (length (pages ++ rest))) h in
-    ap (λ l. p.serial ∷ l) inner ∙ ap (λ n. n ∷ range_with_len (first + 1) (length pages)) same
+    let this = parts first p (pages ++ rest) h in
+    let inner = serials_front (first + 1) pages rest this.1 in
+    λ i. this.0 i ∷ inner i
 
 -- the pages after these have the serials that come next
 pub serials_after : (first : ℕ) (pages rest : List IsolatedPage) → HasSerialsFrom first (pages ++ rest) → HasSerialsFrom (first + length pages) rest
 serials_after first [] rest h = subst (λ n. HasSerialsFrom n rest) (let e : first ≡ first + 0 = omega arith in e) h
 serials_after first (p ∷ pages) rest h =
-    subst (λ n. HasSerialsFrom n rest) (let e : first + 1 + length pages ≡ first + suc (length pages) = omega arith in e)
-    (serials_after (first + 1) pages rest (tail_of p.serial first (serials_of (pages ++ rest)) (range_with_len (first + 1) (length (pages ++ rest))) h))
-
--- the page after some pages has the serial that comes next
-pub serial_at : (first : ℕ) (pages : List IsolatedPage) (p : IsolatedPage) (rest : List IsolatedPage) → HasSerialsFrom first (pages ++ p ∷ rest) → p.serial ≡ first + length pages
-serial_at first [] p rest h = let e = head_of p.serial first (serials_of rest) (range_with_len (first + 1) (length rest)) h in omega arith
-serial_at first (q ∷ pages) p rest h =
-    let e = serial_at (first + 1) pages p rest (tail_of q.serial first (serials_of (pages ++ p ∷ rest)) (range_with_len (first + 1) (length (pages ++ p ∷ rest))) h) in omega arith
+    subst (λ n. HasSerialsFrom n rest) (let e : first + 1 + length pages ≡ first + suc (length pages) = omega arith in e) (serials_after (first + 1) pages rest (parts first p (pages ++ rest) h).1)
 
 -- the serial of the page at an index
 pub serial_of : (first : ℕ) (pages : List IsolatedPage) (place : ℕ) (p : IsolatedPage) → HasSerialsFrom first pages → Some p ≡ slice_get pages place → (p.serial ≡ first + place) × (place < length pages)
@@ -71,17 +50,15 @@ serial_of first [] place p h is = absurd (cc)
 serial_of first (q ∷ pages) zero p h is =
     let same : p ≡ q = cc in
     let serial : p.serial ≡ q.serial = ap (λ (o : IsolatedPage). o.serial) same in
-    let e = head_of q.serial first (serials_of pages) (range_with_len (first + 1) (length pages)) h in (omega arith, omega arith)
+    let e = (parts first q pages h).0 in (omega arith, omega arith)
 serial_of first (q ∷ pages) (suc place) p h is =
-    let e = serial_of (first + 1) pages place p (tail_of q.serial first (serials_of pages) (range_with_len (first + 1) (length pages)) h) is in (omega arith, omega arith)
+    let e = serial_of (first + 1) pages place p (parts first q pages h).1 is in (omega arith, omega arith)
 
 -- each page has a lower serial than those that come next
 pub serials_below : (first : ℕ) (pages : List IsolatedPage) → HasSerialsFrom first pages → All (λ (q : IsolatedPage). q.serial < first + length pages) pages
 serials_below first [] h k d lt = absurd (omega arith)
-serials_below first (p ∷ pages) h zero d lt =
-    let e = head_of p.serial first (serials_of pages) (range_with_len (first + 1) (length pages)) h in omega arith
-serials_below first (p ∷ pages) h (suc k) d lt =
-    let e = serials_below (first + 1) pages (tail_of p.serial first (serials_of pages) (range_with_len (first + 1) (length pages)) h) k d (omega arith) in omega arith
+serials_below first (p ∷ pages) h zero d lt = let e = (parts first p pages h).0 in omega arith
+serials_below first (p ∷ pages) h (suc k) d lt = let e = serials_below (first + 1) pages (parts first p pages h).1 k d (omega arith) in omega arith
 
 pub all_front : {A : Type 0} (P : A → Type 0) (xs ys : List A) → All P (xs ++ ys) → All P xs
 all_front P xs ys h = subst (All P) (take-append_seam xs ys) (All-take P (length xs) (xs ++ ys) h)
@@ -113,7 +90,8 @@ rising-snoc pages p rises below =
 pub rising-append : (pages : List IsolatedPage) (first : ℕ) (more : List IsolatedPage) → IsRising pages → All (λ (q : IsolatedPage). q.serial < first) pages → HasSerialsFrom first more → IsRising (pages ++ more)
 rising-append pages first [] rises below h = subst IsRising (sym (append-nil pages)) rises
 rising-append pages first (p ∷ more) rises below h =
-    let same : p.serial ≡ first = head_of p.serial first (serials_of more) (range_with_len (first + 1) (length more)) h in
+    let parted = parts first p more h in
+    let same = parted.0 in
     let Below : ℕ → IsolatedPage → Type 0 = λ n q. q.serial < n in
     let wider : All (Below (first + 1)) pages = λ k d lt. let low = below k d lt in omega arith in
     let this : All (Below (first + 1)) (p ∷ []) = All-cons (Below (first + 1)) p [] (omega arith) (All-nil (Below (first + 1))) in
@@ -121,7 +99,7 @@ rising-append pages first (p ∷ more) rises below h =
     (rising-append (pages ++ p ∷ []) (first + 1) more
     (rising-snoc pages p rises (subst (λ n. All (Below n) pages) (sym same) below))
     (All-append (Below (first + 1)) pages (p ∷ []) wider this)
-    (tail_of p.serial first (serials_of more) (range_with_len (first + 1) (length more)) h))
+    parted.1)
 
 pub rising-nil : IsRising []
 rising-nil k lt = absurd (omega arith)

@@ -5,25 +5,12 @@ use lib.ListN.{get_elem?}
 use prog.Atomic.{either}
 use Rattle.atomic_table.specs.Table.{Me, Allows, Splits, Joins, keeps, step}
 use Rattle.atomic_table.specs.Table as table
-use Rattle.atomic_table.proofs.Lists.{at_set, at_snoc}
+use Rattle.atomic_table.proofs.Lists.{at_set}
 use Rattle.frame_core.specs.declared.record.Record.{Record}
 use Rattle.hand_core.specs.declared.rule.Part.{Part}
+use Rattle.hand_core.proofs.Totals.{total_set, total_new, total_at_most}
+use Rattle.hand_core.proofs.EachEnd.{each_set, each_new}
 use Rattle.hand_core.specs.Parts.{whole_part, half_part, no_part, both_parts, shares_of, HaveOneList, IsWritten, AreSame}
-
--- the shares after one part changed
-shares_set : (views : List Part) (id : ℕ) (v w : Part) → get_elem? views id ≡ some v → shares_of (set views id w) + v.shares ≡ shares_of views + w.shares
-shares_set [] id v w at = absurd (some-ne-none v (sym at))
-shares_set (x ∷ views) zero v w at = let same : x.shares ≡ v.shares = ap (λ (u : Part). u.shares) (some-injective x v at) in omega arith
-shares_set (x ∷ views) (suc id) v w at = let rest = shares_set views id v w at in omega arith
-
-shares_new : (views : List Part) (new : Part) → shares_of (views ++ new ∷ []) ≡ shares_of views + new.shares
-shares_new [] new = omega arith
-shares_new (x ∷ views) new = let rest = shares_new views new in omega arith
-
-shares_within : (views : List Part) (id : ℕ) (v : Part) → get_elem? views id ≡ some v → v.shares ≤ shares_of views
-shares_within [] id v at = absurd (some-ne-none v (sym at))
-shares_within (x ∷ views) zero v at = let same : x.shares ≡ v.shares = ap (λ (u : Part). u.shares) (some-injective x v at) in omega arith
-shares_within (x ∷ views) (suc id) v at = let rest = shares_within views id v at in omega arith
 
 -- two parts have no more shares than all
 shares_of_two : (views : List Part) (id other : ℕ) (v u : Part) → get_elem? views id ≡ some v → get_elem? views other ≡ some u → other ≢ id → v.shares + u.shares ≤ shares_of views
@@ -31,37 +18,20 @@ shares_of_two [] id other v u at at_other apart = absurd (some-ne-none v (sym at
 shares_of_two (x ∷ views) zero zero v u at at_other apart = absurd (apart refl)
 shares_of_two (x ∷ views) zero (suc other) v u at at_other apart =
     let same : x.shares ≡ v.shares = ap (λ (y : Part). y.shares) (some-injective x v at) in
-    let rest = shares_within views other u at_other in omega arith
+    let rest = total_at_most (λ u. u.shares) views other u at_other in omega arith
 shares_of_two (x ∷ views) (suc id) zero v u at at_other apart =
     let same : x.shares ≡ u.shares = ap (λ (y : Part). y.shares) (some-injective x u at_other) in
-    let rest = shares_within views id v at in omega arith
+    let rest = total_at_most (λ u. u.shares) views id v at in omega arith
 shares_of_two (x ∷ views) (suc id) (suc other) v u at at_other apart =
     let rest = shares_of_two views id other v u at at_other (λ same. apart (ap suc same)) in omega arith
 
 -- what the rule says of one part
-abbrev Knows : List Record → Part → Type 0
-Knows list v = 0 < v.shares → (v.records ≡ list) × (v.others ≡ list)
-
--- it holds of each part after one of them changed
-knows_set : (list : List Record) (views : List Part) (id : ℕ) (w : Part) → Knows list w
-    → ((other : ℕ) (u : Part) → other ≢ id → get_elem? views other ≡ some u → Knows list u)
-    → (other : ℕ) (u : Part) → get_elem? (set views id w) other ≡ some u → Knows list u
-knows_set list views id w this others other u at =
-    ⊎_elim
-    (λ (x : (other ≡ id) × (w ≡ u)). subst (Knows list) x.1 this)
-    (λ (x : (other ≢ id) × (get_elem? views other ≡ some u)). others other u x.0 x.1)
-    (at_set views id other w u at)
-
-knows_half : (list records : List Record) → records ≡ list → Knows list (half_part records)
-knows_half list records same some_share = (same, same)
+abbrev Knows : List Record → ℕ → Part → Type 0
+Knows list id v = 0 < v.shares → (v.records ≡ list) × (v.others ≡ list)
 
 -- the rule holds of a pair that was just made
 pub opens : (words : List ℕ) → HaveOneList (table.opening words [] (whole_part []))
-opens words = record { shares = refl; list = []; each = only }
-  where
-    only : (id : ℕ) (v : Part) → get_elem? (whole_part [] ∷ []) id ≡ some v → Knows [] v
-    only zero v at = subst (Knows []) (some-injective (whole_part []) v at) (λ some_share. (refl, refl))
-    only (suc id) v at = absurd (some-ne-none v (sym at))
+opens words = record { shares = refl; list = []; each = each_new (Knows []) [] (whole_part []) (λ id v at. absurd (some-ne-none v (sym at))) (λ some_share. (refl, refl)) }
 
 -- a part with both shares is cut in two
 pub splits : (id : ℕ) (v : Part) → v.shares ≡ 2 → Splits HaveOneList id v (half_part v.records) (half_part v.records)
@@ -69,14 +39,10 @@ splits id v both s h at =
     let half : Part = half_part v.records in
     let views : List Part = set s.views id half in
     let same : v.records ≡ h.list = (h.each id v at (omega arith)).0 in
-    let known : Knows h.list half = knows_half h.list v.records same in
     record {
-      shares = let a = shares_set s.views id v half at in let b = shares_new views half in let e = h.shares in omega arith;
+      shares = let a = total_set (λ u. u.shares) s.views id v half at in let b = total_new (λ u. u.shares) views half in let e = h.shares in omega arith;
       list = h.list;
-      each = λ other u e. ⊎_elim
-          (λ (there : get_elem? views other ≡ some u). knows_set h.list s.views id half known (λ j y apart k. h.each j y k) other u there)
-          (λ (is : half ≡ u). subst (Knows h.list) is known)
-          (at_snoc views half u other e);
+      each = each_new (Knows h.list) views half (each_set (Knows h.list) s.views id half (λ some_share. (same, same)) (λ j y apart k. h.each j y k)) (λ some_share. (same, same));
     }
 
 -- two halves are put together
@@ -85,12 +51,11 @@ joins id v other w one one_more s h at apart at_other =
     let both : Part = both_parts v w in
     let views : List Part = set s.views id both in
     let was : get_elem? s.views other ≡ some w = ⊎_elim (λ (x : (other ≡ id) × (both ≡ w)). absurd (apart x.0)) (λ (x : (other ≢ id) × (get_elem? s.views other ≡ some w)). x.1) (at_set s.views id other both w at_other) in
-    let known : Knows h.list both = λ some_share. ((h.each id v at (omega arith)).0, (h.each other w was (omega arith)).0) in
     record {
-      shares = let a = shares_set views other w no_part at_other in let b = shares_set s.views id v both at in let e = h.shares in omega arith;
+      shares = let a = total_set (λ u. u.shares) views other w no_part at_other in let b = total_set (λ u. u.shares) s.views id v both at in let e = h.shares in omega arith;
       list = h.list;
-      each = knows_set h.list views other no_part (λ none. absurd (omega arith))
-          (λ j u away e. knows_set h.list s.views id both known (λ i y far k. h.each i y k) j u e);
+      each = each_set (Knows h.list) views other no_part (λ none. absurd (omega arith))
+          (λ j u away e. each_set (Knows h.list) s.views id both (λ some_share. ((h.each id v at (omega arith)).0, (h.each other w was (omega arith)).0)) (λ i y far k. h.each i y k) j u e);
     }
 
 -- what a part with both shares knows
@@ -107,9 +72,9 @@ writes slots id me entry both s h homes at low =
       keeps,
       tt,
       record {
-        shares = let a = shares_set s.views id me.0 w at in let e = h.shares in omega arith;
+        shares = let a = total_set (λ u. u.shares) s.views id me.0 w at in let e = h.shares in omega arith;
         list = longer;
-        each = knows_set longer s.views id w (λ some_share. (refl, refl))
+        each = each_set (Knows longer) s.views id w (λ some_share. (refl, refl))
             (λ other u apart e some_share. absurd (let two = shares_of_two s.views id other me.0 u at e apart in let all = h.shares in omega arith));
       },
       (same_lists id me.0 s h both at, refl),
@@ -123,9 +88,9 @@ compares slots id me both s h homes at low = (
   keeps,
   tt,
   record {
-    shares = let a = shares_set s.views id me.0 me.0 at in let e = h.shares in omega arith;
+    shares = let a = total_set (λ u. u.shares) s.views id me.0 me.0 at in let e = h.shares in omega arith;
     list = h.list;
-    each = knows_set h.list s.views id me.0 (h.each id me.0 at) (λ other u apart e. h.each other u e);
+    each = each_set (Knows h.list) s.views id me.0 (h.each id me.0 at) (λ other u apart e. h.each other u e);
   },
   (same_lists id me.0 s h both at, refl),
 )

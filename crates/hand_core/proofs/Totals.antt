@@ -6,32 +6,29 @@ use mathlib.Core.Option.{some, some-ne-none, some-injective}
 use lib.ListN.{get_elem?}
 use Rattle.frame_core.specs.Page.{IsolatedPage}
 use Rattle.hand_core.specs.declared.page_queue.Known.{Known}
-use Rattle.hand_core.specs.PageQueue.{total, all_off}
-use Rattle.hand_core.specs.Queue.{Each}
+use Rattle.hand_core.specs.PageQueue.{all_off}
+use Rattle.hand_core.specs.Queue.{Each, total}
 use Rattle.hand_core.proofs.Serials.{all_front, all_back}
-
-abbrev Same : List IsolatedPage → List IsolatedPage → Type 0
-Same xs ys = IsPermutation xs ys
 
 -- equal lists have the same pages
 pub same_is : (xs ys : List IsolatedPage) → xs ≡ ys → IsPermutation xs ys
 same_is xs ys e = subst (λ l. IsPermutation xs l) e (IsPermutation-refl xs)
 
 -- a total after one end changed
-pub total_set : (f : Known → ℕ) (ends : List Known) (number : ℕ) (v w : Known) → get_elem? ends number ≡ some v → total f (set ends number w) + f v ≡ total f ends + f w
+pub total_set : {V : Type 0} (f : V → ℕ) (ends : List V) (number : ℕ) (v w : V) → get_elem? ends number ≡ some v → total f (set ends number w) + f v ≡ total f ends + f w
 total_set f [] number v w at = absurd (some-ne-none v (sym at))
 total_set f (x ∷ ends) zero v w at = let same : f x ≡ f v = ap f (some-injective x v at) in omega arith
 total_set f (x ∷ ends) (suc number) v w at = let h = total_set f ends number v w at in omega arith
 
-pub total_same : (f : Known → ℕ) (ends : List Known) (number : ℕ) (v w : Known) → get_elem? ends number ≡ some v → f w ≡ f v → total f (set ends number w) ≡ total f ends
+pub total_same : {V : Type 0} (f : V → ℕ) (ends : List V) (number : ℕ) (v w : V) → get_elem? ends number ≡ some v → f w ≡ f v → total f (set ends number w) ≡ total f ends
 total_same f ends number v w at e = let t = total_set f ends number v w at in omega arith
 
-pub total_new : (f : Known → ℕ) (ends : List Known) (new : Known) → total f (ends ++ new ∷ []) ≡ total f ends + f new
+pub total_new : {V : Type 0} (f : V → ℕ) (ends : List V) (new : V) → total f (ends ++ new ∷ []) ≡ total f ends + f new
 total_new f [] new = omega arith
 total_new f (x ∷ ends) new = let h = total_new f ends new in omega arith
 
 -- no end has more than all ends together
-total_at_most : (f : Known → ℕ) (ends : List Known) (number : ℕ) (v : Known) → get_elem? ends number ≡ some v → f v ≤ total f ends
+pub total_at_most : {V : Type 0} (f : V → ℕ) (ends : List V) (number : ℕ) (v : V) → get_elem? ends number ≡ some v → f v ≤ total f ends
 total_at_most f [] number v at = absurd (some-ne-none v (sym at))
 total_at_most f (x ∷ ends) zero v at = let e : f x ≡ f v = ap f (some-injective x v at) in omega arith
 total_at_most f (x ∷ ends) (suc number) v at = let e = total_at_most f ends number v at in omega arith
@@ -66,7 +63,7 @@ pub off_new : (ends : List Known) (new : Known) → new.off ≡ [] → all_off (
 off_new [] new e = append-nil new.off ∙ e
 off_new (x ∷ ends) new e = ap (λ l. x.off ++ l) (off_new ends new e)
 
-after : (first rest more : List IsolatedPage) → Same ((first ++ more) ++ rest) ((first ++ rest) ++ more)
+after : (first rest more : List IsolatedPage) → IsPermutation ((first ++ more) ++ rest) ((first ++ rest) ++ more)
 after first rest more =
     IsPermutation-trans ((first ++ more) ++ rest) (first ++ (rest ++ more)) ((first ++ rest) ++ more)
     (IsPermutation-trans ((first ++ more) ++ rest) (first ++ (more ++ rest)) (first ++ (rest ++ more))

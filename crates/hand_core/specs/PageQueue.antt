@@ -9,6 +9,7 @@ use Rattle.hand_core.specs.declared.page_queue.Known.{Known}
 use Rattle.frame_core.specs.Serials.{HasSerialsFrom, IsRising}
 use Rattle.hand_core.specs.Batches.{Batch, pages_of}
 use Rattle.hand_core.specs.Queue.{Each}
+pub use Rattle.hand_core.specs.Queue.{total}
 
 -- what an end knows, made from its parts
 abbrev pub known : ℕ → Bool → List IsolatedPage → ℕ → ℕ → List IsolatedPage → ℕ → Known
@@ -21,11 +22,6 @@ giver_knows = known 1024 true [] 0 0 [] 0
 -- what a taker knows at first
 abbrev pub taker_knows : Known
 taker_knows = known 1 false [] 0 0 [] 0
-
--- the sum of a number that each end has
-abbrev pub total : (Known → ℕ) → List Known → ℕ
-total number [] = 0
-total number (v ∷ ends) = number v + total number ends
 
 -- the pages that came off for all takers
 abbrev pub all_off : List Known → List IsolatedPage

@@ -6,6 +6,7 @@ use Rattle.atomic_table.specs.Table.{State, Step, Me}
 use Rattle.atomic_table.specs.Seated.{TableId}
 use Rattle.frame_core.specs.declared.record.Record.{Record}
 use Rattle.hand_core.specs.declared.rule.Part.{Part}
+use Rattle.hand_core.specs.Queue.{total}
 
 -- what is known with both shares, with one, and with none
 abbrev pub whole_part : List Record → Part
@@ -23,8 +24,7 @@ both_parts v w = record { shares = v.shares + w.shares; records = v.records; oth
 
 -- the shares of all, added up
 abbrev pub shares_of : List Part → ℕ
-shares_of [] = 0
-shares_of (v ∷ views) = v.shares + shares_of views
+shares_of views = total (λ v. v.shares) views
 
 -- there are two shares, and whoever has one knows the one list
 pub record HaveOneList (s : State Record Part) : Type 0 where

@@ -12,6 +12,7 @@ use Rattle.hand_core.proofs.Hands.{all_answered}
 use Rattle.hand_core.proofs.Totals.{list_back}
 use Rattle.hand_core.proofs.PageSteps.{joins, settles}
 use Rattle.hand_core.proofs.settling.take_back.Goals as goal
+use Rattle.hand_core.proofs.settling.take_back.Goals.{After-learn_as}
 
 pub absorb-requires-clause-rule : goal.absorb-requires-clause-rule
 absorb-requires-clause-rule c =
@@ -79,37 +80,27 @@ learn_as-requires-clause-rule c =
     let takers = ap (λ (g : Giver). g.takers) c.giver.view_is in settles _ _ old.gives (omega arith) (omega arith) (omega arith)
 
 -- every taker came back
-all_back : (takers left back : List Taker) → takers ≡ left ++ back → left ≡ [] → takers ≡ back
-all_back takers left back is empty = is ∙ ap (λ l. l ++ back) empty
+all_back : (c : After-learn_as) → c.args.takers.items ≡ c.loop-taker.invariant.back.0
+all_back c =
+    let left = c.loop-taker.takers in
+    let end = c.in_default.ensures in
+    let empty : left.items ≡ [] = end.items ∙ append-nil c.pop.new.self.items ∙ end.rest ∙ ap (λ n. take (n - 1) left.items) end.cases.0 in
+    c.loop-taker.invariant.back.1 ∙ ap (λ l. l ++ c.loop-taker.invariant.back.0) empty
 
 pub returns-clause-pages : goal.returns-clause-pages
 returns-clause-pages c =
-    let left = c.loop-taker.takers in
     let before = c.loop-taker.invariant.back in
-    let end = c.in_default.ensures in
-    let empty : left.items ≡ [] = end.items ∙ append-nil c.pop.new.self.items ∙ end.rest ∙ ap (λ n. take (n - 1) left.items) end.cases.0 in
-    let same : c.args.takers.items ≡ before.0 = all_back c.args.takers.items left.items before.0 before.1 empty in
     let knows : Known = view c.loop-taker.pass in
     let learned : IsPermutation knows.off knows.given = c.learn_as.ensures.rule.1.0 in
-    subst (λ (l : List Taker). IsPermutation (taken_by l) c.args.giver.given) (sym same)
+    subst (λ (l : List Taker). IsPermutation (taken_by l) c.args.giver.given) (sym (all_back c))
     (IsPermutation-trans (taken_by before.0) knows.off c.args.giver.given (IsPermutation-sym knows.off (taken_by before.0) before.2)
     (subst (λ l. IsPermutation knows.off l) c.loop-taker.invariant.given learned))
 
 pub returns-clause-rising : goal.returns-clause-rising
-returns-clause-rising c =
-    let left = c.loop-taker.takers in
-    let before = c.loop-taker.invariant.back in
-    let end = c.in_default.ensures in
-    let empty : left.items ≡ [] = end.items ∙ append-nil c.pop.new.self.items ∙ end.rest ∙ ap (λ n. take (n - 1) left.items) end.cases.0 in
-    subst (λ (l : List Taker). All (λ (t : Taker). IsRising t.taken) l) (sym (all_back c.args.takers.items left.items before.0 before.1 empty)) before.3
+returns-clause-rising c = subst (λ (l : List Taker). All (λ (t : Taker). IsRising t.taken) l) (sym (all_back c)) c.loop-taker.invariant.back.3
 
 pub returns-clause-answered : goal.returns-clause-answered
-returns-clause-answered c =
-    let left = c.loop-taker.takers in
-    let before = c.loop-taker.invariant.back in
-    let end = c.in_default.ensures in
-    let empty : left.items ≡ [] = end.items ∙ append-nil c.pop.new.self.items ∙ end.rest ∙ ap (λ n. take (n - 1) left.items) end.cases.0 in
-    subst (λ (l : List Taker). All (λ (t : Taker). off t ≡ t.taken) l) (sym (all_back c.args.takers.items left.items before.0 before.1 empty)) before.4
+returns-clause-answered c = subst (λ (l : List Taker). All (λ (t : Taker). off t ≡ t.taken) l) (sym (all_back c)) c.loop-taker.invariant.back.4
 
 pub returns-clause-empty : goal.returns-clause-empty
 returns-clause-empty c queue holds =
