@@ -1,12 +1,11 @@
 -- No more copies are in a queue than its batches may have.
-use Rattle.std.proofs.Common.{◌≡◌, ℕ, zero, suc, ◌+◌, ◌*◌, ◌<◌, ◌≤◌, Bool, true, false, List, [], ◌∷◌, ◌++◌, length, map, All, sym, refl, ap, ◌∙◌, subst, ⊎_elim, length-append, arith, cond}
+use Rattle.std.proofs.Common.{◌≡◌, ℕ, ◌*◌, ◌<◌, ◌≤◌, Bool, true, false, List, [], ◌∷◌, ◌++◌, length, map, All, sym, refl, ◌∙◌, subst, ⊎_elim, arith, cond}
 use Rattle.std.proofs.lemmas.Bool.{cases_lt}
 use Rattle.std.proofs.lemmas.List.Elements.{All-nil, All-cons, All-head, All-append, All-map, All-weaker, All-contains}
 use Rattle.hand_core.specs.declared.copy_queue.Message.{Message}
 use Rattle.hand_core.specs.declared.copy_queue.Message.TheVariants.{Copies, Mark}
-use Rattle.hand_core.specs.declared.copy_queue.Account.{Account}
-use Rattle.hand_core.specs.CopyEnds.{DoneSender, DoneTaker, Holds, copies_in_one, copies_in}
-use Rattle.hand_core.specs.CopyQueue.{sender_of, messages_of, sent_by, all_sent}
+use Rattle.hand_core.specs.CopyEnds.{DoneSender, DoneTaker, copies_in_one, copies_in}
+use Rattle.hand_core.specs.CopyQueue.{sender_of, messages_of, sent_by}
 use Rattle.hand_core.specs.CopyRoom.{IsAmong, HoldsWith}
 use Rattle.hand_core.specs.Batches.{Batch}
 use Rattle.hand_core.proofs.Messages.{messages-append, messages_own}

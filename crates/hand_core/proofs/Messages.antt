@@ -1,6 +1,6 @@
 -- The messages of one sender among those of all.
 use Rattle.std.proofs.Common.{◌≡◌, ◌≢◌, ℕ, zero, suc, ◌+◌, ◌<◌, Bool, true, false, true≢false, List, [], ◌∷◌, ◌++◌, map, sym, refl, ap, ◌∙◌, ◌≤◌, append-nil, arith, cond}
-use Rattle.std.specs.Prelude.{◌==◌, ◌||◌, ◌&&◌, take}
+use Rattle.std.specs.Prelude.{◌==◌, ◌||◌, take}
 use Rattle.std.specs.List.{list_all, range_with_len}
 use Rattle.std.proofs.lemmas.Bool.{eq-eqb, ne_eqb}
 use Rattle.std.proofs.lemmas.List.Elements.{filter-append}

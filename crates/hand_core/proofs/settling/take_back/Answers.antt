@@ -12,7 +12,7 @@ use Rattle.hand_core.proofs.Hands.{all_answered}
 use Rattle.hand_core.proofs.Totals.{list_back}
 use Rattle.hand_core.proofs.PageSteps.{joins, settles}
 use Rattle.hand_core.proofs.settling.take_back.Goals as goal
-use Rattle.hand_core.proofs.settling.take_back.Goals.{After-learn_as}
+use Rattle.hand_core.proofs.settling.take_back.Goals.{After-drop-takers}
 
 pub absorb-requires-clause-rule : goal.absorb-requires-clause-rule
 absorb-requires-clause-rule c =
@@ -80,7 +80,7 @@ learn_as-requires-clause-rule c =
     let takers = ap (λ (g : Giver). g.takers) c.giver.view_is in settles _ _ old.gives (omega arith) (omega arith) (omega arith)
 
 -- every taker came back
-all_back : (c : After-learn_as) → c.args.takers.items ≡ c.loop-taker.invariant.back.0
+all_back : (c : After-drop-takers) → c.args.takers.items ≡ c.loop-taker.invariant.back.0
 all_back c =
     let left = c.loop-taker.takers in
     let end = c.in_default.ensures in

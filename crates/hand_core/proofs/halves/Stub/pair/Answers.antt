@@ -1,4 +1,4 @@
-use Rattle.std.proofs.Common.{rules, ◌≡◌, ℕ, ap, refl}
+use Rattle.std.proofs.Common.{rules, ◌≡◌, ap}
 use Rattle.atomic_table.specs.Table.{Me}
 use Rattle.frame_core.specs.declared.record.Record.{Record}
 use Rattle.hand_core.specs.declared.rule.Part.{Part}
