@@ -14,7 +14,7 @@ each_set {V} holds ends number w this others other u at =
     (λ (x : (other ≢ number) × (get_elem? ends other ≡ some u)). others other u x.0 x.1)
     (at_set ends number other w u at)
 
--- it holds of each end after one was added behind them
+-- it holds of each end after one was added as the last
 pub each_new : {V : Type 0} (holds : ℕ → V → Type 0) (ends : List V) (new : V) → Each ends holds → holds (length ends) new → Each (ends ++ new ∷ []) holds
 each_new holds [] new old fresh zero u at = subst (holds 0) (some-injective new u at) fresh
 each_new holds [] new old fresh (suc number) u at = absurd (some-ne-none u (sym at))

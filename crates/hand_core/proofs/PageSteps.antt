@@ -187,13 +187,13 @@ pages_off number v h queue ends plain share r at =
     let next : HasSerialsFrom (r.base + length r.off) h.items =
     serials_after r.base r.off h.items (serials_front r.base (r.off ++ h.items) (pages_of rest) serials) in
     let below : All (λ (q : IsolatedPage). q.serial < r.base + length r.off) v.off =
-    all_of_end (λ q. q.serial < r.base + length r.off) ends number v at
+    all_of_end ends number v at (λ q. q.serial < r.base + length r.off)
     (All-permutation (λ (q : IsolatedPage). q.serial < r.base + length r.off) r.off (all_off ends) (IsPermutation-sym (all_off ends) r.off r.together)
     (serials_below r.base r.off (serials_front r.base r.off (pages_of r.waiting) r.serials))) in
     let rises : IsRising (v.off ++ h.items) = rising-append v.off (r.base + length r.off) h.items (r.rising number v at plain) below next in (
       ordered r.giver r.base (r.off ++ h.items) rest r.marks serials front.2
           (IsPermutation-trans (all_off (set ends number w)) (all_off ends ++ h.items) (r.off ++ h.items)
-          (off_longer ends number v w h.items at refl)
+          (off_longer ends number v at w h.items refl)
           (IsPermutation-append_left h.items (all_off ends) r.off r.together))
           (λ some. absurd (nothing (sym first ∙ r.done (omega arith))))
           (total_same (λ u. u.shares) ends number v w at refl ∙ r.shares)

@@ -1,18 +1,16 @@
 -- What all ends of a hand-over know together, and how one end's step changes it.
 use Rattle.std.proofs.Common.{◌≡◌, ◌≢◌, ℕ, zero, suc, ◌+◌, ◌≤◌, List, [], ◌∷◌, ◌++◌, set, All, sym, refl, ap, ◌∙◌, subst, append_assoc, append-nil, arith}
 use Rattle.std.specs.List.Sorted.{IsPermutation}
-use Rattle.std.proofs.lemmas.List.Sorted.{IsPermutation-refl, IsPermutation-sym, IsPermutation-trans, IsPermutation-append_comm, IsPermutation-append_right}
+use Rattle.std.proofs.lemmas.List.Sorted.{IsPermutation-refl, IsPermutation-sym, IsPermutation-trans, IsPermutation-append_comm, IsPermutation-append_left, IsPermutation-append_right, All-permutation}
 use mathlib.Core.Option.{some, some-ne-none, some-injective}
 use lib.ListN.{get_elem?}
 use Rattle.frame_core.specs.Page.{IsolatedPage}
 use Rattle.hand_core.specs.declared.page_queue.Known.{Known}
 use Rattle.hand_core.specs.PageQueue.{all_off}
 use Rattle.hand_core.specs.Queue.{Each, total}
-use Rattle.hand_core.proofs.Serials.{all_front, all_back}
-
--- equal lists have the same pages
-pub same_is : (xs ys : List IsolatedPage) → xs ≡ ys → IsPermutation xs ys
-same_is xs ys e = subst (λ l. IsPermutation xs l) e (IsPermutation-refl xs)
+use Rattle.atomic_table.proofs.Lists.{set_else, set_again}
+use Rattle.std.proofs.lemmas.List.{set_comm}
+use Rattle.hand_core.proofs.Serials.{all_front}
 
 -- a total after one end changed
 pub total_set : {V : Type 0} (f : V → ℕ) (ends : List V) (number : ℕ) (v w : V) → get_elem? ends number ≡ some v → total f (set ends number w) + f v ≡ total f ends + f w
@@ -63,61 +61,55 @@ pub off_new : (ends : List Known) (new : Known) → new.off ≡ [] → all_off (
 off_new [] new e = append-nil new.off ∙ e
 off_new (x ∷ ends) new e = ap (λ l. x.off ++ l) (off_new ends new e)
 
-after : (first rest more : List IsolatedPage) → IsPermutation ((first ++ more) ++ rest) ((first ++ rest) ++ more)
-after first rest more =
-    IsPermutation-trans ((first ++ more) ++ rest) (first ++ (rest ++ more)) ((first ++ rest) ++ more)
-    (IsPermutation-trans ((first ++ more) ++ rest) (first ++ (more ++ rest)) (first ++ (rest ++ more))
-    (same_is ((first ++ more) ++ rest) (first ++ (more ++ rest)) (append_assoc first more rest))
-    (IsPermutation-append_right first (more ++ rest) (rest ++ more) (IsPermutation-append_comm more rest)))
-    (same_is (first ++ (rest ++ more)) ((first ++ rest) ++ more) (sym (append_assoc first rest more)))
+-- the pages of one end come first, and those of the others after them
+apart : (ends : List Known) (number : ℕ) (v : Known) → get_elem? ends number ≡ some v → (rest : List IsolatedPage) × ((w : Known) → IsPermutation (all_off (set ends number w)) (w.off ++ rest))
+apart [] number v at = absurd (some-ne-none v (sym at))
+apart (x ∷ ends) zero v at = (all_off ends, λ w. IsPermutation-refl (w.off ++ all_off ends))
+apart (x ∷ ends) (suc number) v at =
+    let inner = apart ends number v at in
+    let behind : (xs : List IsolatedPage) → IsPermutation (x.off ++ (xs ++ inner.0)) (xs ++ (x.off ++ inner.0)) = λ xs.
+    subst (λ l. IsPermutation l (xs ++ (x.off ++ inner.0))) (append_assoc x.off xs inner.0)
+    (subst (IsPermutation ((x.off ++ xs) ++ inner.0)) (append_assoc xs x.off inner.0) (IsPermutation-append_left inner.0 (x.off ++ xs) (xs ++ x.off) (IsPermutation-append_comm x.off xs))) in (
+      x.off ++ inner.0,
+      λ w. IsPermutation-trans (x.off ++ all_off (set ends number w)) (x.off ++ (w.off ++ inner.0)) (w.off ++ (x.off ++ inner.0))
+          (IsPermutation-append_right x.off (all_off (set ends number w)) (w.off ++ inner.0) (inner.1 w)) (behind w.off),
+    )
 
--- an end's list grows by more pages
-pub off_longer : (ends : List Known) (number : ℕ) (v w : Known) (more : List IsolatedPage) → get_elem? ends number ≡ some v → w.off ≡ v.off ++ more
-    → IsPermutation (all_off (set ends number w)) (all_off ends ++ more)
-off_longer [] number v w more at e = absurd (some-ne-none v (sym at))
-off_longer (x ∷ ends) zero v w more at e =
-    let is : w.off ≡ x.off ++ more = e ∙ ap (λ (u : Known). u.off ++ more) (sym (some-injective x v at)) in
-    subst (λ l. IsPermutation (l ++ all_off ends) ((x.off ++ all_off ends) ++ more)) (sym is) (after x.off (all_off ends) more)
-off_longer (x ∷ ends) (suc number) v w more at e =
-    subst (λ l. IsPermutation (x.off ++ all_off (set ends number w)) l) (sym (append_assoc x.off (all_off ends) more))
-    (IsPermutation-append_right x.off (all_off (set ends number w)) (all_off ends ++ more) (off_longer ends number v w more at e))
+module _ (ends : List Known) (number : ℕ) (v : Known) (at : get_elem? ends number ≡ some v) where
+  abbrev of_others : List IsolatedPage
+  of_others = (apart ends number v at).0
 
--- an end's list is given away
-off_emptied : (ends : List Known) (number : ℕ) (v w : Known) → get_elem? ends number ≡ some v → w.off ≡ []
-    → IsPermutation (all_off ends) (all_off (set ends number w) ++ v.off)
-off_emptied [] number v w at e = absurd (some-ne-none v (sym at))
-off_emptied (x ∷ ends) zero v w at e =
-    let is : x.off ≡ v.off = ap (λ (u : Known). u.off) (some-injective x v at) in
-    subst (λ l. IsPermutation (x.off ++ all_off ends) ((l ++ all_off ends) ++ v.off)) (sym e)
-    (subst (λ l. IsPermutation (l ++ all_off ends) (all_off ends ++ v.off)) (sym is) (IsPermutation-append_comm v.off (all_off ends)))
-off_emptied (x ∷ ends) (suc number) v w at e =
-    subst (λ l. IsPermutation (x.off ++ all_off ends) l) (sym (append_assoc x.off (all_off (set ends number w)) v.off))
-    (IsPermutation-append_right x.off (all_off ends) (all_off (set ends number w) ++ v.off) (off_emptied ends number v w at e))
+  here : IsPermutation (all_off ends) (v.off ++ of_others)
+  here = subst (λ l. IsPermutation (all_off l) (v.off ++ of_others)) (set_again ends number v at) ((apart ends number v at).1 v)
+
+  back : IsPermutation (v.off ++ of_others) (all_off ends)
+  back = IsPermutation-sym (all_off ends) (v.off ++ of_others) here
+
+  -- an end's list grows by more pages
+  pub off_longer : (w : Known) (more : List IsolatedPage) → w.off ≡ v.off ++ more → IsPermutation (all_off (set ends number w)) (all_off ends ++ more)
+  off_longer w more e =
+      IsPermutation-trans (all_off (set ends number w)) (w.off ++ of_others) (all_off ends ++ more) ((apart ends number v at).1 w)
+      (subst (λ l. IsPermutation l (all_off ends ++ more)) (sym (ap (λ l. l ++ of_others) e ∙ append_assoc v.off more of_others))
+      (IsPermutation-trans (v.off ++ (more ++ of_others)) (v.off ++ (of_others ++ more)) (all_off ends ++ more)
+      (IsPermutation-append_right v.off (more ++ of_others) (of_others ++ more) (IsPermutation-append_comm more of_others))
+      (subst (λ l. IsPermutation l (all_off ends ++ more)) (append_assoc v.off of_others more) (IsPermutation-append_left more (v.off ++ of_others) (all_off ends) back))))
+
+  -- what holds of all pages that were taken holds of those of each end
+  pub all_of_end : (holds : IsolatedPage → Type 0) → All holds (all_off ends) → All holds v.off
+  all_of_end holds every = all_front holds v.off of_others (All-permutation holds (all_off ends) (v.off ++ of_others) here every)
 
 -- one end's list goes to another end
 pub off_joined : (ends : List Known) (number other : ℕ) (v u both none : Known) → other ≢ number → get_elem? ends number ≡ some v → get_elem? ends other ≡ some u
     → both.off ≡ v.off ++ u.off → none.off ≡ [] → IsPermutation (all_off (set (set ends number both) other none)) (all_off ends)
-off_joined [] number other v u both none apart at at_other joined empty = absurd (some-ne-none v (sym at))
-off_joined (x ∷ ends) zero zero v u both none apart at at_other joined empty = absurd (apart refl)
-off_joined (x ∷ ends) zero (suc other) v u both none apart at at_other joined empty =
-    let is : both.off ≡ x.off ++ u.off = joined ∙ ap (λ (y : Known). y.off ++ u.off) (sym (some-injective x v at)) in
-    let rest = all_off (set ends other none) in
-    let moved : IsPermutation (u.off ++ rest) (all_off ends) =
-    IsPermutation-trans (u.off ++ rest) (rest ++ u.off) (all_off ends) (IsPermutation-append_comm u.off rest)
-    (IsPermutation-sym (all_off ends) (rest ++ u.off) (off_emptied ends other u none at_other empty)) in
-    subst (λ l. IsPermutation (l ++ rest) (x.off ++ all_off ends)) (sym is)
-    (subst (λ l. IsPermutation l (x.off ++ all_off ends)) (sym (append_assoc x.off u.off rest))
-    (IsPermutation-append_right x.off (u.off ++ rest) (all_off ends) moved))
-off_joined (x ∷ ends) (suc number) zero v u both none apart at at_other joined empty =
-    let is : x.off ≡ u.off = ap (λ (y : Known). y.off) (some-injective x u at_other) in
-    let grown = all_off (set ends number both) in
-    subst (λ l. IsPermutation (l ++ grown) (x.off ++ all_off ends)) (sym empty)
-    (subst (λ l. IsPermutation grown (l ++ all_off ends)) (sym is)
-    (IsPermutation-trans grown (all_off ends ++ u.off) (u.off ++ all_off ends) (off_longer ends number v both u.off at joined)
-    (IsPermutation-append_comm (all_off ends) u.off)))
-off_joined (x ∷ ends) (suc number) (suc other) v u both none apart at at_other joined empty =
-    IsPermutation-append_right x.off (all_off (set (set ends number both) other none)) (all_off ends)
-    (off_joined ends number other v u both none (λ same. apart (ap suc same)) at at_other joined empty)
+off_joined ends number other v u both none differ at at_other joined empty =
+    let gone = set ends other none in
+    let rest = of_others ends other u at_other in
+    subst (λ l. IsPermutation (all_off l) (all_off ends)) (set_comm ends other number none both differ)
+    (IsPermutation-trans (all_off (set gone number both)) (all_off gone ++ u.off) (all_off ends)
+    (off_longer gone number v (set_else ends other number none (λ e. differ (sym e)) ∙ at) both u.off joined)
+    (IsPermutation-trans (all_off gone ++ u.off) (rest ++ u.off) (all_off ends)
+    (IsPermutation-append_left u.off (all_off gone) rest (subst (λ l. IsPermutation (all_off gone) (l ++ rest)) empty ((apart ends other u at_other).1 none)))
+    (IsPermutation-trans (rest ++ u.off) (u.off ++ rest) (all_off ends) (IsPermutation-append_comm rest u.off) (back ends other u at_other))))
 
 off_nobody : (ends : List Known) → total (λ u. u.shares) ends ≡ 0 → Each ends (λ _ u. u.shares ≡ 0 → u.off ≡ []) → all_off ends ≡ []
 off_nobody [] none idle = refl
@@ -135,12 +127,6 @@ off_alone (x ∷ ends) zero v at whole idle =
 off_alone (x ∷ ends) (suc number) v at whole idle =
     let most = total_at_most (λ (u : Known). u.shares) ends number v at in
     ap (λ l. l ++ all_off ends) (idle 0 x refl (omega arith)) ∙ off_alone ends number v at (omega arith) (λ j u at. idle (suc j) u at)
-
--- what holds of all pages that were taken holds of those of each end
-pub all_of_end : (holds : IsolatedPage → Type 0) (ends : List Known) (number : ℕ) (v : Known) → get_elem? ends number ≡ some v → All holds (all_off ends) → All holds v.off
-all_of_end holds [] number v at every = absurd (some-ne-none v (sym at))
-all_of_end holds (x ∷ ends) zero v at every = subst (λ (u : Known). All holds u.off) (some-injective x v at) (all_front holds x.off (all_off ends) every)
-all_of_end holds (x ∷ ends) (suc number) v at every = all_of_end holds ends number v at (all_back holds x.off (all_off ends) every)
 
 -- a list that comes back is added to those that came back before
 pub list_back : (mine his before : List IsolatedPage) → IsPermutation mine before → IsPermutation (mine ++ his) (his ++ before)
