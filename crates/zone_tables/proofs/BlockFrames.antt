@@ -1,6 +1,6 @@
 -- A block is handed out or taken back: its frames, and that the tables still stand for the zone.
 use Rattle.std.proofs.Common.{◌≡◌, ◌≢◌, ℕ, zero, suc, ◌+◌, ◌^◌, ◌<◌, ◌≤◌, Bool, true, false, List, length, ◌⊎◌, inl, inr, refl, sym, ap, ◌∙◌, arith}
-use Rattle.std.specs.Prelude.{Option, Some, None, slice_get, slice_set, nat_eq, nat_le, ◌&&◌, ◌||◌, if◌then◌else◌, IsTrue}
+use Rattle.std.specs.Prelude.{Option, Some, None, slice_get, slice_set, nat_eq, nat_le, ◌&&◌, ◌||◌, IsTrue}
 use Rattle.std.specs.FinMap as map
 use Rattle.std.proofs.Math.Bool.{or-false}
 use Rattle.std.proofs.lemmas.Bool.{and_parts, both_ways, cases_Bool, eq-eqb, eqb-true, leb-true, or_left}
@@ -12,31 +12,30 @@ use Rattle.frame_core.proofs.Searches.{count_from_all, count_from_same, lowest_s
 use Rattle.frame_core.specs.Below.{lowest, count_from, some_below}
 use Rattle.frame_core.specs.Order.{is_aligned}
 use Rattle.frame_core.specs.declared.state.FrameState.{FrameState}
-use Rattle.frame_core.specs.declared.state.FrameState.TheVariants.{Free, Holds, Source, Target, Huge}
+use Rattle.frame_core.specs.declared.state.FrameState.TheVariants.{Free, Huge}
 use Rattle.frame_core.specs.declared.record.Record.TheVariants.{TakeHuge, GiveHuge}
 use Rattle.frame_core.specs.Moves.{out}
-use Rattle.scan_core.specs.Frames.{free_at, huge_at, is_huge_state}
+use Rattle.scan_core.specs.Frames.{free_at, huge_at, is_huge_state, Frames}
 use Rattle.scan_core.specs.NumberSet.{all_from}
 use Rattle.scan_core.specs.Runs as runs
 use Rattle.scan_core.specs.Runs.{with_run}
-use Rattle.state_core.specs.declared.placement.Placement.{Placement}
-use Rattle.state_core.specs.declared.placement.Placement.TheVariants.{At, Moving}
 use Rattle.state_core.specs.HandingOut.{has_block, is_order, is_run, lowest_run, block_taken, block_given}
-use Rattle.state_core.specs.ZoneState.{ZoneState, frame_count, takes_up, covers, is_held, is_free}
+use Rattle.state_core.specs.ZoneState.{ZoneState, frame_count, covers, is_held, is_free}
 use Rattle.state_core.proofs.Entries.{get_remove_same, get_remove_other}
 use Rattle.state_core.proofs.HandingOut as blocks
 use Rattle.state_core.proofs.HandingOut.{in_block, in_block_from, in_block_parts, held_of}
 use Rattle.state_core.proofs.Places.{unheld_frame, untaken}
 use Rattle.zone_tables.specs.declared.zone.ZoneTables.TheInside.{Inside}
-use Rattle.zone_tables.specs.Fits.{state_by, FramesFit}
+use Rattle.zone_tables.specs.Fits.{FramesFit}
 use Rattle.zone_tables.specs.HandedOut.{order_of, held_at}
 use Rattle.zone_tables.specs.History.{History, told}
-use Rattle.zone_tables.specs.Tabulated.{tabulated}
 use Rattle.zone_tables.specs.Sound.{IsSound, state_of}
 use Rattle.zone_tables.proofs.BlockOrders.{order_here, order_there}
-use Rattle.zone_tables.proofs.HeldWords.{off_block, contents_taken, contents_given}
-use Rattle.zone_tables.proofs.SearchesAndCounts.{free_seen, order_past, orders_seen}
-use Rattle.zone_tables.proofs.Tabulating.{tabulated_insert, tabulated_remove}
+use Rattle.zone_tables.proofs.HeldWords.{off_block, orders_put, contents_put, flag_here, flag_there, held_contents}
+use Rattle.zone_tables.proofs.SearchesAndCounts.{free_seen, orders_seen}
+use Rattle.zone_tables.proofs.Placement.{state_taken}
+use Rattle.zone_tables.specs.Contents.{words_held}
+use Rattle.zone_tables.proofs.Facts.{Becomes, becomes}
 
 -- the states of frames after a run of them changed together
 length_with_run : (states : List FrameState) (first n : ℕ) (state : FrameState) → length (with_run states first n state) ≡ length states
@@ -58,19 +57,6 @@ off_run states first zero state k away = refl
 off_run states first (suc n) state k away =
     let other : k ≢ first + n = elim away [ inl under ↦ omega arith | inr above ↦ omega arith ] in
     slice_get_set_other (with_run states first n state) (first + n) k state other ∙ off_run states first n state k (elim away [ inl under ↦ inl under | inr above ↦ inr (omega arith) ])
-
--- the state that a page puts a frame in says that the page takes it up
-state_takes : (page : ℕ) (o : Option Placement) (frame : ℕ) (state : FrameState) → state_by page o frame ≡ Some state → takes_up o frame ≡ true
-state_takes page None frame state e = cc
-state_takes page (Some (At f)) frame state e = by_test (nat_eq frame f) e where
-  by_test : (b : Bool) → (if b then Some (Holds page) else None) ≡ Some state → b ≡ true
-  by_test true e = refl
-  by_test false e = cc
-state_takes page (Some (Moving serial source target)) frame state e = by_tests (nat_eq frame source) (nat_eq frame target) e where
-  by_tests : (a b : Bool) → (if a then Some (Source serial) else if b then Some (Target serial) else None) ≡ Some state → (a || b) ≡ true
-  by_tests true b e = refl
-  by_tests false true e = refl
-  by_tests false false e = cc
 
 pub order_held : (o : Option ℕ) (order : ℕ) → is_order o order ≡ true → o ≡ Some order
 order_held None order e = cc
@@ -116,7 +102,7 @@ module _ {W : ℕ} (z : Inside W) (v : ZoneState) (sound : IsSound z v) (view : 
   held_states = record {
     count = length_with_run z.frames.states first (2 ^ order) Huge ∙ sound.frames.count;
     of_page = λ page frame state e. elim (cases_Bool (in_block first order frame)) [
-      | inl here ↦ absurd (both_ways _ (untaken v sound.valid frame (blocks.block_free v first order run frame here) page) (state_takes page (map.get v.placement page) frame state e))
+      | inl here ↦ absurd (both_ways _ (untaken v sound.valid frame (blocks.block_free v first order run frame here) page) (state_taken page (map.get v.placement page) frame state e))
       | inr there ↦ off_run z.frames.states first (2 ^ order) Huge frame (off_block first order frame there) ∙ sound.frames.of_page page frame state e
     ];
     of_block = λ frame h held. elim (cases_Bool (in_block first order frame)) [
@@ -132,10 +118,10 @@ module _ {W : ℕ} (z : Inside W) (v : ZoneState) (sound : IsSound z v) (view : 
   }
 
   -- the fields after the block was handed out
-  abbrev pub after_take : History → Inside W
+  abbrev after_take : History → Inside W
   after_take history = record z { frames = record z.frames { states = with_run z.frames.states first (2 ^ order) Huge }; handed_out = slice_set z.handed_out first (Some order); cleared = slice_set z.cleared first false; history = history }
 
-  pub take_sound : length (out v.records) < v.room → 3 ≤ order → order ≤ 9 → (history : History) → IsSound (after_take history) (block_taken v first order)
+  take_sound : length (out v.records) < v.room → 3 ≤ order → order ≤ 9 → (history : History) → IsSound (after_take history) (block_taken v first order)
   take_sound spare low high history = record {
     valid = blocks.valid_block_taken v first order run sound.valid spare low high;
     orders = length-set z.handed_out first (Some order) ∙ sound.orders;
@@ -153,14 +139,21 @@ module _ {W : ℕ} (z : Inside W) (v : ZoneState) (sound : IsSound z v) (view : 
   take_first : first < length z.handed_out
   take_first = omega (arith, take_within, pow_pos order)
 
-  pub take_view : (history : History) → history ≡ told z.history (TakeHuge first order) → state_of (after_take history) ≡ block_taken v first order
+  take_view : (history : History) → history ≡ told z.history (TakeHuge first order) → state_of (after_take history) ≡ block_taken v first order
   take_view history is =
-      let orders = slice_set z.handed_out first (Some order) in
-      let same = length-set z.handed_out first (Some order) in
-      let table = ap (tabulated (order_of orders)) same ∙ tabulated_insert (order_of z.handed_out) (order_of orders) (length z.handed_out) first order (order_past z.handed_out) (λ q h. order_past orders q (omega (arith, h, same))) (order_here z.handed_out first (Some order) take_first) (order_there z.handed_out first (Some order) take_first) in
+      let table = orders_put z first take_first (Some order) in
+      let zeros = flag_here z.cleared first false (omega (arith, take_first, sound.orders, sound.cleared)) in
+      let contents = contents_put z first take_first (Some order) (slice_set z.cleared first false) (λ q. flag_there z.cleared first q false)
+      ∙ ap (λ b. map.insert (held_contents z) first (words_held W z.words b first order)) zeros in
       let here : state_of (after_take history) ≡ block_taken (state_of z) first order =
-      λ i. record (state_of z) { records = (is i).records; room = (is i).room; round = (is i).round; handed_out = table i; contents = contents_taken z first take_first order (omega (arith, take_first, sound.orders, sound.cleared)) i } in
+      λ i. record (state_of z) { records = (is i).records; room = (is i).room; round = (is i).round; handed_out = table i; contents = contents i } in
       here ∙ ap (λ (s : ZoneState). block_taken s first order) view
+
+  pub take_holds : {frames : Frames} {orders : List (Option ℕ)} {cleared : List Bool} {history : History} → length (out v.records) < v.room → 3 ≤ order → order ≤ 9 →
+      frames ≡ record z.frames { states = with_run z.frames.states first (2 ^ order) Huge } → orders ≡ slice_set z.handed_out first (Some order) → cleared ≡ slice_set z.cleared first false →
+      history ≡ told z.history (TakeHuge first order) → Becomes (record z { frames = frames; handed_out = orders; cleared = cleared; history = history }) (block_taken v first order)
+  take_holds {history = history} spare low high f o c is =
+      becomes {ideal = after_take history} (λ i. record z { frames = f i; handed_out = o i; cleared = c i; history = history }) (take_view history is) (take_sound spare low high history)
 
 -- a block is taken back
 module _ {W : ℕ} (z : Inside W) (v : ZoneState) (sound : IsSound z v) (view : state_of z ≡ v) (first order : ℕ) (at : map.get v.handed_out first ≡ Some order) where
@@ -198,7 +191,7 @@ module _ {W : ℕ} (z : Inside W) (v : ZoneState) (sound : IsSound z v) (view : 
   freed_states = record {
     count = length_with_run z.frames.states first (2 ^ order) Free ∙ sound.frames.count;
     of_page = λ page frame state e. elim (cases_Bool (in_block first order frame)) [
-      | inl here ↦ absurd (both_ways _ (blocks.unused_in_block v sound.valid first order at page frame here) (state_takes page (map.get v.placement page) frame state e))
+      | inl here ↦ absurd (both_ways _ (blocks.unused_in_block v sound.valid first order at page frame here) (state_taken page (map.get v.placement page) frame state e))
       | inr there ↦ off_run z.frames.states first (2 ^ order) Free frame (off_block first order frame there) ∙ sound.frames.of_page page frame state e
     ];
     of_block = λ frame h held. elim (cases_Bool (in_block first order frame)) [
@@ -214,10 +207,10 @@ module _ {W : ℕ} (z : Inside W) (v : ZoneState) (sound : IsSound z v) (view : 
   }
 
   -- the fields after the block was taken back
-  abbrev pub after_give : History → Inside W
+  abbrev after_give : History → Inside W
   after_give history = record z { frames = record z.frames { states = with_run z.frames.states first (2 ^ order) Free }; handed_out = slice_set z.handed_out first None; history = history }
 
-  pub give_sound : length (out v.records) < v.room → (history : History) → IsSound (after_give history) (block_given v first order)
+  give_sound : length (out v.records) < v.room → (history : History) → IsSound (after_give history) (block_given v first order)
   give_sound spare history = record {
     valid = blocks.valid_block_given v sound.valid first order at spare;
     orders = length-set z.handed_out first None ∙ sound.orders;
@@ -232,11 +225,15 @@ module _ {W : ℕ} (z : Inside W) (v : ZoneState) (sound : IsSound z v) (view : 
     movable = record { count = sound.movable.count; each = sound.movable.each };
   }
 
-  pub give_view : (history : History) → history ≡ told z.history (GiveHuge first order) → state_of (after_give history) ≡ block_given v first order
+  give_view : (history : History) → history ≡ told z.history (GiveHuge first order) → state_of (after_give history) ≡ block_given v first order
   give_view history is =
-      let orders = slice_set z.handed_out first None in
-      let same = length-set z.handed_out first None in
-      let table = ap (tabulated (order_of orders)) same ∙ tabulated_remove (order_of z.handed_out) (order_of orders) (length z.handed_out) first (order_past z.handed_out) (λ q h. order_past orders q (omega (arith, h, same))) (order_here z.handed_out first None give_first) (order_there z.handed_out first None give_first) in
+      let table = orders_put z first give_first None in
+      let contents = contents_put z first give_first None z.cleared (λ q ne. refl) in
       let here : state_of (after_give history) ≡ block_given (state_of z) first order =
-      λ i. record (state_of z) { records = (is i).records; room = (is i).room; round = (is i).round; handed_out = table i; contents = contents_given z first give_first i } in
+      λ i. record (state_of z) { records = (is i).records; room = (is i).room; round = (is i).round; handed_out = table i; contents = contents i } in
       here ∙ ap (λ (s : ZoneState). block_given s first order) view
+
+  pub give_holds : {frames : Frames} {orders : List (Option ℕ)} {history : History} → length (out v.records) < v.room →
+      frames ≡ record z.frames { states = with_run z.frames.states first (2 ^ order) Free } → orders ≡ slice_set z.handed_out first None →
+      history ≡ told z.history (GiveHuge first order) → Becomes (record z { frames = frames; handed_out = orders; history = history }) (block_given v first order)
+  give_holds {history = history} spare f o is = becomes {ideal = after_give history} (λ i. record z { frames = f i; handed_out = o i; history = history }) (give_view history is) (give_sound spare history)

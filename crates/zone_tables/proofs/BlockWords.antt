@@ -1,5 +1,5 @@
 -- The words of a block are read or written: the tables still stand for the zone.
-use Rattle.std.proofs.Common.{◌≡◌, ℕ, ◌+◌, ◌*◌, ◌^◌, ◌≤◌, Bool, true, List, [], ◌++◌, length, sym, ap, subst, ◌∙◌, arith}
+use Rattle.std.proofs.Common.{◌≡◌, ℕ, ◌+◌, ◌*◌, ◌^◌, ◌≤◌, Bool, true, List, [], ◌++◌, length, sym, ap, subst, ◌∙◌, arith, refl}
 use Rattle.std.specs.Prelude.{Some, slice_set}
 use Rattle.std.specs.FinMap as map
 use Rattle.std.specs.List.{All}
@@ -17,6 +17,7 @@ use Rattle.zone_tables.specs.Fits.{WordsFit}
 use Rattle.zone_tables.specs.Sound.{IsSound, state_of}
 use Rattle.zone_tables.specs.declared.zone.ZoneTables.TheInside.{Inside}
 use Rattle.zone_tables.proofs.HeldWords.{block_view, block_sound, held_is, put_again}
+use Rattle.zone_tables.proofs.Facts.{Becomes, becomes}
 
 -- each frame has a row of a page's words
 pub rows_sized : (rows : List (List ℕ)) (v : ZoneState) (size : ℕ) → WordsFit rows v → v.page_size ≡ size → All (λ row. length row ≡ size) rows
@@ -46,21 +47,17 @@ module _ {W : ℕ} (z : Inside W) (v : ZoneState) (sound : IsSound z v) (view : 
     pub words_read : block_words rows first (2 ^ order) ≡ contents_of v first
     words_read = has.here ∙ held_is z v sound view first order at
 
-    pub read_view : state_of after ≡ v
-    read_view =
-        put_view (words_held W z.words (true_at z.cleared first) first order) has
+    pub read_holds : All (λ row. length row ≡ W) rows → Becomes after v
+    read_holds sized = becomes refl
+        (put_view (words_held W z.words (true_at z.cleared first) first order) has
         ∙ ap (λ (m : map.FinMap nat_cmp (List ℕ)). record v { contents = m })
-        (ap (map.insert v.contents first) (held_is z v sound view first order at) ∙ put_again v.contents first (contents_of v first) (has_contents v sound.valid first order at))
-
-    pub read_sound : All (λ row. length row ≡ W) rows → IsSound after v
-    read_sound sized = put_sound (words_held W z.words (true_at z.cleared first) first order) has sized v.contents sound.valid
+        (ap (map.insert v.contents first) (held_is z v sound view first order at) ∙ put_again v.contents first (contents_of v first) (has_contents v sound.valid first order at)))
+        (put_sound (words_held W z.words (true_at z.cleared first) first order) has sized v.contents sound.valid)
 
   -- values were put among its words
   module _ (from : ℕ) (values : List ℕ) (has : HasBlock z.words rows first (2 ^ order) (put_from (contents_of v first) from values)) where
-    pub write_view : state_of after ≡ contents_written v first from values
-    write_view = put_view (put_from (contents_of v first) from values) has
-
-    pub write_sound : from + length values ≤ 2 ^ order * v.page_size → All (λ row. length row ≡ W) rows → IsSound after (contents_written v first from values)
-    write_sound within sized =
-        put_sound (put_from (contents_of v first) from values) has sized (map.insert v.contents first (put_from (contents_of v first) from values))
-        (valid_contents_written v sound.valid first order at from values within)
+    pub write_holds : from + length values ≤ 2 ^ order * v.page_size → All (λ row. length row ≡ W) rows → Becomes after (contents_written v first from values)
+    write_holds within sized = becomes refl
+        (put_view (put_from (contents_of v first) from values) has)
+        (put_sound (put_from (contents_of v first) from values) has sized (map.insert v.contents first (put_from (contents_of v first) from values))
+        (valid_contents_written v sound.valid first order at from values within))

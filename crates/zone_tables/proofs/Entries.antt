@@ -1,14 +1,16 @@
 -- One address names something else: the entries still stand for the zone.
-use Rattle.std.proofs.Common.{◌≡◌, ◌≢◌, true, false, List, ◌⊎◌, inl, inr, sym, ap, ◌∙◌}
-use Rattle.std.specs.Prelude.{nat_eq, ◌&&◌}
+use Rattle.std.proofs.Common.{◌≡◌, ◌≢◌, true, false, List, ◌⊎◌, inl, inr, sym, ap, ◌∙◌, refl, ℕ}
+use Rattle.std.specs.FinMap as map
+use Rattle.std.specs.Prelude.{nat_eq, ◌&&◌, Option, Some, None}
 use Rattle.std.proofs.lemmas.Bool.Decides.{eqb_tells}
 use Rattle.frame_core.specs.Address.{InRange}
 use Rattle.frame_core.specs.declared.place.Address.{Address}
-use Rattle.frame_core.specs.History.{same_address}
+use Rattle.frame_core.specs.History.{same_address, page_at}
 use Rattle.table_core.specs.declared.entry.Entry.{Entry}
 use Rattle.table_core.specs.Tables.{entry_at, ChangesOnly}
 use Rattle.state_core.specs.ZoneState.{ZoneState, placement_at}
 use Rattle.zone_tables.specs.Fits.{entry_for, EntriesFit}
+use Rattle.std.specs.Option.{option_and_then}
 
 pub entries_changed : (v w : ZoneState) (old new : List Entry) (address : Address) (entry : Entry) → EntriesFit old v → ChangesOnly old new address entry → ((a : Address) → same_address a address ≡ true → entry ≡ entry_for (placement_at w a)) → ((a : Address) → same_address a address ≡ false → placement_at w a ≡ placement_at v a) → EntriesFit new w
 entries_changed v w old new address entry fit changes here there = record { each = λ b range. by_place b range (eqb_tells b.space address.space) (eqb_tells b.vpage address.vpage) } where
@@ -18,3 +20,10 @@ entries_changed v w old new address entry fit changes here there = record { each
       changes.other_spaces b range.vpage space.1 ∙ fit.each b range ∙ sym (ap entry_for (there b (ap (λ t. t && nat_eq b.vpage address.vpage) space.0)))
   by_place b range (inl space) (inr vpage) =
       changes.other_pages b range.vpage vpage.1 ∙ fit.each b range ∙ sym (ap entry_for (there b (λ i. space.0 i && vpage.0 i)))
+
+-- an address that names the page that it named, which stays where it is, has the placement that it had
+pub placement_same : (v w : ZoneState) (a : Address) → page_at w.records a ≡ page_at v.records a → ((q : ℕ) → page_at v.records a ≡ Some q → map.get w.placement q ≡ map.get v.placement q) → placement_at w a ≡ placement_at v a
+placement_same v w a named stays = ap (option_and_then (map.get w.placement)) named ∙ by_name (page_at v.records a) refl where
+  by_name : (o : Option ℕ) → page_at v.records a ≡ o → option_and_then (map.get w.placement) (page_at v.records a) ≡ option_and_then (map.get v.placement) (page_at v.records a)
+  by_name None is = ap (option_and_then (map.get w.placement)) is ∙ sym (ap (option_and_then (map.get v.placement)) is)
+  by_name (Some q) is = ap (option_and_then (map.get w.placement)) is ∙ stays q is ∙ sym (ap (option_and_then (map.get v.placement)) is)

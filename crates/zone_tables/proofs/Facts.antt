@@ -1,5 +1,5 @@
 -- What is known of a zone that is sound.
-use Rattle.std.proofs.Common.{◌≡◌, ℕ, List, ap, subst, ◌∙◌}
+use Rattle.std.proofs.Common.{◌≡◌, ℕ, List, ap, subst, ◌∙◌, sym}
 use Rattle.std.specs.Prelude.{Option, Some, slice_get}
 use Rattle.std.specs.FinMap as map
 use Rattle.frame_core.specs.declared.state.FrameState.{FrameState}
@@ -25,3 +25,10 @@ held_by frames v fit page frame e = fit.of_page page frame (Holds page) (ap (λ 
 -- the state with one more record, and nothing else changed
 pub noted_view : {W : ℕ} (z : Inside W) (v : ZoneState) (history : History) (entry : Record) → state_of z ≡ v → history ≡ told z.history entry → state_of (record z { history = history }) ≡ noted v entry
 noted_view z v history entry view is = ap (λ (h : History). state_of (record z { history = h })) is ∙ ap (λ (u : ZoneState). noted u entry) view
+
+-- the fields of a zone are sound, and stand for this state
+abbrev pub Becomes : {W : ℕ} → Inside W → ZoneState → Type 0
+Becomes y w = IsSound y (state_of y) × (state_of y ≡ w)
+
+pub becomes : {W : ℕ} {y ideal : Inside W} {w : ZoneState} → y ≡ ideal → state_of ideal ≡ w → IsSound ideal w → Becomes y w
+becomes {W} {y} {ideal} {w} same view sound = subst (λ (u : Inside W). Becomes u w) (sym same) (subst (IsSound ideal) (sym view) sound, view)

@@ -13,7 +13,7 @@ use Rattle.frame_core.specs.declared.state.FrameState.{FrameState}
 use Rattle.frame_core.specs.declared.state.FrameState.TheVariants.{Holds}
 use Rattle.frame_core.proofs.Maps.{no_test}
 use Rattle.frame_core.specs.declared.record.Record.TheVariants.{Map}
-use Rattle.frame_core.specs.History.{same_address, page_at, last, dirty, pins}
+use Rattle.frame_core.specs.History.{same_address, last, dirty, pins}
 use Rattle.zone_tables.specs.History.{History, told}
 use Rattle.table_core.specs.declared.entry.Entry.{Entry}
 use Rattle.table_core.specs.declared.entry.Entry.TheVariants.{Present}
@@ -38,9 +38,11 @@ use Rattle.zone_tables.proofs.LoadsAndStores.{words_set_same, words_set_other}
 use Rattle.state_core.proofs.Facts.{chosen, taken, skipped}
 use Rattle.zone_tables.proofs.SearchesAndCounts.{get_placements}
 use Rattle.state_core.proofs.Placed.{CanPlace, untrue, clash, placed_valid, at_page, at_other, named_here, named_there, maps_one, maps_others, pins_none, pins_others}
-use Rattle.zone_tables.proofs.Entries.{entries_changed}
-use Rattle.zone_tables.proofs.NotedPages.{placements_set, unmovable_set, unmovable_kept}
+use Rattle.zone_tables.proofs.Entries.{entries_changed, placement_same}
+use Rattle.zone_tables.proofs.NotedPages.{unmovable_kept, placements_put, unmovable_put}
 use Rattle.zone_tables.proofs.Placement.{GetsPlace, LeavesOthers, frames_fit, movable_fit, words_fit, notes_fit, sources_fit}
+use Rattle.zone_tables.proofs.Facts.{Becomes, becomes}
+use Rattle.scan_core.specs.Frames.{Frames}
 
 -- the note of the fresh page
 abbrev pub fresh_note : Bool → ℕ → PageNote
@@ -86,12 +88,8 @@ module _ (v : ZoneState) (client : ℕ) (address : Address) (unmovable : Bool) (
 
   -- the placement of the page of each other address stays
   placement_there : (b : Address) → same_address b address ≡ false → placement_at next b ≡ placement_at v b
-  placement_there b e = ap (option_and_then (map.get next.placement)) (named_there v client address unmovable page frame can b e) ∙ by_name (page_at v.records b) refl where
-    by_name : (o : Option ℕ) → page_at v.records b ≡ o → option_and_then (map.get next.placement) (page_at v.records b) ≡ option_and_then (map.get v.placement) (page_at v.records b)
-    by_name None is = ap (option_and_then (map.get next.placement)) is ∙ sym (ap (option_and_then (map.get v.placement)) is)
-    by_name (Some q) is =
-        let ne : q ≢ page = λ same. clash _ can.unused (ap (λ (p : ℕ). is_some (map.get v.placement p)) (sym same) ∙ (can.valid.agrees.named b q is).1) in
-        ap (option_and_then (map.get next.placement)) is ∙ at_other v client address unmovable page frame can q ne ∙ sym (ap (option_and_then (map.get v.placement)) is)
+  placement_there b e = placement_same v next b (named_there v client address unmovable page frame can b e) (λ q is.
+      at_other v client address unmovable page frame can q (λ same. clash _ can.unused (ap (λ (p : ℕ). is_some (map.get v.placement p)) (sym same) ∙ (can.valid.agrees.named b q is).1)))
 
   placement_here : (b : Address) → same_address b address ≡ true → placement_at next b ≡ Some (At frame)
   placement_here b e = ap (option_and_then (map.get next.placement)) (named_here v client address unmovable page frame can b e) ∙ at_page v client address unmovable page frame can
@@ -161,7 +159,7 @@ pub record Placing {W : ℕ} (z : Inside W) (v : ZoneState) (client : ℕ) (addr
   pub history_is : history ≡ told z.history (Map client address page)
 
 -- the fields of a zone after a fresh page was placed
-abbrev pub after_place : {W : ℕ} → Inside W → Bool → ℕ → ℕ → Tables → History → Inside W
+abbrev after_place : {W : ℕ} → Inside W → Bool → ℕ → ℕ → Tables → History → Inside W
 after_place {W} z unmovable page frame tables history = record z {
   frames = record { states = slice_set z.frames.states frame (Holds page); movable = slice_set z.frames.movable frame (not unmovable) };
   tables = tables;
@@ -178,7 +176,7 @@ module _ {W : ℕ} (z : Inside W) (v : ZoneState) (client : ℕ) (address : Addr
   abbrev notes_new : List PageNote
   notes_new = slice_set z.notes page (fresh_note unmovable frame)
 
-  pub place_sound : IsSound (after_place z unmovable page frame tables history) (placed v client address unmovable page frame)
+  place_sound : IsSound (after_place z unmovable page frame tables history) (placed v client address unmovable page frame)
   place_sound =
       let sound = known.sound in
       let can = known.can in
@@ -204,14 +202,20 @@ module _ {W : ℕ} (z : Inside W) (v : ZoneState) (client : ℕ) (address : Addr
   note_within = omega (arith, known.can.numbered, known.sound.notes.count)
 
   unmovable_new : (b : Bool) → unmovable ≡ b → gathered (is_unmovable_of notes_new) (length notes_new) ≡ (if b then set.insert (state_of z).unmovable page else (state_of z).unmovable)
-  unmovable_new true is = unmovable_set z.notes page (fresh_note unmovable frame) note_within is
+  unmovable_new true is = unmovable_put z.notes page (fresh_note unmovable frame) note_within true is
   unmovable_new false is = unmovable_kept z.notes page (fresh_note unmovable frame) note_within (is ∙ sym (movable_none (slice_get z.notes page) unused_before))
 
-  pub place_view : state_of (after_place z unmovable page frame tables history) ≡ placed v client address unmovable page frame
+  place_view : state_of (after_place z unmovable page frame tables history) ≡ placed v client address unmovable page frame
   place_view =
       let u = unmovable_new unmovable refl in
-      let placed_there = placements_set z.notes page (fresh_note unmovable frame) note_within (At frame) refl in
+      let placed_there = placements_put z.notes page (fresh_note unmovable frame) note_within in
       let c = contents_kept z v known.sound known.view frame (blank_words W) (unheld_frame v frame known.can.free) in
       let here : state_of (after_place z unmovable page frame tables history) ≡ placed (state_of z) client address unmovable page frame =
       λ i. record (state_of z) { records = (known.history_is i).records; room = (known.history_is i).room; round = (known.history_is i).round; placement = placed_there i; unmovable = u i; contents = c i } in
       here ∙ ap (λ (s : ZoneState). placed s client address unmovable page frame) known.view
+
+  pub place_holds : {frames : Frames} {rows : List (List ℕ)} {notes : List PageNote} →
+      frames ≡ record { states = slice_set z.frames.states frame (Holds page); movable = slice_set z.frames.movable frame (not unmovable) } → rows ≡ with_words z.words frame (blank_words W) →
+      notes ≡ notes_new → Becomes (record z { frames = frames; tables = tables; words = rows; notes = notes; history = history }) (placed v client address unmovable page frame)
+  place_holds f r n =
+      becomes {ideal = after_place z unmovable page frame tables history} (λ i. record z { frames = f i; tables = tables; words = r i; notes = n i; history = history }) place_view place_sound

@@ -1,12 +1,12 @@
 -- The words of blocks that are handed out: which steps leave them, and what the others make of them.
-use Rattle.std.proofs.Common.{◌≡◌, ◌≢◌, ℕ, ◌+◌, ◌-◌, ◌*◌, ◌^◌, ◌<◌, ◌≤◌, Bool, true, false, List, [], length, take, drop, replicate, get_or, ◌⊎◌, inl, inr, refl, sym, ap, ◌∙◌, arith}
+use Rattle.std.proofs.Common.{◌≡◌, ◌≢◌, ℕ, ◌+◌, ◌-◌, ◌^◌, ◌<◌, ◌≤◌, Bool, true, false, List, [], length, take, drop, get_or, ◌⊎◌, inl, inr, refl, sym, ap, ◌∙◌, arith}
 use Rattle.std.specs.Prelude.{Option, Some, None, slice_get, slice_set, unwrap_or}
 use Rattle.std.specs.FinMap as map
 use Rattle.std.specs.List.{All}
 use Rattle.std.specs.Option.{option_map}
 use Rattle.std.specs.Ordering.{nat_cmp}
 use Rattle.std.specs.Cmp.{nat_cmp_total}
-use Rattle.std.proofs.lemmas.Bool.{both_ways, cases_Bool}
+use Rattle.std.proofs.lemmas.Bool.{both_ways, cases_Bool, false_from_ne_true}
 use Rattle.std.proofs.lemmas.Bool.Decides.{eqb_tells, leb_tells}
 use Rattle.std.proofs.lemmas.List.{drop-drop, drop-set-add, drop-set-lt, drop-take, get_or-drop, get_or-take, length-set, take-set-le}
 use Rattle.std.proofs.lemmas.Option.{unwrap_or-slice_get}
@@ -28,7 +28,7 @@ use Rattle.zone_tables.specs.Tabulated.{tabulated}
 use Rattle.zone_tables.specs.declared.zone.ZoneTables.TheInside.{Inside}
 use Rattle.zone_tables.proofs.BlockOrders.{order_here, order_there}
 use Rattle.zone_tables.proofs.SearchesAndCounts.{order_past, orders_seen}
-use Rattle.zone_tables.proofs.Tabulating.{get_tabulated_all, tabulated_insert, tabulated_remove, tabulated_same}
+use Rattle.zone_tables.proofs.Tabulating.{get_tabulated_all, tabulated_same, put, tabulated_put}
 
 -- the words of each block, as the tables have them
 abbrev pub held_contents : {W : ℕ} → Inside W → map.FinMap nat_cmp (List ℕ)
@@ -37,10 +37,10 @@ held_contents {W} z = tabulated (contents_at W z.words z.cleared z.handed_out) (
 contents_past : (size : ℕ) (rows : List (List ℕ)) (cleared : List Bool) (orders : List (Option ℕ)) (first : ℕ) → length orders ≤ first → contents_at size rows cleared orders first ≡ None
 contents_past size rows cleared orders first h = ap (option_map (words_held size rows (true_at cleared first) first)) (order_past orders first h)
 
-flag_here : (cleared : List Bool) (first : ℕ) (flag : Bool) → first < length cleared → true_at (slice_set cleared first flag) first ≡ flag
+pub flag_here : (cleared : List Bool) (first : ℕ) (flag : Bool) → first < length cleared → true_at (slice_set cleared first flag) first ≡ flag
 flag_here cleared first flag h = ap (λ (o : Option Bool). unwrap_or o false) (slice_get_set_same cleared first first flag refl h)
 
-flag_there : (cleared : List Bool) (first q : ℕ) (flag : Bool) → q ≢ first → true_at (slice_set cleared first flag) q ≡ true_at cleared q
+pub flag_there : (cleared : List Bool) (first q : ℕ) (flag : Bool) → q ≢ first → true_at (slice_set cleared first flag) q ≡ true_at cleared q
 flag_there cleared first q flag ne = ap (λ (o : Option Bool). unwrap_or o false) (slice_get_set_other cleared first q flag ne)
 
 -- a block whose rows are the same has the same words
@@ -140,9 +140,6 @@ module _ {W : ℕ} (z : Inside W) (v : ZoneState) (sound : IsSound z v) (view : 
     pub block_listed : first < length z.cleared
     block_listed = let block = (sound.valid.blocks.each first order at).within in omega (arith, block, pow_pos order, sound.cleared)
 
-    pub block_within : first + 2 ^ order ≤ length z.words
-    block_within = let block = (sound.valid.blocks.each first order at).within in omega (arith, block, sound.words.count)
-
     module _ (rows : List (List ℕ)) (words : List ℕ) (has : HasBlock z.words rows first (2 ^ order) words) where
       -- the fields after the block got other words
       abbrev pub after_block : Inside W
@@ -164,17 +161,15 @@ module _ {W : ℕ} (z : Inside W) (v : ZoneState) (sound : IsSound z v) (view : 
 
       pub block_view : state_of after_block ≡ record v { contents = map.insert v.contents first words }
       block_view =
-          let table = tabulated_insert (contents_at W z.words z.cleared z.handed_out) (contents_at W rows (slice_set z.cleared first true) z.handed_out) (length z.handed_out) first words
+          let table = tabulated_put (contents_at W z.words z.cleared z.handed_out) (contents_at W rows (slice_set z.cleared first true) z.handed_out) (length z.handed_out) first (Some words)
           (contents_past W z.words z.cleared z.handed_out) (contents_past W rows (slice_set z.cleared first true) z.handed_out) contents_here contents_there in
           let here : state_of after_block ≡ record (state_of z) { contents = map.insert (state_of z).contents first words } = λ i. record (state_of z) { contents = table i } in
           here ∙ ap (λ (s : ZoneState). record s { contents = map.insert s.contents first words }) view
 
       -- the frame with the words of a page is in no block
       page_off : (page : ℕ) (placement : _) → map.get v.placement page ≡ Some placement → (words_frame placement < first) ⊎ (first + 2 ^ order ≤ words_frame placement)
-      page_off page placement e = off_block first order (words_frame placement) (elim (cases_Bool (in_block first order (words_frame placement))) [
-        | inl here ↦ absurd (both_ways _ (sound.valid.pages.clear page (words_frame placement) (ap (λ o. takes_up o (words_frame placement)) e ∙ takes_own placement)) (held_of v sound.valid first order (words_frame placement) at here))
-        | inr there ↦ there
-      ])
+      page_off page placement e = off_block first order (words_frame placement) (false_from_ne_true _ (λ here.
+          both_ways _ (sound.valid.pages.clear page (words_frame placement) (ap (λ o. takes_up o (words_frame placement)) e ∙ takes_own placement)) (held_of v sound.valid first order (words_frame placement) at here)))
 
       pub block_sound : (contents : map.FinMap nat_cmp (List ℕ)) → All (λ row. length row ≡ W) rows → IsValidZone (record v { contents = contents }) → IsSound after_block (record v { contents = contents })
       block_sound contents sized law = record {
@@ -196,28 +191,26 @@ module _ {W : ℕ} (z : Inside W) (v : ZoneState) (sound : IsSound z v) (view : 
       }
 
 -- a block is handed out or taken back: its words come and go
-module _ {W : ℕ} (z : Inside W) (first : ℕ) (within : first < length z.handed_out) where
-  pub contents_taken : (order : ℕ) → first < length z.cleared
-      → tabulated (contents_at W z.words (slice_set z.cleared first false) (slice_set z.handed_out first (Some order))) (length (slice_set z.handed_out first (Some order))) ≡ map.insert (held_contents z) first (replicate (2 ^ order * W) 0)
-  contents_taken order listed =
-      let orders = slice_set z.handed_out first (Some order) in
-      let cleared = slice_set z.cleared first false in
-      let same = length-set z.handed_out first (Some order) in
-      ap (tabulated (contents_at W z.words cleared orders)) same
-      ∙ tabulated_insert (contents_at W z.words z.cleared z.handed_out) (contents_at W z.words cleared orders) (length z.handed_out) first (replicate (2 ^ order * W) 0)
-      (contents_past W z.words z.cleared z.handed_out) (λ q h. contents_past W z.words cleared orders q (omega (arith, h, same)))
-      (ap (option_map (words_held W z.words (true_at cleared first) first)) (order_here z.handed_out first (Some order) within) ∙ ap (λ b. Some (words_held W z.words b first order)) (flag_here z.cleared first false listed))
-      (λ q ne. ap (λ b. option_map (words_held W z.words b q) (order_of orders q)) (flag_there z.cleared first q false ne) ∙ ap (option_map (words_held W z.words (true_at z.cleared q) q)) (order_there z.handed_out first (Some order) within q ne))
+module _ {W : ℕ} (z : Inside W) (first : ℕ) (within : first < length z.handed_out) (o : Option ℕ) where
+  abbrev orders : List (Option ℕ)
+  orders = slice_set z.handed_out first o
 
-  pub contents_given : tabulated (contents_at W z.words z.cleared (slice_set z.handed_out first None)) (length (slice_set z.handed_out first None)) ≡ map.remove (held_contents z) first
-  contents_given =
-      let orders = slice_set z.handed_out first None in
-      let same = length-set z.handed_out first None in
-      ap (tabulated (contents_at W z.words z.cleared orders)) same
-      ∙ tabulated_remove (contents_at W z.words z.cleared z.handed_out) (contents_at W z.words z.cleared orders) (length z.handed_out) first
-      (contents_past W z.words z.cleared z.handed_out) (λ q h. contents_past W z.words z.cleared orders q (omega (arith, h, same)))
-      (ap (option_map (words_held W z.words (true_at z.cleared first) first)) (order_here z.handed_out first None within))
-      (λ q ne. ap (option_map (words_held W z.words (true_at z.cleared q) q)) (order_there z.handed_out first None within q ne))
+  pub orders_put : tabulated (order_of orders) (length orders) ≡ put (tabulated (order_of z.handed_out) (length z.handed_out)) first o
+  orders_put =
+      let same = length-set z.handed_out first o in
+      ap (tabulated (order_of orders)) same
+      ∙ tabulated_put (order_of z.handed_out) (order_of orders) (length z.handed_out) first o (order_past z.handed_out) (λ q h. order_past orders q (omega (arith, h, same)))
+      (order_here z.handed_out first o within) (order_there z.handed_out first o within)
+
+  pub contents_put : (cleared : List Bool) → ((q : ℕ) → q ≢ first → true_at cleared q ≡ true_at z.cleared q)
+      → tabulated (contents_at W z.words cleared orders) (length orders) ≡ put (held_contents z) first (option_map (words_held W z.words (true_at cleared first) first) o)
+  contents_put cleared flags =
+      let same = length-set z.handed_out first o in
+      ap (tabulated (contents_at W z.words cleared orders)) same
+      ∙ tabulated_put (contents_at W z.words z.cleared z.handed_out) (contents_at W z.words cleared orders) (length z.handed_out) first (option_map (words_held W z.words (true_at cleared first) first) o)
+      (contents_past W z.words z.cleared z.handed_out) (λ q h. contents_past W z.words cleared orders q (omega (arith, h, same)))
+      (ap (option_map (words_held W z.words (true_at cleared first) first)) (order_here z.handed_out first o within))
+      (λ q ne. λ i. option_map (words_held W z.words (flags q ne i) q) (order_there z.handed_out first o within q ne i))
 
 -- words that are put where they are already
 pub put_again : (contents : map.FinMap nat_cmp (List ℕ)) (first : ℕ) (words : List ℕ) → map.get contents first ≡ Some words → map.insert contents first words ≡ contents

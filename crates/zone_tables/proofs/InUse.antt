@@ -1,30 +1,22 @@
 -- Which page numbers are in use by their notes, and how many, when one note changes.
-use Rattle.std.proofs.Common.{◌≡◌, ◌≢◌, ℕ, zero, suc, ◌+◌, ◌-◌, ◌<◌, ◌≤◌, Bool, true, false, not, List, length, inl, inr, refl, sym, ap, ◌∙◌, get_or, arith}
+use Rattle.std.proofs.Common.{◌≡◌, ◌≢◌, ℕ, ◌+◌, ◌-◌, ◌<◌, Bool, true, false, not, List, length, inl, inr, refl, sym, ap, ◌∙◌, get_or, arith}
 use Rattle.std.specs.Prelude.{Option, Some, None, is_some, is_none, nat_eq, nat_lt, slice_set, ◌&&◌, if◌then◌else◌}
 use Rattle.std.specs.FinSet as set
 use Rattle.std.specs.Ordering.{nat_cmp}
 use Rattle.std.specs.Option.{option_and_then}
 use Rattle.frame_core.specs.FixedVec.{with_item}
-use Rattle.std.proofs.lemmas.Bool.{lt-ltb}
+use Rattle.std.proofs.lemmas.Bool.{lt-ltb, and_right}
 use Rattle.std.proofs.lemmas.Bool.Decides.{eqb_tells}
 use Rattle.std.proofs.lemmas.List.{length-set}
 use Rattle.std.proofs.lemmas.Option.{slice_get-get_or, slice_get_cases}
 use Rattle.frame_core.proofs.Lists.{slice_get_set_same, slice_get_set_other}
 use Rattle.frame_core.proofs.Searches.{count_more, count_same}
-use Rattle.frame_core.specs.Below.{count_below, one_if}
+use Rattle.frame_core.specs.Below.{count_below}
 use Rattle.zone_tables.specs.declared.note.PageNote.{PageNote}
 use Rattle.state_core.specs.declared.placement.Placement.{Placement}
 use Rattle.zone_tables.specs.declared.notes.Notes.TheInside.{Inside}
 use Rattle.zone_tables.specs.Notes.{placement_of, is_in_use}
 use Rattle.zone_tables.specs.NotesInside.{IsCounted}
-
-one_most : (b : Bool) → one_if b ≤ 1
-one_most true = omega arith
-one_most false = omega arith
-
-pub in_use_most : (notes : List PageNote) (n : ℕ) → count_below (is_in_use notes) n ≤ n
-in_use_most notes zero = omega arith
-in_use_most notes (suc n) = omega (arith, one_most (is_in_use notes n), in_use_most notes n)
 
 -- a page number that is in use has a note
 pub in_use_within : (notes : List PageNote) (page : ℕ) → is_in_use notes page ≡ true → page < length notes
@@ -36,10 +28,6 @@ in_use_within notes page used = elim (slice_get_cases notes page).1 [
 some_not_none : (placement : Option Placement) → is_some placement ≡ true → is_none placement ≡ false
 some_not_none (Some placement) e = refl
 some_not_none None e = cc
-
-and_false : (b : Bool) → (b && false) ≡ false
-and_false true = refl
-and_false false = refl
 
 module _ (notes : List PageNote) (page : ℕ) (note : PageNote) (within : page < length notes) where
   pub placement_here : (q : ℕ) → q ≡ page → placement_of (slice_set notes page note) q ≡ note.placement
@@ -117,7 +105,7 @@ pub placed_counted : (z : Inside) → IsCounted z → (page : ℕ) (note : PageN
 placed_counted z counted page note used placed =
     kept_counted z counted page note (in_use_within z.notes.items page used) z.unused page true refl (sym placed) unused used where
       absent : set.contains z.unused page ≡ false
-      absent = counted.unused page ∙ ap (λ b. nat_lt page (length z.notes.items) && b) (some_not_none (placement_of z.notes.items page) used) ∙ and_false (nat_lt page (length z.notes.items))
+      absent = counted.unused page ∙ and_right (nat_lt page (length z.notes.items)) _ (some_not_none (placement_of z.notes.items page) used)
 
       unused : (q : ℕ) → set.contains z.unused q ≡ (if nat_eq q page then false else set.contains z.unused q)
       unused q = elim (eqb_tells q page) [

@@ -1,7 +1,7 @@
 -- The page of a pair is isolated: how each table changes.
 use Rattle.std.proofs.Common.{◌≡◌, ◌≢◌, ℕ, ◌<◌, Bool, true, false, List, length, ◌⊎◌, inl, inr, refl, sym, ap, ◌∙◌, arith}
 use Rattle.std.specs.Prelude.{Some, None, slice_get, slice_set, nat_eq, ◌||◌, if◌then◌else◌}
-use Rattle.std.proofs.lemmas.Bool.{eq-eqb}
+use Rattle.std.proofs.lemmas.Bool.{eq-eqb, eqb-false, or_parts, or_left, both_ways}
 use Rattle.std.proofs.lemmas.Bool.Decides.{eqb_tells}
 use Rattle.std.proofs.lemmas.List.{length-set}
 use Rattle.frame_core.proofs.Lists.{slice_get_set_same, slice_get_set_other}
@@ -14,46 +14,42 @@ use Rattle.state_core.proofs.Placed.{untrue}
 use Rattle.zone_tables.proofs.Placement.{SourcesPlaced}
 use Rattle.zone_tables.proofs.Relocation.{FramesSettled, MovableSettled, WordsSettled}
 
+-- two frames changed their states
+pub record TwoSet (frames changed : List FrameState) (a b : ℕ) (x y : FrameState) : Type 0 where
+  pub count : length changed ≡ length frames
+  pub first : slice_get changed a ≡ Some x
+  pub second : slice_get changed b ≡ Some y
+  pub others : (g : ℕ) → g ≢ a → g ≢ b → slice_get changed g ≡ slice_get frames g
+
+pub two_set : (frames : List FrameState) (a b : ℕ) (x y : FrameState) → a ≢ b → a < length frames → b < length frames → TwoSet frames (slice_set (slice_set frames a x) b y) a b x y
+two_set frames a b x y apart a_in b_in = record {
+  count = length-set (slice_set frames a x) b y ∙ length-set frames a x;
+  first = slice_get_set_other (slice_set frames a x) b a y apart ∙ slice_get_set_same frames a a x refl a_in;
+  second = slice_get_set_same (slice_set frames a x) b b y refl (omega (arith, length-set frames a x, b_in));
+  others = λ g ne_a ne_b. slice_get_set_other (slice_set frames a x) b g y ne_b ∙ slice_get_set_other frames a g x ne_a;
+}
+
 module _ (frames : List FrameState) (page source target serial : ℕ) (apart : source ≢ target) (source_in : source < length frames) (target_in : target < length frames) where
   abbrev changed : List FrameState
   changed = slice_set (slice_set frames source (Source serial)) target (Target serial)
 
-  abbrev one_set : List FrameState
-  one_set = slice_set frames source (Source serial)
-
-  still_in : target < length one_set
-  still_in = omega (arith, length-set frames source (Source serial), target_in)
-
-  at_source : slice_get changed source ≡ Some (Source serial)
-  at_source = slice_get_set_other one_set target source (Target serial) apart ∙ slice_get_set_same frames source source (Source serial) refl source_in
-
-  at_target : slice_get changed target ≡ Some (Target serial)
-  at_target = slice_get_set_same one_set target target (Target serial) refl still_in
+  two : TwoSet frames changed source target (Source serial) (Target serial)
+  two = two_set frames source target (Source serial) (Target serial) apart source_in target_in
 
   by_test : (g : ℕ) (state : FrameState) → ((nat_eq g source ≡ true) × (g ≡ source)) ⊎ ((nat_eq g source ≡ false) × (g ≢ source)) → ((nat_eq g target ≡ true) × (g ≡ target)) ⊎ ((nat_eq g target ≡ false) × (g ≢ target)) → state_by page (Some (Moving serial source target)) g ≡ Some state → slice_get changed g ≡ Some state
   by_test g state (inl s) t e =
-      ap (slice_get changed) s.1 ∙ at_source ∙ sym (ap (λ b. if b then Some (Source serial) else if nat_eq g target then Some (Target serial) else None) s.0) ∙ e
+      ap (slice_get changed) s.1 ∙ two.first ∙ sym (ap (λ b. if b then Some (Source serial) else if nat_eq g target then Some (Target serial) else None) s.0) ∙ e
   by_test g state (inr s) (inl t) e =
-      ap (slice_get changed) t.1 ∙ at_target ∙ sym (λ i. if s.0 i then Some (Source serial) else if t.0 i then Some (Target serial) else None) ∙ e
+      ap (slice_get changed) t.1 ∙ two.second ∙ sym (λ i. if s.0 i then Some (Source serial) else if t.0 i then Some (Target serial) else None) ∙ e
   by_test g state (inr s) (inr t) e =
       let bad : None ≡ Some state = sym (λ i. if s.0 i then Some (Source serial) else if t.0 i then Some (Target serial) else None) ∙ e in cc
 
-  none_left : (g : ℕ) → nat_eq g source ≡ true → (nat_eq g source || nat_eq g target) ≡ false → ⊥
-  none_left g e f = let bad : true ≡ false = sym (ap (λ b. b || nat_eq g target) e) ∙ f in cc
-
-  right_false : (a b : Bool) → (a || b) ≡ false → b ≡ false
-  right_false true b e = cc
-  right_false false b e = e
-
-  differs : (g x : ℕ) → nat_eq g x ≡ false → g ≢ x
-  differs g x e same = untrue _ e (eq-eqb g x same)
-
   pub isolated_frames : FramesSettled frames changed page (At source) (Moving serial source target)
   isolated_frames = record {
-    count = length-set one_set target (Target serial) ∙ length-set frames source (Source serial);
+    count = two.count;
     taken = λ g state e. by_test g state (eqb_tells g source) (eqb_tells g target) e;
-    left = λ g had gone. absurd (none_left g had gone);
-    kept = λ g off gone. slice_get_set_other one_set target g (Target serial) (differs g target (right_false _ _ gone)) ∙ slice_get_set_other frames source g (Source serial) (differs g source off);
+    left = λ g had gone. absurd (both_ways _ gone (or_left _ _ had));
+    kept = λ g off gone. two.others g (eqb-false g source off) (eqb-false g target (or_parts _ _ gone).1);
   }
 
 pub isolated_words : (rows : List (List ℕ)) (v : ZoneState) → WordsFit rows v → (serial source target : ℕ) → source < frame_count v → target < frame_count v → WordsSettled v.page_size rows rows (At source) (Moving serial source target)

@@ -1,9 +1,9 @@
 -- Which addresses are listed under a frame, by the pages that they name.
-use Rattle.std.proofs.Common.{◌≡◌, ◌≢◌, ℕ, Bool, true, false, not, List, inl, inr, refl, sym, ap, ◌∙◌, arith}
-use Rattle.std.specs.Prelude.{Option, Some, None, nat_eq, ◌&&◌}
+use Rattle.std.proofs.Common.{◌≡◌, ◌≢◌, ℕ, Bool, true, false, List, inl, inr, refl, sym, ap, ◌∙◌, arith}
+use Rattle.std.specs.Prelude.{Option, Some, None}
 use Rattle.std.specs.FinMap as map
 use Rattle.std.specs.Option.{option_and_then}
-use Rattle.std.proofs.lemmas.Bool.{eq-eqb, or_left, or_right}
+use Rattle.std.proofs.lemmas.Bool.{eq-eqb, or_left, or_right, false_from_ne_true, eqb-true}
 use Rattle.std.proofs.lemmas.Bool.Decides.{eqb_tells}
 use Rattle.frame_core.proofs.Searches.{pairs_same_below, pairs_none, some_none}
 use Rattle.frame_core.specs.Address.{InRange}
@@ -59,12 +59,9 @@ module _ (entries : List Entry) (v : ZoneState) (fit : EntriesFit entries v) (la
 
   -- no address is listed under a frame that no page takes up
   pub none_listed : (frame : ℕ) → is_used v frame ≡ false → (a : Address) → InRange a → is_listed (entry_at entries a) frame ≡ false
-  none_listed frame unused a range = by_list (is_listed (entry_at entries a) frame) refl where
-    by_list : (b : Bool) → is_listed (entry_at entries a) frame ≡ b → b ≡ false
-    by_list true e =
-        let by = names_of a range frame e in
-        absurd (untrue _ (some_none (λ page. takes_up (map.get v.placement page) frame) (frame_count v) unused by.page (law.pages.numbered by.page (not_none _ by.placement by.at))) by.takes)
-    by_list false e = refl
+  none_listed frame unused a range = false_from_ne_true _ (λ e.
+      (let by = names_of a range frame e in
+      untrue _ (some_none (λ page. takes_up (map.get v.placement page) frame) (frame_count v) unused by.page (law.pages.numbered by.page (not_none _ by.placement by.at))) by.takes))
 
   pub count_none : (frame : ℕ) → is_used v frame ≡ false → count_listed entries frame ≡ 0
   count_none frame unused =
@@ -127,15 +124,7 @@ module _ (entries : List Entry) (v : ZoneState) (fit : EntriesFit entries v) (la
         by.entry ∙ ap (λ (p : Placement). entry_for (Some p)) (same_page source (or_left _ _ (eq-eqb source source refl)) a by)
 
     pub target_unnamed : target ≢ source → (a : Address) → InRange a → is_listed (entry_at entries a) target ≡ false
-    target_unnamed apart a range = by_list (is_listed (entry_at entries a) target) refl where
-      by_list : (b : Bool) → is_listed (entry_at entries a) target ≡ b → b ≡ false
-      by_list true e =
-          let by = names_of a range target e in
-          let is = by.entry ∙ ap (λ (p : Placement). entry_for (Some p)) (same_page target (or_right _ _ (eq-eqb target target refl)) a by) in
-          let at_source : nat_eq source target ≡ true = sym (ap (λ (x : Entry). is_listed x target) is) ∙ e in
-          elim (eqb_tells source target) [ inl same ↦ absurd (apart (sym same.1)) | inr other ↦ absurd (untrue _ other.0 at_source) ]
-      by_list false e = refl
-
-pub not_used : (used held : Bool) → (not used && not held) ≡ true → used ≡ false
-not_used true held e = cc
-not_used false held e = refl
+    target_unnamed apart a range = false_from_ne_true _ (λ e.
+        (let by = names_of a range target e in
+        let is = by.entry ∙ ap (λ (p : Placement). entry_for (Some p)) (same_page target (or_right _ _ (eq-eqb target target refl)) a by) in
+        apart (sym (eqb-true source target (sym (ap (λ (x : Entry). is_listed x target) is) ∙ e)))))

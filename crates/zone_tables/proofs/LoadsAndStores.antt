@@ -1,55 +1,44 @@
 -- A load and a store leave a zone sound.
-use Rattle.std.proofs.Common.{◌≡◌, ◌≢◌, ℕ, ◌<◌, Bool, true, false, List, [], ◌∷◌, length, inl, inr, refl, sym, ap, subst, ◌∙◌, arith}
+use Rattle.std.proofs.Common.{◌≡◌, ◌≢◌, ℕ, ◌<◌, true, false, List, [], ◌∷◌, length, inl, inr, refl, sym, ap, subst, ◌∙◌, arith}
 use Rattle.std.specs.Prelude.{Option, Some, None, IsSome, is_some, slice_get, slice_set, unwrap_or, nat_eq, ◌&&◌, ◌||◌, if◌then◌else◌}
 use Rattle.std.specs.FinMap as map
 use Rattle.std.specs.Option.{option_and_then}
-use Rattle.std.proofs.lemmas.Bool.{eq-eqb}
+use Rattle.std.proofs.lemmas.Bool.{eq-eqb, and_from, and_left, and_right}
 use Rattle.std.proofs.lemmas.Bool.Decides.{eqb_tells}
 use Rattle.std.proofs.lemmas.List.{length-set}
 use Rattle.std.proofs.lemmas.Option.{slice_get_within, get_or_from_slice_get}
 use Rattle.frame_core.proofs.Lists.{slice_get_set_same, slice_get_set_other}
 use Rattle.frame_core.specs.declared.place.Address.{Address}
-use Rattle.frame_core.specs.declared.state.FrameState.TheVariants.{Holds}
 use Rattle.frame_core.proofs.Maps.{no_test}
 use Rattle.frame_core.specs.declared.record.Record.TheVariants.{Store}
 use Rattle.frame_core.specs.History.{page_at, is_page, last, dirty, pins, maps}
 use Rattle.zone_tables.specs.History.{History, told}
 use Rattle.frame_core.specs.Moves.{out}
-use Rattle.table_core.specs.declared.entry.Entry.TheVariants.{Absent, Present, Migration}
+use Rattle.table_core.specs.declared.entry.Entry.TheVariants.{Present}
 use Rattle.frame_core.specs.Words.{words_of, word_of, with_word}
-use Rattle.state_core.specs.declared.error.ZoneError.TheVariants.{Unmapped, Moving as IsMoving}
 use Rattle.zone_tables.specs.declared.note.PageNote.{PageNote}
 use Rattle.zone_tables.specs.declared.zone.ZoneTables.TheInside.{Inside}
 use Rattle.state_core.specs.declared.placement.Placement.{Placement}
 use Rattle.state_core.specs.declared.placement.Placement.TheVariants.{At, Moving}
 use Rattle.state_core.specs.Valid.{IsValidZone}
-use Rattle.state_core.specs.Access.{placement_refusal, value_at, loaded, stored}
+use Rattle.state_core.specs.Access.{value_at, loaded, stored}
 use Rattle.zone_tables.specs.Fits.{entry_for, WordsFit, NoteFits, NotesFit}
-use Rattle.state_core.specs.ZoneState.{words_frame, ZoneState, placement_at}
+use Rattle.state_core.specs.ZoneState.{words_frame, ZoneState, placement_at, frame_count}
 use Rattle.zone_tables.specs.Sound.{IsSound, state_of}
 use Rattle.zone_tables.specs.Notes.{says_unmovable}
 use Rattle.zone_tables.proofs.HeldWords.{contents_kept}
 use Rattle.zone_tables.proofs.NotedPages.{placements_kept, unmovable_kept}
 use Rattle.state_core.proofs.Facts.{taken, skipped, page_named, frame_within, frames_differ, not_none}
-use Rattle.zone_tables.proofs.Facts.{noted_view, held_by}
-use Rattle.state_core.proofs.Holding.{at_takes}
+use Rattle.zone_tables.proofs.Facts.{noted_view, is_sound, Becomes, becomes}
+use Rattle.state_core.proofs.Holding.{at_takes, holder_at}
 use Rattle.state_core.proofs.Accessed.{valid_stored, valid_loaded}
+use Rattle.state_core.specs.Pairs.{holder}
 
 -- what the entry of an address says of the placement of its page
-pub absent_refused : (o : Option Placement) → entry_for o ≡ Absent → Some Unmapped ≡ placement_refusal o
-absent_refused None e = refl
-absent_refused (Some (At frame)) e = cc
-absent_refused (Some (Moving serial source target)) e = cc
-
 pub present_is : (o : Option Placement) (frame : ℕ) → entry_for o ≡ Present frame → o ≡ Some (At frame)
 present_is None frame e = cc
 present_is (Some (At f)) frame e = cc
 present_is (Some (Moving serial source target)) frame e = cc
-
-pub migration_refused : (o : Option Placement) (serial source : ℕ) → entry_for o ≡ Migration serial source → Some IsMoving ≡ placement_refusal o
-migration_refused None serial source e = cc
-migration_refused (Some (At frame)) serial source e = cc
-migration_refused (Some (Moving s from target)) serial source e = refl
 
 pub loaded_sound : {W : ℕ} (z : Inside W) (v : ZoneState) → IsSound z v → (history : History) (client : ℕ) (address : Address) (frame word : ℕ) → placement_at v address ≡ Some (At frame) → length (out v.records) < v.room → IsSound (record z { history = history }) (loaded v client address word)
 loaded_sound z v sound history client address frame word at spare = record {
@@ -72,18 +61,6 @@ words_set_same rows frame row within = ap (λ (o : Option (List ℕ)). unwrap_or
 pub words_set_other : (rows : List (List ℕ)) (frame other : ℕ) (row : List ℕ) → other ≢ frame → words_of (slice_set rows frame row) other ≡ words_of rows other
 words_set_other rows frame other row apart = ap (λ (o : Option (List ℕ)). unwrap_or o []) (slice_get_set_other rows frame other row apart)
 
-both : (a b : Bool) → a ≡ true → b ≡ true → (a && b) ≡ true
-both true b e f = f
-both false b e f = e
-
-not_left : (a b : Bool) → a ≡ false → (a && b) ≡ false
-not_left true b e = cc
-not_left false b e = refl
-
-not_right : (a b : Bool) → b ≡ false → (a && b) ≡ false
-not_right true b e = e
-not_right false b e = refl
-
 -- the words of a zone after a store
 module _ (rows : List (List ℕ)) (v : ZoneState) (law : IsValidZone v) (fit : WordsFit rows v) (client : ℕ) (address : Address) (page frame word value : ℕ) (named : page_at v.records address ≡ Some page) (at : map.get v.placement page ≡ Some (At frame)) (small : word < v.page_size) where
   within : frame < length rows
@@ -103,10 +80,10 @@ module _ (rows : List (List ℕ)) (v : ZoneState) (law : IsValidZone v) (fit : W
         | inl hit ↦
             (let sized = fit.sized frame (frame_within v law page (At frame) at) in
             let long : word < length (words_of rows frame) = omega arith in
-            slice_get_set_same (words_of rows frame) word w value (sym hit.1) long ∙ ap Some (sym (last_is page w ∙ taken _ _ _ (both _ _ (eq-eqb page page refl) hit.0))))
+            slice_get_set_same (words_of rows frame) word w value (sym hit.1) long ∙ ap Some (sym (last_is page w ∙ taken _ _ _ (and_from _ _ (eq-eqb page page refl) hit.0))))
         | inr miss ↦
             (let away : w ≢ word = λ e. miss.1 (sym e) in
-            slice_get_set_other (words_of rows frame) word w value away ∙ fit.each page (At frame) w at w_small ∙ ap Some (sym (last_is page w ∙ skipped _ _ _ (not_right _ _ miss.0))))
+            slice_get_set_other (words_of rows frame) word w value away ∙ fit.each page (At frame) w at w_small ∙ ap Some (sym (last_is page w ∙ skipped _ _ _ (and_right _ _ miss.0))))
       ]
 
   elsewhere : (q : ℕ) (placement : Placement) (w : ℕ) → q ≢ page → map.get v.placement q ≡ Some placement → w < v.page_size → slice_get (words_of (with_word rows frame word value) (words_frame placement)) w ≡ Some (last (Store client address word value ∷ v.records) q w)
@@ -114,7 +91,7 @@ module _ (rows : List (List ℕ)) (v : ZoneState) (law : IsValidZone v) (fit : W
       let apart : words_frame placement ≢ frame = frames_differ v law page q (At frame) placement at at_q ne in
       let other : nat_eq page q ≡ false = no_test page q (λ e. ne (sym e)) in
       ap (λ (ws : List ℕ). slice_get ws w) (words_set_other rows frame (words_frame placement) (slice_set (words_of rows frame) word value) apart)
-      ∙ fit.each q placement w at_q w_small ∙ ap Some (sym (last_is q w ∙ skipped _ _ _ (not_left _ _ other)))
+      ∙ fit.each q placement w at_q w_small ∙ ap Some (sym (last_is q w ∙ skipped _ _ _ (and_left _ _ other)))
 
   pub stored_words : WordsFit (with_word rows frame word value) (stored v client address word value)
   stored_words = record {
@@ -165,29 +142,40 @@ word_read z v sound address frame word at small =
     ∙ ap (λ (o : Option ℕ). last v.records (unwrap_or o 0) word) (sym page.1)
 
 -- what is known of the page that an address names, where the page isn't moving
-pub record Resident {W : ℕ} (z : Inside W) (v : ZoneState) (address : Address) (frame : ℕ) : Type 0 where
-  pub page : ℕ
+pub record Resident {W : ℕ} (z : Inside W) (v : ZoneState) (address : Address) (frame page : ℕ) : Type 0 where
   pub named : page_at v.records address ≡ Some page
   pub at : map.get v.placement page ≡ Some (At frame)
-  pub held : slice_get z.frames.states frame ≡ Some (Holds page)
-  pub frame_within : frame < length z.frames.states
+  pub used : IsSome (map.get v.placement page)
+  pub held : holder v frame ≡ Some page
+  pub within : frame < frame_count v
   pub row_within : frame < length z.words
   pub note_within : page < length z.notes
 
-pub resident : {W : ℕ} (z : Inside W) (v : ZoneState) → IsSound z v → (address : Address) (frame : ℕ) → placement_at v address ≡ Some (At frame) → Resident z v address frame
-resident z v sound address frame at =
-    let page = page_named v address (At frame) at in
-    let within = frame_within v sound.valid page.0 (At frame) page.2 in
-    let numbered = sound.valid.pages.numbered page.0 (not_none _ (At frame) page.2) in
-    record {
-      page = page.0;
-      named = page.1;
-      at = page.2;
-      held = held_by z.frames.states v sound.frames page.0 frame page.2;
-      frame_within = omega (arith, within, sound.frames.count);
-      row_within = omega (arith, within, sound.words.count);
-      note_within = omega (arith, numbered, sound.notes.count);
-    }
+module _ {W : ℕ} {z : Inside W} {v : ZoneState} (view : state_of z ≡ v) (invariant : IsSound z (state_of z)) {address : Address} {frame : ℕ} (at : placement_at v address ≡ Some (At frame)) where
+  pub resident : (page : ℕ) × Resident z v address frame page
+  resident =
+      let sound = is_sound view invariant in
+      let page = page_named v address (At frame) at in
+      let within = frame_within v sound.valid page.0 (At frame) page.2 in
+      let used = not_none _ (At frame) page.2 in (
+        page.0,
+        record {
+          named = page.1;
+          at = page.2;
+          used = used;
+          held = holder_at v sound.valid page.0 frame page.2;
+          within = within;
+          row_within = omega (arith, within, sound.words.count);
+          note_within = omega (arith, sound.valid.pages.numbered page.0 used, sound.notes.count);
+        },
+      )
+
+  -- the page that the frame was found to hold
+  pub resident_in : {page : ℕ} → holder v frame ≡ Some page → Resident z v address frame page
+  resident_in {page} found =
+      let two : Some resident.0 ≡ Some page = sym resident.1.held ∙ found in
+      let same : resident.0 ≡ page = cc in
+      subst (Resident z v address frame) same resident.1
 
 -- what is known when a word is written
 pub record Storing {W : ℕ} (z : Inside W) (v : ZoneState) (client : ℕ) (address : Address) (page frame word value : ℕ) (note : PageNote) (history : History) : Type 0 where
@@ -232,3 +220,8 @@ store_sound z v client address page frame word value note history known =
       sources = sound.sources;
       movable = record { count = sound.movable.count; each = sound.movable.each };
     }
+
+pub store_holds : {W : ℕ} {z : Inside W} {v : ZoneState} {client : ℕ} {address : Address} {page frame word value : ℕ} {note : PageNote} {history : History} → Storing z v client address page frame word value note history →
+    {rows : List (List ℕ)} {notes : List PageNote} → rows ≡ with_word z.words frame word value → notes ≡ slice_set z.notes page (record note { dirty = true }) → Becomes (record z { words = rows; notes = notes; history = history }) (stored v client address word value)
+store_holds {z = z} {page = page} {frame = frame} {word = word} {value = value} {note = note} {history = history} known r n =
+    becomes {ideal = after_store z page frame word value note history} (λ i. record z { words = r i; notes = n i; history = history }) (store_view _ _ _ _ _ _ _ _ _ _ known) (store_sound _ _ _ _ _ _ _ _ _ _ known)

@@ -1,9 +1,9 @@
 -- A pageblock is marked, or its mark is taken off: the zone stays sound.
-use Rattle.std.proofs.Common.{◌≡◌, ◌≢◌, ℕ, zero, suc, ◌<◌, ◌≤◌, Bool, true, false, [], ◌∷◌, List, length, refl, ap, ◌∙◌, arith}
-use Rattle.std.specs.Prelude.{Option, slice_set, slice_index_or, unwrap_or}
+use Rattle.std.proofs.Common.{◌≡◌, ℕ, zero, suc, ◌<◌, ◌≤◌, Bool, true, false, [], ◌∷◌, List, length, refl, ap, ◌∙◌, arith}
+use Rattle.std.specs.FinSet as set
+use Rattle.std.specs.Prelude.{Option, slice_set, slice_index_or, unwrap_or, if◌then◌else◌}
 use Rattle.std.proofs.lemmas.List.{length-set}
 use Rattle.std.proofs.lemmas.Option.{slice_get_past}
-use Rattle.frame_core.proofs.Lists.{slice_get_set_same, slice_get_set_other}
 use Rattle.frame_core.specs.declared.record.Record.TheVariants.{Mark, Unmark}
 use Rattle.frame_core.specs.Moves.{out}
 use Rattle.zone_tables.specs.declared.zone.ZoneTables.TheInside.{Inside}
@@ -13,27 +13,26 @@ use Rattle.scan_core.specs.Frames.{true_at}
 use Rattle.state_core.specs.Marking.{block_marked, block_unmarked}
 use Rattle.state_core.specs.ZoneState.{ZoneState}
 use Rattle.state_core.proofs.Marking.{valid_marked, valid_unmarked}
-use Rattle.zone_tables.proofs.Tabulating.{gathered_insert, gathered_remove}
+use Rattle.zone_tables.proofs.Tabulating.{gathered_put}
+use Rattle.zone_tables.proofs.HeldWords.{flag_here, flag_there}
+use Rattle.scan_core.specs.NumberSet.{gathered}
+use Rattle.zone_tables.proofs.Facts.{Becomes, becomes}
 
-module _ (marks : List Bool) (block : ℕ) (mark : Bool) (eight : length marks ≡ 8) (small : block < 8) where
-  mark_here : true_at (slice_set marks block mark) block ≡ mark
-  mark_here = ap (λ (o : Option Bool). unwrap_or o false) (slice_get_set_same marks block block mark refl (omega arith))
+no_mark : (marks : List Bool) → length marks ≡ 8 → (q : ℕ) → 8 ≤ q → true_at marks q ≡ false
+no_mark marks eight q h = ap (λ (o : Option Bool). unwrap_or o false) (slice_get_past marks q (omega arith))
 
-  mark_there : (q : ℕ) → q ≢ block → true_at (slice_set marks block mark) q ≡ true_at marks q
-  mark_there q ne = ap (λ (o : Option Bool). unwrap_or o false) (slice_get_set_other marks block q mark ne)
-
-  no_mark : (q : ℕ) → 8 ≤ q → true_at marks q ≡ false
-  no_mark q h = ap (λ (o : Option Bool). unwrap_or o false) (slice_get_past marks q (omega arith))
-
-  no_mark_then : (q : ℕ) → 8 ≤ q → true_at (slice_set marks block mark) q ≡ false
-  no_mark_then q h = ap (λ (o : Option Bool). unwrap_or o false) (slice_get_past (slice_set marks block mark) q (omega (arith, length-set marks block mark)))
+-- the marks after one was set or taken off
+marks_put : (marks : List Bool) (block : ℕ) (mark : Bool) → length marks ≡ 8 → block < 8 → gathered (true_at (slice_set marks block mark)) 8 ≡ (if mark then set.insert (gathered (true_at marks) 8) block else set.remove (gathered (true_at marks) 8) block)
+marks_put marks block mark eight small =
+    gathered_put (true_at marks) (true_at (slice_set marks block mark)) 8 block mark (no_mark marks eight) (no_mark (slice_set marks block mark) (length-set marks block mark ∙ eight))
+    (flag_here marks block mark (omega arith)) (λ q. flag_there marks block q mark)
 
 -- the fields after a mark was set or taken off
 abbrev pub after_mark : {W : ℕ} → Inside W → ℕ → Bool → History → Inside W
 after_mark z block mark history = record z { marked = slice_set z.marked block mark; history = history }
 
 module _ {W : ℕ} (z : Inside W) (v : ZoneState) (sound : IsSound z v) (view : state_of z ≡ v) (eight : length z.marked ≡ 8) (block : ℕ) (small : block < 8) (spare : length (out v.records) < v.room) (history : History) where
-  pub mark_sound : IsSound (after_mark z block true history) (block_marked v block)
+  mark_sound : IsSound (after_mark z block true history) (block_marked v block)
   mark_sound = record {
     valid = valid_marked v sound.valid spare block;
     orders = sound.orders;
@@ -48,7 +47,7 @@ module _ {W : ℕ} (z : Inside W) (v : ZoneState) (sound : IsSound z v) (view : 
     movable = record { count = sound.movable.count; each = sound.movable.each };
   }
 
-  pub unmark_sound : IsSound (after_mark z block false history) (block_unmarked v block)
+  unmark_sound : IsSound (after_mark z block false history) (block_unmarked v block)
   unmark_sound = record {
     valid = valid_unmarked v sound.valid spare block;
     orders = sound.orders;
@@ -63,19 +62,25 @@ module _ {W : ℕ} (z : Inside W) (v : ZoneState) (sound : IsSound z v) (view : 
     movable = record { count = sound.movable.count; each = sound.movable.each };
   }
 
-  pub mark_view : history ≡ told z.history (Mark block) → state_of (after_mark z block true history) ≡ block_marked v block
+  mark_view : history ≡ told z.history (Mark block) → state_of (after_mark z block true history) ≡ block_marked v block
   mark_view is =
-      let marked = gathered_insert (true_at z.marked) (true_at (slice_set z.marked block true)) 8 block (no_mark z.marked block true eight small) (no_mark_then z.marked block true eight small) (mark_here z.marked block true eight small) (mark_there z.marked block true eight small) in
+      let marked = marks_put z.marked block true eight small in
       let here : state_of (after_mark z block true history) ≡ block_marked (state_of z) block =
       λ i. record (state_of z) { records = (is i).records; room = (is i).room; round = (is i).round; marked = marked i } in
       here ∙ ap (λ (s : ZoneState). block_marked s block) view
 
-  pub unmark_view : history ≡ told z.history (Unmark block) → state_of (after_mark z block false history) ≡ block_unmarked v block
+  unmark_view : history ≡ told z.history (Unmark block) → state_of (after_mark z block false history) ≡ block_unmarked v block
   unmark_view is =
-      let marked = gathered_remove (true_at z.marked) (true_at (slice_set z.marked block false)) 8 block (no_mark z.marked block false eight small) (no_mark_then z.marked block false eight small) (mark_here z.marked block false eight small) (mark_there z.marked block false eight small) in
+      let marked = marks_put z.marked block false eight small in
       let here : state_of (after_mark z block false history) ≡ block_unmarked (state_of z) block =
       λ i. record (state_of z) { records = (is i).records; room = (is i).room; round = (is i).round; marked = marked i } in
       here ∙ ap (λ (s : ZoneState). block_unmarked s block) view
+
+  pub mark_holds : {place : ℕ} → place ≡ block → history ≡ told z.history (Mark block) → Becomes (after_mark z place true history) (block_marked v block)
+  mark_holds at is = becomes {ideal = after_mark z block true history} (λ i. after_mark z (at i) true history) (mark_view is) mark_sound
+
+  pub unmark_holds : {place : ℕ} → place ≡ block → history ≡ told z.history (Unmark block) → Becomes (after_mark z place false history) (block_unmarked v block)
+  unmark_holds at is = becomes {ideal = after_mark z block false history} (λ i. after_mark z (at i) false history) (unmark_view is) unmark_sound
 
 -- a mark, as it is read from an array
 pub mark_read : (marks : List Bool) (block : ℕ) → slice_index_or marks block false ≡ true_at marks block

@@ -1,8 +1,8 @@
 -- The move of a page ends: how each table changes.
-use Rattle.std.proofs.Common.{◌≡◌, ◌≢◌, ℕ, ◌+◌, ◌<◌, Bool, true, false, List, length, ◌⊎◌, inl, inr, refl, sym, ap, ◌∙◌, arith}
+use Rattle.std.proofs.Common.{◌≡◌, ◌≢◌, ℕ, ◌+◌, ◌<◌, Bool, true, false, List, length, inl, inr, refl, sym, ap, ◌∙◌, arith}
 use Rattle.std.specs.FinMap as map
-use Rattle.std.specs.Prelude.{Some, None, slice_get, slice_set, nat_eq, ◌||◌, if◌then◌else◌}
-use Rattle.std.proofs.lemmas.Bool.{eq-eqb, ne_eqb, or_right}
+use Rattle.std.specs.Prelude.{Some, None, slice_get, slice_set, nat_eq, if◌then◌else◌}
+use Rattle.std.proofs.lemmas.Bool.{eq-eqb, ne_eqb, or_right, eqb-true, eqb-false, or_cases, or_parts}
 use Rattle.std.proofs.lemmas.Bool.Decides.{eqb_tells}
 use Rattle.std.proofs.lemmas.List.{length-set}
 use Rattle.frame_core.proofs.Lists.{slice_get_set_same, slice_get_set_other}
@@ -32,76 +32,48 @@ use Rattle.zone_tables.proofs.Facts.{is_sound}
 use Rattle.zone_tables.proofs.ListedAddresses.{all_left, target_unnamed}
 use Rattle.zone_tables.proofs.OutAndEnded.{some_out}
 use Rattle.zone_tables.proofs.Relocation.{FramesSettled, MovableSettled, WordsSettled}
-
-differs : (g x : ℕ) → nat_eq g x ≡ false → g ≢ x
-differs g x e same = untrue _ e (eq-eqb g x same)
-
-equals : (g x : ℕ) → nat_eq g x ≡ true → g ≡ x
-equals g x e = elim (eqb_tells g x) [ inl same ↦ same.1 | inr other ↦ absurd (untrue _ other.0 e) ]
-
-or_cases : (a b : Bool) → (a || b) ≡ true → (a ≡ true) ⊎ (b ≡ true)
-or_cases true b e = inl refl
-or_cases false b e = inr e
-
-left_false : (a b : Bool) → (a || b) ≡ false → a ≡ false
-left_false true b e = cc
-left_false false b e = refl
-
-right_false : (a b : Bool) → (a || b) ≡ false → b ≡ false
-right_false true b e = cc
-right_false false b e = e
+use Rattle.zone_tables.proofs.Isolation.{TwoSet, two_set}
 
 -- one of the two frames of a moving page holds it now, and the other is free
 module _ (frames : List FrameState) (page kept left : ℕ) (apart : kept ≢ left) (kept_in : kept < length frames) (left_in : left < length frames) where
-  abbrev one_set : List FrameState
-  one_set = slice_set frames left Free
-
   abbrev changed : List FrameState
-  changed = slice_set one_set kept (Holds page)
+  changed = slice_set (slice_set frames left Free) kept (Holds page)
 
-  at_kept : slice_get changed kept ≡ Some (Holds page)
-  at_kept = slice_get_set_same one_set kept kept (Holds page) refl (omega (arith, length-set frames left Free, kept_in))
-
-  at_left : slice_get changed left ≡ Some Free
-  at_left = slice_get_set_other one_set kept left (Holds page) (λ e. apart (sym e)) ∙ slice_get_set_same frames left left Free refl left_in
-
-  pub count_kept : length changed ≡ length frames
-  count_kept = length-set one_set kept (Holds page) ∙ length-set frames left Free
+  pub two : TwoSet frames changed left kept Free (Holds page)
+  two = two_set frames left kept Free (Holds page) (λ e. apart (sym e)) left_in kept_in
 
   pub state_kept : (g : ℕ) (state : FrameState) → state_by page (Some (At kept)) g ≡ Some state → slice_get changed g ≡ Some state
   state_kept g state e = elim (eqb_tells g kept) [
-    | inl same ↦ ap (slice_get changed) same.1 ∙ at_kept ∙ sym (ap (λ b. if b then Some (Holds page) else None) same.0) ∙ e
+    | inl same ↦ ap (slice_get changed) same.1 ∙ two.second ∙ sym (ap (λ b. if b then Some (Holds page) else None) same.0) ∙ e
     | inr other ↦ (let bad : None ≡ Some state = sym (ap (λ b. if b then Some (Holds page) else None) other.0) ∙ e in cc)
   ]
 
-  pub state_left : (g : ℕ) → g ≡ left → slice_get changed g ≡ Some Free
-  state_left g e = ap (slice_get changed) e ∙ at_left
-
-  pub state_other : (g : ℕ) → g ≢ kept → g ≢ left → slice_get changed g ≡ slice_get frames g
-  state_other g a b = slice_get_set_other one_set kept g (Holds page) a ∙ slice_get_set_other frames left g Free b
-
 pub moved_frames : (frames : List FrameState) (page serial source target : ℕ) → source ≢ target → source < length frames → target < length frames → FramesSettled frames (slice_set (slice_set frames source Free) target (Holds page)) page (Moving serial source target) (At target)
-moved_frames frames page serial source target apart source_in target_in = record {
-  count = count_kept frames page target source (λ e. apart (sym e)) target_in source_in;
-  taken = state_kept frames page target source (λ e. apart (sym e)) target_in source_in;
-  left = λ g had gone. state_left frames page target source (λ e. apart (sym e)) target_in source_in g (elim (or_cases (nat_eq g source) (nat_eq g target) had) [ inl s ↦ equals g source s | inr t ↦ absurd (untrue _ gone t) ]);
-  kept = λ g off gone. state_other frames page target source (λ e. apart (sym e)) target_in source_in g (differs g target gone) (differs g source (left_false _ _ off));
-}
+moved_frames frames page serial source target apart source_in target_in =
+    let set = two frames page target source (λ e. apart (sym e)) target_in source_in in
+    record {
+      count = set.count;
+      taken = state_kept frames page target source (λ e. apart (sym e)) target_in source_in;
+      left = λ g had gone. elim (or_cases (nat_eq g source) (nat_eq g target) had) [ inl s ↦ ap (slice_get (changed frames page target source (λ e. apart (sym e)) target_in source_in)) (eqb-true g source s) ∙ set.first | inr t ↦ absurd (untrue _ gone t) ];
+      kept = λ g off gone. set.others g (eqb-false g source (or_parts _ _ off).0) (eqb-false g target gone);
+    }
 
 pub back_frames : (frames : List FrameState) (page serial source target : ℕ) → source ≢ target → source < length frames → target < length frames → FramesSettled frames (slice_set (slice_set frames target Free) source (Holds page)) page (Moving serial source target) (At source)
-back_frames frames page serial source target apart source_in target_in = record {
-  count = count_kept frames page source target apart source_in target_in;
-  taken = state_kept frames page source target apart source_in target_in;
-  left = λ g had gone. state_left frames page source target apart source_in target_in g (elim (or_cases (nat_eq g source) (nat_eq g target) had) [ inl s ↦ absurd (untrue _ gone s) | inr t ↦ equals g target t ]);
-  kept = λ g off gone. state_other frames page source target apart source_in target_in g (differs g source gone) (differs g target (right_false _ _ off));
-}
+back_frames frames page serial source target apart source_in target_in =
+    let set = two frames page source target apart source_in target_in in
+    record {
+      count = set.count;
+      taken = state_kept frames page source target apart source_in target_in;
+      left = λ g had gone. elim (or_cases (nat_eq g source) (nat_eq g target) had) [ inl s ↦ absurd (untrue _ gone s) | inr t ↦ ap (slice_get (changed frames page source target apart source_in target_in)) (eqb-true g target t) ∙ set.first ];
+      kept = λ g off gone. set.others g (eqb-false g target (or_parts _ _ off).1) (eqb-false g source gone);
+    }
 
 pub moved_words : {size : ℕ} → (rows : List (List ℕ)) (words : List ℕ) (serial source target : ℕ) → target < length rows → words ≡ words_of rows source → length words ≡ size → WordsSettled size rows (with_words rows target words) (Moving serial source target) (At target)
 moved_words rows words serial source target within same sized = record {
   count = length-set rows target words;
   carried = words_set_same rows target words within ∙ same;
-  kept = λ g gone. words_set_other rows target g words (differs g target gone);
-  sized = λ g has. ap (λ (f : ℕ). length (words_of (with_words rows target words) f)) (equals g target has) ∙ ap length (words_set_same rows target words within) ∙ sized;
+  kept = λ g gone. words_set_other rows target g words (eqb-false g target gone);
+  sized = λ g has. ap (λ (f : ℕ). length (words_of (with_words rows target words) f)) (eqb-true g target has) ∙ ap length (words_set_same rows target words within) ∙ sized;
 }
 
 pub back_words : (rows : List (List ℕ)) (v : ZoneState) → WordsFit rows v → (serial source target : ℕ) → source < frame_count v → WordsSettled v.page_size rows rows (Moving serial source target) (At source)
@@ -109,14 +81,14 @@ back_words rows v fit serial source target within = record {
   count = refl;
   carried = refl;
   kept = λ g gone. refl;
-  sized = λ g has. fit.sized g (let at : g ≡ source = equals g source has in omega arith);
+  sized = λ g has. fit.sized g (let at : g ≡ source = eqb-true g source has in omega arith);
 }
 
 pub kept_movable : (movable : List Bool) (can noted : Bool) (kept : ℕ) → kept < length movable → noted ≡ can → MovableSettled movable (slice_set movable kept noted) can (At kept)
 kept_movable movable can noted kept within is = record {
   count = length-set movable kept noted;
   here = λ g e. (let at : kept ≡ g = cc in slice_get_set_same movable kept g noted (sym at) within ∙ ap Some is);
-  kept = λ g gone. slice_get_set_other movable kept g noted (differs g kept gone);
+  kept = λ g gone. slice_get_set_other movable kept g noted (eqb-false g kept gone);
 }
 
 -- one frame of a moving page is still noted as such after the other was freed
@@ -141,7 +113,7 @@ module _ {W : ℕ} {z : Inside W} {v : ZoneState} (view : state_of z ≡ v) (inv
   fewer_out = omega (arith, out_fewer v page serial source target sound.valid at)
 
   pub some_on_the_way : z.moves.moved + z.moves.back < z.moves.isolated
-  some_on_the_way = some_out z.moves v.records sound.moves sound.valid.journal.well_ended fewer_out
+  some_on_the_way = some_out view invariant fewer_out
 
   pub ending_room : 0 < z.history.room
   ending_room = let left = sound.valid.journal.room_left in omega (arith, fewer_out, ap (λ (u : ZoneState). u.room) view)

@@ -17,7 +17,7 @@ use Rattle.zone_tables.specs.Fits.{FramesFit, EntriesFit, NoteFits, MovesFit, Mo
 use Rattle.zone_tables.specs.History.{History, told}
 use Rattle.zone_tables.specs.Notes.{says_unmovable}
 use Rattle.zone_tables.specs.Sound.{state_of, IsSound}
-use Rattle.zone_tables.proofs.Facts.{noted_view}
+use Rattle.zone_tables.proofs.Facts.{noted_view, Becomes, becomes}
 use Rattle.zone_tables.proofs.NotedPages.{placements_kept, unmovable_kept}
 use Rattle.zone_tables.proofs.Placement.{GetsPlace, LeavesOthers, notes_fit}
 
@@ -94,11 +94,5 @@ module _ {W : ℕ} {z : Inside W} {v : ZoneState} {page : ℕ} {entry : Record} 
       let here : state_of (after_noting z page changed frames tables history) ≡ state_of (record z { history = history }) = λ i. record (state_of (record z { history = history })) { placement = p i; unmovable = u i } in
       here ∙ noted_view z v history entry known.view known.history_is
 
-  -- the fields of a zone after a note changed, given its notes
-  abbrev noting_with : List PageNote → Inside W
-  noting_with notes = record z { frames = frames; tables = tables; notes = notes; history = history }
-
-  pub noting_holds : (notes : List PageNote) → notes ≡ slice_set z.notes page changed → IsSound (noting_with notes) (state_of (noting_with notes)) × (state_of (noting_with notes) ≡ noted v entry)
-  noting_holds notes is =
-      subst (λ (ns : List PageNote). IsSound (noting_with ns) (state_of (noting_with ns)) × (state_of (noting_with ns) ≡ noted v entry)) (sym is)
-      (subst (IsSound (after_noting z page changed frames tables history)) (sym noting_view) noting_sound, noting_view)
+  pub noting_holds : {notes : List PageNote} → notes ≡ slice_set z.notes page changed → Becomes (record z { frames = frames; tables = tables; notes = notes; history = history }) (noted v entry)
+  noting_holds is = becomes {ideal = after_noting z page changed frames tables history} (λ i. record z { frames = frames; tables = tables; notes = is i; history = history }) noting_view noting_sound

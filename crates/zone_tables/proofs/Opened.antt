@@ -1,20 +1,19 @@
 -- A zone that was just opened.
-use Rattle.std.proofs.Common.{◌≡◌, ℕ, ◌*◌, ◌≤◌, Bool, true, false, List, [], length, replicate, inl, inr, sym, ap, ◌∙◌}
-use Rattle.std.specs.Prelude.{Option, Some, None, IsSome, is_some, slice_get, unwrap_or}
+use Rattle.std.proofs.Common.{◌≡◌, ℕ, ◌*◌, ◌≤◌, Bool, true, false, List, [], length, replicate, sym, ap, ◌∙◌}
+use Rattle.std.specs.Prelude.{Option, Some, None, slice_get, unwrap_or}
 use Rattle.std.specs.FinSet as set
 use Rattle.std.specs.FinMap as map
-use Rattle.std.specs.Option.{option_map}
+use Rattle.std.specs.Option.{option_map, option_and_then}
 use Rattle.std.specs.Ordering.{nat_cmp}
 use Rattle.std.proofs.lemmas.List.{length-replicate}
 use Rattle.frame_core.proofs.Lists.{slice_get_replicate}
-use Rattle.frame_core.specs.declared.state.FrameState.{FrameState}
 use Rattle.frame_core.specs.declared.state.FrameState.TheVariants.{Free}
 use Rattle.table_core.specs.Tables.{IsBlank}
 use Rattle.frame_core.specs.Page.{blank_words}
 use Rattle.frame_core.specs.Words.{words_of}
 use Rattle.zone_tables.specs.declared.note.PageNote.{PageNote}
 use Rattle.zone_tables.specs.Moves.{Moves}
-use Rattle.zone_tables.proofs.Copies.{copies, no_placement, all_movable, no_order}
+use Rattle.zone_tables.proofs.Copies.{no_placement, all_movable, no_order}
 use Rattle.zone_tables.specs.declared.zone.ZoneTables.TheInside.{Inside}
 use Rattle.state_core.specs.declared.placement.Placement.{Placement}
 use Rattle.state_core.specs.declared.placement.Placement.TheVariants.{At, Moving}
@@ -30,6 +29,7 @@ use Rattle.scan_core.specs.NumberSet.{gathered}
 use Rattle.zone_tables.specs.Tabulated.{tabulated}
 use Rattle.zone_tables.proofs.Tabulating.{tabulated_none, gathered_none}
 use Rattle.state_core.proofs.Opened.{unheld, opened_valid}
+use Rattle.state_core.proofs.Placed.{clash}
 
 -- the fields of a zone that was just opened
 pub record IsFresh {W : ℕ} (z : Inside W) (number blocks places : ℕ) : Type 0 where
@@ -80,17 +80,6 @@ opened_view {W} z number blocks places fresh =
 some_eight : (size : ℕ) (rows : List (List ℕ)) (frame : ℕ) → slice_get rows frame ≡ Some (blank_words size) → length (words_of rows frame) ≡ size
 some_eight size rows frame e = ap (λ (o : Option (List ℕ)). length (unwrap_or o [])) e ∙ length-replicate size 0
 
-note_clash : (n page : ℕ) (note : PageNote) → slice_get (replicate n unused_note) page ≡ Some note → IsSome note.placement → ⊥
-note_clash n page note e used = elim (copies n page unused_note) [
-  | inl is ↦ (let same : unused_note ≡ note = (let both : Some unused_note ≡ Some note = sym is ∙ e in cc) in
-      let bad : false ≡ true = ap (λ (x : PageNote). is_some x.placement) same ∙ used in cc)
-  | inr is ↦ (let bad : None ≡ Some note = sym is ∙ e in cc)
-]
-
-state_clash : (size number blocks places page frame : ℕ) (state : FrameState) → state_by page (map.get (opened_with size number blocks places).placement page) frame ≡ Some state → ⊥
-state_clash size number blocks places page frame state e =
-    let bad : None ≡ Some state = sym (ap (λ (o : Option Placement). state_by page o frame) (map.get-empty nat_cmp page)) ∙ e in cc
-
 pub opened_sound : {W : ℕ} (z : Inside W) (number blocks places : ℕ) → IsFresh z number blocks places → IsSound z (opened_with W number blocks places)
 opened_sound {W} z number blocks places fresh = record {
   valid = opened_valid W number blocks places fresh.size fresh.few;
@@ -99,7 +88,7 @@ opened_sound {W} z number blocks places fresh = record {
   tables = fresh.tables_frames;
   frames = record {
     count = ap (λ (fs : Frames). length fs.states) fresh.frames ∙ length-replicate (512 * blocks) Free;
-    of_page = λ page frame state e. absurd (state_clash W number blocks places page frame state e);
+    of_page = λ page frame state e. (let bad : None ≡ Some state = sym (ap (λ (o : Option Placement). state_by page o frame) (map.get-empty nat_cmp page)) ∙ e in cc);
     of_block = λ frame h held. (let bad : false ≡ true = sym (unheld W number blocks places frame) ∙ held in cc);
     of_none = λ frame h free. ap (λ (fs : Frames). slice_get fs.states frame) fresh.frames ∙ slice_get_replicate (512 * blocks) frame Free h;
   };
@@ -111,7 +100,7 @@ opened_sound {W} z number blocks places fresh = record {
   };
   notes = record {
     count = ap length fresh.notes ∙ length-replicate (512 * blocks) unused_note;
-    each = λ page note e used. absurd (note_clash (512 * blocks) page note (ap (λ (ns : List PageNote). slice_get ns page) (sym fresh.notes) ∙ e) used);
+    each = λ page note e used. absurd (clash note.placement (sym (ap (option_and_then (λ (n : PageNote). n.placement)) e) ∙ ap (λ (ns : List PageNote). placement_of ns page) fresh.notes ∙ no_placement (512 * blocks) page) used);
   };
   moves = record { isolated = ap (λ (m : Moves). m.isolated) fresh.moves; moved = ap (λ (m : Moves). m.moved) fresh.moves; back = ap (λ (m : Moves). m.back) fresh.moves };
   sources = record {

@@ -1,15 +1,19 @@
 -- How many pages are out.
-use Rattle.std.proofs.Common.{◌≡◌, ℕ, ◌+◌, ◌<◌, List, length, arith}
+use Rattle.std.proofs.Common.{◌≡◌, ℕ, ◌+◌, ◌<◌, length, arith}
 use Rattle.frame_core.proofs.Ends.{is_balanced}
-use Rattle.frame_core.specs.declared.record.Record.{Record}
-use Rattle.frame_core.specs.Moves.{out, IsWellEnded}
-use Rattle.zone_tables.specs.Fits.{MovesFit}
-use Rattle.zone_tables.specs.Moves.{Moves}
+use Rattle.frame_core.specs.Moves.{out}
+use Rattle.state_core.specs.ZoneState.{ZoneState}
+use Rattle.zone_tables.specs.declared.zone.ZoneTables.TheInside.{Inside}
+use Rattle.zone_tables.specs.Sound.{IsSound, state_of}
+use Rattle.zone_tables.proofs.Facts.{is_sound}
 
-module _ (moves : Moves) (records : List Record) (fit : MovesFit moves records) (ended : IsWellEnded records) where
+module _ {W : ℕ} {z : Inside W} {v : ZoneState} (view : state_of z ≡ v) (invariant : IsSound z (state_of z)) where
+  sound : IsSound z v
+  sound = is_sound view invariant
+
   -- the number of pages that are out
-  pub out_is : (n : ℕ) → n + moves.moved + moves.back ≡ moves.isolated → n ≡ length (out records)
-  out_is n counted = omega (arith, counted, is_balanced records ended, fit.isolated, fit.moved, fit.back)
+  pub out_seen : {n : ℕ} → n + z.moves.moved + z.moves.back ≡ z.moves.isolated → n ≡ length (out v.records)
+  out_seen counted = omega (arith, counted, is_balanced v.records sound.valid.journal.well_ended, sound.moves.isolated, sound.moves.moved, sound.moves.back)
 
-  pub some_out : 0 < length (out records) → moves.moved + moves.back < moves.isolated
-  some_out some = omega (arith, some, is_balanced records ended, fit.isolated, fit.moved, fit.back)
+  pub some_out : 0 < length (out v.records) → z.moves.moved + z.moves.back < z.moves.isolated
+  some_out some = omega (arith, some, is_balanced v.records sound.valid.journal.well_ended, sound.moves.isolated, sound.moves.moved, sound.moves.back)

@@ -2,7 +2,7 @@
 use Rattle.std.proofs.Common.{◌≡◌, ◌≢◌, ℕ, ◌*◌, ◌<◌, Bool, true, false, not, List, length, ◌⊎◌, inl, inr, refl, sym, ap, subst, ◌∙◌, arith}
 use Rattle.std.specs.Prelude.{Option, Some, None, IsSome, is_some, slice_get, slice_set, nat_eq, ◌&&◌, ◌||◌, if◌then◌else◌}
 use Rattle.std.specs.FinMap as map
-use Rattle.std.proofs.lemmas.Bool.{eq-eqb}
+use Rattle.std.proofs.lemmas.Bool.{eq-eqb, false_from_ne_true, cases_Bool}
 use Rattle.std.proofs.lemmas.Bool.Decides.{eqb_tells}
 use Rattle.std.proofs.lemmas.List.{length-set}
 use Rattle.frame_core.proofs.Lists.{slice_get_set_same, slice_get_set_other}
@@ -22,6 +22,7 @@ use Rattle.state_core.specs.ZoneState.{ZoneState, words_frame, frame_count, take
 use Rattle.zone_tables.specs.declared.note.PageNote.{PageNote}
 use Rattle.zone_tables.specs.Notes.{movable_at}
 use Rattle.zone_tables.specs.Fits.{state_by, FramesFit, MovableFit, WordsFit, NoteFits, NotesFit, SourcesFit}
+use Rattle.std.proofs.lemmas.Option.{cond_some}
 
 -- the states before and after a page got another place
 pub record GetsPlace (v w : ZoneState) (page : ℕ) (old new : Option Placement) : Type 0 where
@@ -67,26 +68,14 @@ pub record LeavesOthers (v w : ZoneState) (page : ℕ) : Type 0 where
   pub pins : (q : ℕ) → q ≢ page → pins w.records q ≡ pins v.records q
   pub maps : (q : ℕ) → q ≢ page → maps w.records q ≡ maps v.records q
 
-decide : (b : Bool) → (b ≡ true) ⊎ (b ≡ false)
-decide true = inl refl
-decide false = inr refl
-
-never : (b : Bool) → (b ≡ true → ⊥) → b ≡ false
-never true clash = absurd (clash refl)
-never false clash = refl
-
-tested : {A : Type 0} (b : Bool) (x y : A) → (if b then Some x else None) ≡ Some y → b ≡ true
-tested true x y e = refl
-tested false x y e = cc
-
 either : {A : Type 0} (a b : Bool) (x y z : A) → (if a then Some x else if b then Some y else None) ≡ Some z → (a || b) ≡ true
 either true b x y z e = refl
-either false b x y z e = tested b y z e
+either false b x y z e = (cond_some b y z e).0
 
 -- a frame that a page puts in a state is one that it takes up
 pub state_taken : (page : ℕ) (o : Option Placement) (frame : ℕ) (state : FrameState) → state_by page o frame ≡ Some state → takes_up o frame ≡ true
 state_taken page None frame state e = cc
-state_taken page (Some (At f)) frame state e = tested (nat_eq frame f) (Holds page) state e
+state_taken page (Some (At f)) frame state e = (cond_some (nat_eq frame f) (Holds page) state e).0
 state_taken page (Some (Moving serial source target)) frame state e = either (nat_eq frame source) (nat_eq frame target) (Source serial) (Target serial) state e
 
 in_use : (o : Option Placement) (frame : ℕ) → takes_up o frame ≡ true → IsSome o
@@ -105,10 +94,10 @@ module _ (v w : ZoneState) (page : ℕ) (old new : Option Placement) (gets : Get
 
   -- a frame of another page isn't one of this page
   not_old : (q g : ℕ) → q ≢ page → takes_up (map.get v.placement q) g ≡ true → takes_up old g ≡ false
-  not_old q g ne has = never _ (λ e. ne (gets.before.pages.apart q page g has (takes _ _ g gets.at ∙ e)))
+  not_old q g ne has = false_from_ne_true _ (λ e. ne (gets.before.pages.apart q page g has (takes _ _ g gets.at ∙ e)))
 
   not_new : (q g : ℕ) → q ≢ page → takes_up (map.get v.placement q) g ≡ true → takes_up new g ≡ false
-  not_new q g ne has = never _ (λ e. ne (gets.after.pages.apart q page g (takes _ _ g (gets.others q ne) ∙ has) (takes _ _ g gets.now ∙ e)))
+  not_new q g ne has = false_from_ne_true _ (λ e. ne (gets.after.pages.apart q page g (takes _ _ g (gets.others q ne) ∙ has) (takes _ _ g gets.now ∙ e)))
 
   -- a frame that the page takes up isn't free, and a frame that it has nothing to do with is as before
   new_used : (g : ℕ) → takes_up new g ≡ true → is_free w g ≡ false
@@ -139,10 +128,10 @@ module _ (v w : ZoneState) (page : ℕ) (old new : Option Placement) (gets : Get
     ];
     of_block = λ g h held.
         (let was : is_held v g ≡ true = sym (held_same g) ∙ held in
-        change.kept g (never _ (λ e. untrue _ (gets.before.pages.clear page g (takes _ _ g gets.at ∙ e)) was))
-        (never _ (λ e. untrue _ (gets.after.pages.clear page g (takes _ _ g gets.now ∙ e)) held))
+        change.kept g (false_from_ne_true _ (λ e. untrue _ (gets.before.pages.clear page g (takes _ _ g gets.at ∙ e)) was))
+        (false_from_ne_true _ (λ e. untrue _ (gets.after.pages.clear page g (takes _ _ g gets.now ∙ e)) held))
         ∙ fit.of_block g (omega (arith, h, frames_same)) was);
-    of_none = λ g h free. by_new g (omega (arith, h, frames_same)) free (decide (takes_up new g)) (decide (takes_up old g));
+    of_none = λ g h free. by_new g (omega (arith, h, frames_same)) free (cases_Bool (takes_up new g)) (cases_Bool (takes_up old g));
   } where
     by_new : (g : ℕ) → g < frame_count v → is_free w g ≡ true → (takes_up new g ≡ true) ⊎ (takes_up new g ≡ false) → (takes_up old g ≡ true) ⊎ (takes_up old g ≡ false) → slice_get changed g ≡ Some Free
     by_new g h free (inl has) had = absurd (untrue _ (new_used g has) free)
@@ -174,7 +163,7 @@ module _ (v w : ZoneState) (page : ℕ) (old new : Option Placement) (gets : Get
   pub words_fit : (rows changed : List (List ℕ)) → WordsFit rows v → WordsPlaced rows changed w page new → LeavesOthers v w page → WordsFit changed w
   words_fit rows changed fit change leaves = record {
     count = change.count ∙ fit.count ∙ sym frames_same;
-    sized = λ g h. elim (decide (takes_up new g)) [ inl has ↦ change.sized g has | inr hasnt ↦ ap length (change.kept g hasnt) ∙ fit.sized g (omega (arith, h, frames_same)) ∙ sym gets.size ];
+    sized = λ g h. elim (cases_Bool (takes_up new g)) [ inl has ↦ change.sized g has | inr hasnt ↦ ap length (change.kept g hasnt) ∙ fit.sized g (omega (arith, h, frames_same)) ∙ sym gets.size ];
     each = λ q placement word e small. elim (eqb_tells q page) [
       | inl same ↦ change.mine placement word (sym gets.now ∙ ap (map.get w.placement) (sym same.1) ∙ e) small ∙ ap (λ (p : ℕ). Some (last w.records p word)) (sym same.1)
       | inr other ↦

@@ -36,7 +36,7 @@ use Rattle.zone_tables.specs.Tabulated.{tabulated}
 use Rattle.zone_tables.proofs.HeldWords.{held_contents}
 use Rattle.zone_tables.proofs.SearchesAndCounts.{get_placements}
 use Rattle.state_core.proofs.Placed.{clash}
-use Rattle.zone_tables.proofs.NotedPages.{placements_set, unmovable_kept}
+use Rattle.zone_tables.proofs.NotedPages.{unmovable_kept, placements_put}
 use Rattle.zone_tables.proofs.Placement.{GetsPlace, LeavesOthers, FramesPlaced, MovablePlaced, WordsPlaced, SourcesPlaced, frames_fit, movable_fit, words_fit, notes_fit, sources_fit}
 use Rattle.state_core.proofs.Settled.{CanSettle, IsRecorded, at_page, at_other, not_old, valid_settled}
 
@@ -197,7 +197,7 @@ module _ {W : ℕ} {z changed : Inside W} {v : ZoneState} {page : ℕ} {old new 
   note_within = slice_get_within z.notes page note known.note_is
 
   placement_new : tabulated (placement_of changed.notes) (length changed.notes) ≡ map.insert (state_of z).placement page new
-  placement_new = ap (λ (ns : List PageNote). tabulated (placement_of ns) (length ns)) known.notes ∙ placements_set z.notes page settled_note note_within new refl
+  placement_new = ap (λ (ns : List PageNote). tabulated (placement_of ns) (length ns)) known.notes ∙ placements_put z.notes page settled_note note_within
 
   unmovable_new : gathered (is_unmovable_of changed.notes) (length changed.notes) ≡ (state_of z).unmovable
   unmovable_new =

@@ -2,9 +2,8 @@
 use Rattle.std.proofs.Common.{◌≡◌, ℕ, zero, suc, ◌/◌, ◌<◌, Bool, false, not, List, length, refl, sym, ap, ◌∙◌, arith}
 use Rattle.std.specs.Prelude.{Option, Some, None, nat_le, nat_lt, slice_get, unwrap_or, ◌&&◌, ◌||◌, if◌then◌else◌}
 use Rattle.std.specs.FinMap as map
-use Rattle.std.specs.FinSet as set
 use Rattle.std.proofs.lemmas.Option.{slice_get-get_or}
-use Rattle.frame_core.proofs.Searches.{lowest_same}
+use Rattle.frame_core.proofs.Searches.{lowest_same, some_same}
 use Rattle.frame_core.specs.Below.{highest, some_below}
 use Rattle.frame_core.specs.declared.state.FrameState.{FrameState}
 use Rattle.frame_core.specs.declared.state.FrameState.TheVariants.{Free, Holds, Source, Target, Huge}
@@ -19,10 +18,11 @@ use Rattle.state_core.specs.Valid.{IsValidZone}
 use Rattle.state_core.specs.Pairs.{is_marked, can_move_if_some, stays_if_some, holder, holds_movable, is_free_unmarked, is_stuck, next_source, next_target, next_pair, pair_at}
 use Rattle.state_core.specs.ZoneState.{ZoneState, frame_count, is_held}
 use Rattle.zone_tables.specs.declared.zone.ZoneTables.TheInside.{Inside}
-use Rattle.zone_tables.specs.Sound.{state_of}
-use Rattle.zone_tables.specs.Fits.{FramesFit, MovableFit}
+use Rattle.zone_tables.specs.Fits.{FramesFit}
 use Rattle.zone_tables.proofs.SearchesAndCounts.{free_seen}
-use Rattle.zone_tables.proofs.Tables.{holds_seen, none_seen, huge_seen, no_huge_seen}
+use Rattle.zone_tables.proofs.Tables.{holds_seen, none_seen, huge_seen, no_huge_seen, mark_seen}
+use Rattle.zone_tables.proofs.Facts.{is_sound}
+use Rattle.zone_tables.specs.Sound.{IsSound, state_of}
 
 highest_same : (p r : ℕ → Bool) (n : ℕ) → ((k : ℕ) → k < n → p k ≡ r k) → highest p n ≡ highest r n
 highest_same p r zero same = refl
@@ -31,15 +31,8 @@ highest_same p r (suc n) same =
     let rest : highest p n ≡ highest r n = highest_same p r n (λ k h. same k (omega (arith, h))) in
     λ i. if here i then Some n else rest i
 
-some_same : (p r : ℕ → Bool) (n : ℕ) → ((k : ℕ) → k < n → p k ≡ r k) → some_below p n ≡ some_below r n
-some_same p r zero same = refl
-some_same p r (suc n) same =
-    let here : p n ≡ r n = same n (omega arith) in
-    let rest : some_below p n ≡ some_below r n = some_same p r n (λ k h. same k (omega (arith, h))) in
-    λ i. here i || rest i
-
 -- the fingers of a zone are those of its state
-pub fingers_seen : {W : ℕ} (z : Inside W) (v : ZoneState) → state_of z ≡ v → z.fingers ≡ record { migrate = v.migrate; free = v.free }
+fingers_seen : {W : ℕ} (z : Inside W) (v : ZoneState) → state_of z ≡ v → z.fingers ≡ record { migrate = v.migrate; free = v.free }
 fingers_seen z v view = λ i. record { migrate = (view i).migrate; free = (view i).free }
 
 -- what a pair that was answered says of the searches for its source and its target
@@ -51,9 +44,24 @@ met_to : (s : ℕ) (t : Option ℕ) → Met ≡ scan.step_to s t → t ≡ None
 met_to s None e = refl
 met_to s (Some target) e = cc
 
-module _ (v : ZoneState) (law : IsValidZone v) (states : List FrameState) (movable marked : List Bool) (fit : FramesFit states v) (can : MovableFit movable v) (marks : (block : ℕ) → block < 8 → true_at marked block ≡ set.contains v.marked block) where
-  marked_seen : (frame : ℕ) → frame < frame_count v → scan.is_marked marked frame ≡ is_marked v frame
-  marked_seen frame h = let few = law.size.1 in marks (frame / 512) (omega (arith, h, few))
+module _ {W : ℕ} {z : Inside W} {v : ZoneState} (view : state_of z ≡ v) (invariant : IsSound z (state_of z)) where
+  sound : IsSound z v
+  sound = is_sound view invariant
+
+  law : IsValidZone v
+  law = sound.valid
+
+  fit : FramesFit z.frames.states v
+  fit = sound.frames
+
+  abbrev states : List FrameState
+  states = z.frames.states
+
+  abbrev movable : List Bool
+  movable = z.frames.movable
+
+  marked_seen : (frame : ℕ) → frame < frame_count v → scan.is_marked z.marked frame ≡ is_marked v frame
+  marked_seen frame h = let few = law.size.1 in mark_seen z v view (frame / 512) (omega (arith, h, few))
 
   held_page : (frame page : ℕ) → frame < frame_count v → slice_get states frame ≡ Some (Holds page) → map.get v.placement page ≡ Some (At frame)
   held_page frame page h at = holds_seen states v fit frame page (Holds page) h at refl
@@ -66,7 +74,7 @@ module _ (v : ZoneState) (law : IsValidZone v) (states : List FrameState) (movab
   by_state frame h (Some Huge) at = sym (ap (can_move_if_some v) (none_seen states v fit frame Huge at (λ page is. cc)))
   by_state frame h (Some (Holds page)) at =
       let here = held_page frame page h at in
-      ap (λ (o : Option Bool). unwrap_or o false) (can.each page frame here) ∙ sym (ap (can_move_if_some v) (holder_at v law page frame here))
+      ap (λ (o : Option Bool). unwrap_or o false) (sound.movable.each page frame here) ∙ sym (ap (can_move_if_some v) (holder_at v law page frame here))
 
   unheld : (frame : ℕ) (state : FrameState) → frame < frame_count v → slice_get states frame ≡ Some state → (state ≡ Huge → ⊥) → ((page : ℕ) → state ≡ Holds page → ⊥) → (is_held v frame || stays_if_some v (holder v frame)) ≡ false
   unheld frame state h at not_huge not_page =
@@ -84,45 +92,45 @@ module _ (v : ZoneState) (law : IsValidZone v) (states : List FrameState) (movab
       let here = held_page frame page h at in
       let clear = law.pages.clear page frame (at_takes _ frame here) in
       let holds = holder_at v law page frame here in
-      ap (λ (o : Option Bool). not (unwrap_or o false)) (can.each page frame here) ∙ sym (λ i. clear i || stays_if_some v (holds i))
+      ap (λ (o : Option Bool). not (unwrap_or o false)) (sound.movable.each page frame here) ∙ sym (λ i. clear i || stays_if_some v (holds i))
 
-  pub source_seen : (frame : ℕ) → frame < frame_count v → scan.is_source states movable marked frame ≡ holds_movable v frame
+  pub source_seen : (frame : ℕ) → frame < frame_count v → scan.is_source states movable z.marked frame ≡ holds_movable v frame
   source_seen frame h = λ i. not (marked_seen frame h i) && by_state frame h (slice_get states frame) refl i
 
-  pub target_seen : (frame : ℕ) → frame < frame_count v → scan.is_target states marked frame ≡ is_free_unmarked v frame
+  pub target_seen : (frame : ℕ) → frame < frame_count v → scan.is_target states z.marked frame ≡ is_free_unmarked v frame
   target_seen frame h = λ i. not (marked_seen frame h i) && free_seen states v fit frame h i
 
-  pub stuck_seen : (frame : ℕ) → frame < frame_count v → scan.is_stuck states movable marked frame ≡ is_stuck v frame
+  pub stuck_seen : (frame : ℕ) → frame < frame_count v → scan.is_stuck states movable z.marked frame ≡ is_stuck v frame
   stuck_seen frame h = λ i. not (marked_seen frame h i) && stuck_by_state frame h (slice_get states frame) refl i
 
-  pub any_stuck_seen : some_below (scan.is_stuck states movable marked) (length states) ≡ some_below (is_stuck v) (frame_count v)
+  pub any_stuck_seen : some_below (scan.is_stuck states movable z.marked) (length states) ≡ some_below (is_stuck v) (frame_count v)
   any_stuck_seen =
-      some_same (scan.is_stuck states movable marked) (is_stuck v) (length states) (λ frame h. stuck_seen frame (omega (arith, h, fit.count)))
+      sym (some_same (scan.is_stuck states movable z.marked) (is_stuck v) (length states) (λ frame h. stuck_seen frame (omega (arith, h, fit.count))))
       ∙ ap (some_below (is_stuck v)) fit.count
 
   abbrev fingers : Fingers
   fingers = record { migrate = v.migrate; free = v.free }
 
-  pub next_source_seen : scan.next_source states movable marked fingers ≡ next_source v
+  pub next_source_seen : scan.next_source states movable z.marked fingers ≡ next_source v
   next_source_seen =
-      lowest_same (λ frame. nat_le v.migrate frame && scan.is_source states movable marked frame) (λ frame. nat_le v.migrate frame && holds_movable v frame) v.free
+      lowest_same (λ frame. nat_le v.migrate frame && scan.is_source states movable z.marked frame) (λ frame. nat_le v.migrate frame && holds_movable v frame) v.free
       (λ frame h. let high = law.fingers.ordered.1 in ap (λ b. nat_le v.migrate frame && b) (source_seen frame (omega (arith, h, high))))
 
-  pub next_target_seen : (source : ℕ) → scan.next_target states marked fingers source ≡ next_target v source
+  pub next_target_seen : (source : ℕ) → scan.next_target states z.marked fingers source ≡ next_target v source
   next_target_seen source =
-      highest_same (λ frame. nat_lt source frame && scan.is_target states marked frame) (λ frame. nat_lt source frame && is_free_unmarked v frame) v.free
+      highest_same (λ frame. nat_lt source frame && scan.is_target states z.marked frame) (λ frame. nat_lt source frame && is_free_unmarked v frame) v.free
       (λ frame h. let high = law.fingers.ordered.1 in ap (λ b. nat_lt source frame && b) (target_seen frame (omega (arith, h, high))))
 
-  pub pair_seen : (source target : ℕ) → Pair source target ≡ scan.next_step states movable marked fingers → (next_source v ≡ Some source) × (next_target v source ≡ Some target)
-  pair_seen source target e = by_source (scan.next_source states movable marked fingers) refl e where
-    by_source : (o : Option ℕ) → scan.next_source states movable marked fingers ≡ o → Pair source target ≡ scan.step_from states marked fingers o → (next_source v ≡ Some source) × (next_target v source ≡ Some target)
+  pub pair_seen : {source target : ℕ} → Pair source target ≡ scan.next_step states movable z.marked z.fingers → (next_source v ≡ Some source) × (next_target v source ≡ Some target)
+  pair_seen {source} {target} e = by_source (scan.next_source states movable z.marked fingers) refl (e ∙ ap (scan.next_step states movable z.marked) (fingers_seen z v view)) where
+    by_source : (o : Option ℕ) → scan.next_source states movable z.marked fingers ≡ o → Pair source target ≡ scan.step_from states z.marked fingers o → (next_source v ≡ Some source) × (next_target v source ≡ Some target)
     by_source None is e = cc
     by_source (Some s) is e =
-        let both = pair_to s source target (scan.next_target states marked fingers s) e in
+        let both = pair_to s source target (scan.next_target states z.marked fingers s) e in
         (sym next_source_seen ∙ is ∙ ap Some both.0, ap (next_target v) (sym both.0) ∙ sym (next_target_seen s) ∙ both.1)
 
-  pub met_seen : Met ≡ scan.next_step states movable marked fingers → next_pair v ≡ None
-  met_seen e = by_source (scan.next_source states movable marked fingers) refl e where
-    by_source : (o : Option ℕ) → scan.next_source states movable marked fingers ≡ o → Met ≡ scan.step_from states marked fingers o → next_pair v ≡ None
+  pub met_seen : Met ≡ scan.next_step states movable z.marked z.fingers → next_pair v ≡ None
+  met_seen e = by_source (scan.next_source states movable z.marked fingers) refl (e ∙ ap (scan.next_step states movable z.marked) (fingers_seen z v view)) where
+    by_source : (o : Option ℕ) → scan.next_source states movable z.marked fingers ≡ o → Met ≡ scan.step_from states z.marked fingers o → next_pair v ≡ None
     by_source None is e = ap (pair_at v) (sym next_source_seen ∙ is)
-    by_source (Some s) is e = no_target_pair v s (sym next_source_seen ∙ is) (sym (next_target_seen s) ∙ met_to s (scan.next_target states marked fingers s) e)
+    by_source (Some s) is e = no_target_pair v s (sym next_source_seen ∙ is) (sym (next_target_seen s) ∙ met_to s (scan.next_target states z.marked fingers s) e)

@@ -1,9 +1,9 @@
 -- What searches and counts in the tables of a zone answer.
-use Rattle.std.proofs.Common.{◌≡◌, ℕ, ◌*◌, ◌<◌, ◌≤◌, Bool, true, false, not, List, length, refl, sym, ap, ◌∙◌, get_or, arith}
+use Rattle.std.proofs.Common.{◌≡◌, ℕ, ◌*◌, ◌<◌, ◌≤◌, Bool, true, false, not, List, length, refl, sym, ap, ◌∙◌, arith}
 use Rattle.std.specs.Prelude.{Option, Some, None, IsSome, IfSome, is_some, is_none, nat_eq, if◌then◌else◌, ◌&&◌, ◌||◌}
 use Rattle.std.specs.Option.{option_and_then}
 use Rattle.std.specs.FinMap.{get}
-use Rattle.std.proofs.lemmas.Option.{slice_get-get_or, slice_get_past}
+use Rattle.std.proofs.lemmas.Option.{slice_get_past}
 use Rattle.frame_core.proofs.Searches.{some_one, lowest_same, count_same, count_from_same}
 use Rattle.frame_core.specs.Below.{lowest, count_below, some_below}
 use Rattle.frame_core.specs.declared.state.FrameState.{FrameState}
@@ -20,17 +20,11 @@ use Rattle.zone_tables.specs.Notes.{placement_of, is_in_use}
 use Rattle.zone_tables.specs.HandedOut.{order_of, held_at}
 use Rattle.zone_tables.specs.Tabulated.{tabulated}
 use Rattle.zone_tables.proofs.Tabulating.{get_tabulated_all}
-
-pub some_when : (o : Option Placement) → is_none o ≡ false → is_some o ≡ true
-some_when None e = cc
-some_when (Some placement) e = refl
+use Rattle.std.proofs.lemmas.Bool.{and_right}
 
 pub some_is : (o : Option ℕ) (i : ℕ) → IsSome o → IfSome o (λ z. z ≡ i) → o ≡ Some i
 some_is None i s e = cc
 some_is (Some z) i s e = ap Some e
-
-pub placement_at_note : (notes : List PageNote) (page : ℕ) (d : PageNote) → page < length notes → placement_of notes page ≡ (get_or notes page d).placement
-placement_at_note notes page d h = ap (option_and_then (λ (note : PageNote). note.placement)) (slice_get-get_or notes page d h)
 
 pub placement_past : (notes : List PageNote) (page : ℕ) → length notes ≤ page → placement_of notes page ≡ None
 placement_past notes page h = ap (option_and_then (λ (note : PageNote). note.placement)) (slice_get_past notes page h)
@@ -50,15 +44,11 @@ takes_state page None frame e = cc
 takes_state page (Some (At f)) frame e = (Holds page, ap (λ b. if b then Some (Holds page) else None) e, refl)
 takes_state page (Some (Moving serial source target)) frame e = puts page serial (nat_eq frame source) (nat_eq frame target) e
 
-off : (a b : Bool) → b ≡ true → (not a && not b) ≡ false
-off true b e = refl
-off false b e = ap not e
-
 -- a frame is free in the tables exactly where it is free in the state
 pub free_seen : (frames : List FrameState) (v : ZoneState) → FramesFit frames v → (frame : ℕ) → frame < frame_count v → free_at frames frame ≡ is_free v frame
 free_seen frames v fit frame within = by_held (is_held v frame) (is_used v frame) refl refl where
   by_held : (held used : Bool) → is_held v frame ≡ held → is_used v frame ≡ used → free_at frames frame ≡ (not (is_used v frame) && not (is_held v frame))
-  by_held true used is at = ap is_free_state (fit.of_block frame within is) ∙ sym (off (is_used v frame) (is_held v frame) is)
+  by_held true used is at = ap is_free_state (fit.of_block frame within is) ∙ sym (and_right (not (is_used v frame)) _ (ap not is))
   by_held false true is at =
       let one = some_one (λ page. takes_up (get v.placement page) frame) (frame_count v) at in
       let state = takes_state one.0 (get v.placement one.0) frame one.2 in

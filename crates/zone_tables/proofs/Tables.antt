@@ -1,42 +1,38 @@
 -- What the tables of a sound zone say of its state.
-use Rattle.std.proofs.Common.{◌≡◌, ℕ, zero, suc, ◌+◌, ◌<◌, ◌≤◌, Bool, true, false, not, List, [], ◌∷◌, length, ◌⊎◌, inl, inr, refl, sym, ap, ◌∙◌, arith}
+use Rattle.std.proofs.Common.{◌≡◌, ℕ, zero, suc, ◌+◌, ◌<◌, Bool, true, false, not, List, [], ◌∷◌, length, ◌⊎◌, inl, inr, refl, sym, ap, ◌∙◌, arith}
 use Rattle.std.specs.Prelude.{Option, Some, None, IsSome, IsTrue, is_some, slice_get, nat_eq, map as each, ◌&&◌, if◌then◌else◌}
 use Rattle.std.specs.FinMap as map
 use Rattle.std.specs.FinSet as set
-use Rattle.std.specs.Option.{option_and_then}
-use Rattle.std.proofs.lemmas.Bool.{eq-eqb, eqb-true}
-use Rattle.std.proofs.lemmas.Bool.Decides.{eqb_tells}
-use Rattle.std.proofs.lemmas.Option.{slice_get_past}
+use Rattle.std.proofs.lemmas.Bool.{eq-eqb, eqb-true, and_parts}
+use Rattle.std.proofs.lemmas.Option.{cond_some, same_Some}
 use Rattle.frame_core.proofs.Searches.{some_one}
-use Rattle.frame_core.specs.declared.place.Address.{Address}
 use Rattle.frame_core.specs.PageFlags.{page_flags}
-use Rattle.frame_core.specs.declared.flags.PageFlags.{PageFlags}
 use Rattle.frame_core.specs.declared.state.FrameState.{FrameState}
 use Rattle.frame_core.specs.declared.state.FrameState.TheVariants.{Free, Holds, Source, Target, Huge}
-use Rattle.frame_core.specs.History.{page_at, last, pins, maps}
+use Rattle.frame_core.specs.History.{last}
 use Rattle.table_core.specs.declared.entry.Entry.TheVariants.{Migration}
 use Rattle.frame_core.specs.Words.{words_of}
-use Rattle.state_core.specs.declared.information.Look.TheVariants as look
 use Rattle.zone_tables.specs.declared.note.PageNote.{PageNote}
 use Rattle.zone_tables.specs.declared.zone.ZoneTables.TheInside.{Inside}
 use Rattle.state_core.specs.declared.placement.Placement.{Placement}
 use Rattle.state_core.specs.declared.placement.Placement.TheVariants.{At, Moving}
 use Rattle.zone_tables.specs.Fits.{state_by, entry_for, FramesFit, WordsFit, NoteFits}
 use Rattle.state_core.specs.ZoneState.{words_frame, ZoneState, frame_count, takes_up, is_used, is_held, is_free}
-use Rattle.zone_tables.specs.Notes.{placement_of, is_unmovable_of, says_unmovable}
+use Rattle.zone_tables.specs.Notes.{placement_of, is_unmovable_of, says_unmovable, is_in_use}
 use Rattle.state_core.specs.Valid.{IsValidZone, is_under}
 use Rattle.state_core.specs.Carrying.{words_now, flags_of}
-use Rattle.state_core.specs.Looking.{look_by, look_of}
 use Rattle.state_core.specs.Pairs.{holder, can_move}
 use Rattle.scan_core.specs.Frames.{true_at}
 use Rattle.std.specs.List.{range_with_len}
 use Rattle.zone_tables.specs.Sound.{state_of, IsSound}
 use Rattle.state_core.proofs.Facts.{frame_within}
-use Rattle.zone_tables.proofs.Facts.{held_by}
+use Rattle.zone_tables.proofs.Facts.{held_by, is_sound}
 use Rattle.zone_tables.proofs.SearchesAndCounts.{placements_seen, takes_state}
 use Rattle.state_core.proofs.Placed.{untrue}
-use Rattle.zone_tables.proofs.Tabulating.{gathered_in, contains_gathered}
+use Rattle.zone_tables.proofs.Tabulating.{contains_gathered}
 use Rattle.state_core.proofs.Holding.{stands_at, when_not, holder_none}
+use Rattle.scan_core.proofs.Numbering.{gathered_in}
+use Rattle.zone_tables.proofs.NotedPages.{unmovable_past}
 
 -- a list whose items are f of the numbers from a first one on
 in_turn : (f : ℕ → ℕ) (xs : List ℕ) (n first : ℕ) → length xs ≡ n →
@@ -71,10 +67,6 @@ mark_seen z v view block h =
     sym (gathered_in (true_at z.marked) 8 block h)
     ∙ ap (λ (u : ZoneState). set.contains u.marked block) view
 
--- whether a page in use is noted as unmovable
-unmovable_past : (notes : List PageNote) (page : ℕ) → length notes ≤ page → is_unmovable_of notes page ≡ false
-unmovable_past notes page h = ap says_unmovable (slice_get_past notes page h)
-
 pub placement_seen : {W : ℕ} (z : Inside W) (v : ZoneState) → state_of z ≡ v → (page : ℕ) →
     placement_of z.notes page ≡ map.get v.placement page
 placement_seen z v view page =
@@ -86,10 +78,6 @@ pub record Noted {W : ℕ} (z : Inside W) (v : ZoneState) (page : ℕ) (note : P
   pub unmovable : note.unmovable ≡ set.contains v.unmovable page
   pub fits : NoteFits note v page
 
-if_placed : (a b : Bool) → a ≡ true → (a && b) ≡ b
-if_placed true b e = refl
-if_placed false b e = cc
-
 pub note_seen : {W : ℕ} {z : Inside W} {v : ZoneState} → state_of z ≡ v → IsSound z v → {page : ℕ} → IsSome (map.get v.placement page) → {note : PageNote} → slice_get z.notes page ≡ Some note → Noted z v page note
 note_seen {W} {z} {v} view sound {page} used {note} at =
     let placed : note.placement ≡ map.get v.placement page = sym (ap placement_in at) ∙ placement_seen z v view page in
@@ -97,7 +85,7 @@ note_seen {W} {z} {v} view sound {page} used {note} at =
     record {
       placement = placed;
       unmovable =
-          sym (if_placed (is_some note.placement) note.unmovable some) ∙ sym (ap says_unmovable at)
+          sym (ap (λ b. b && note.unmovable) some) ∙ sym (ap says_unmovable at)
           ∙ sym (contains_gathered (is_unmovable_of z.notes) (length z.notes) page (unmovable_past z.notes))
           ∙ ap (λ (u : ZoneState). set.contains u.unmovable page) view;
       fits = sound.notes.each page note at some;
@@ -106,28 +94,34 @@ note_seen {W} {z} {v} view sound {page} used {note} at =
       placement_in None = None
       placement_in (Some note) = note.placement
 
+-- a page in use is noted as such, also in a changed note that leaves it where it is
+pub use_seen : {W : ℕ} (z : Inside W) {v : ZoneState} → state_of z ≡ v → (page : ℕ) → IsSome (map.get v.placement page) → is_in_use z.notes page ≡ true
+use_seen z {v} view page used = ap is_some (placement_seen z v view page) ∙ used
+
+pub note_stays : {W : ℕ} {z : Inside W} {v : ZoneState} → state_of z ≡ v → IsSound z (state_of z) → (page : ℕ) → IsSome (map.get v.placement page) → {note : PageNote} → slice_get z.notes page ≡ Some note → (changed : PageNote) → changed.placement ≡ note.placement → IsSome changed.placement
+note_stays view invariant page used at changed same = ap is_some (same ∙ (note_seen view (is_sound view invariant) used at).placement) ∙ used
+
 -- a page in use has a note
 pub note_within : {W : ℕ} (z : Inside W) (v : ZoneState) → IsSound z v → (page : ℕ) → IsSome (map.get v.placement page) → page < length z.notes
 note_within z v sound page used = omega (arith, sound.valid.pages.numbered page used, sound.notes.count)
 
 -- a page gives a state only to its own frames
-by_two : (page q serial : ℕ) (a b : Bool) →
-    (if a then Some (Source serial) else if b then Some (Target serial) else None) ≡ Some (Holds q) → ⊥
-by_two page q serial true b e = cc
-by_two page q serial false true e = cc
-by_two page q serial false false e = cc
-
-by_one : (page q frame : ℕ) (b : Bool) → (if b then Some (Holds page) else None) ≡ Some (Holds q) → (b ≡ true) × (page ≡ q)
-by_one page q frame true e = (refl, cc)
-by_one page q frame false e = cc
+state_cases : (page : ℕ) (o : Option Placement) (frame : ℕ) (state : FrameState) → state_by page o frame ≡ Some state →
+    ((o ≡ Some (At frame)) × (state ≡ Holds page)) ⊎ ((serial : ℕ) × ((state ≡ Source serial) ⊎ (state ≡ Target serial)))
+state_cases page None frame state e = cc
+state_cases page (Some (At f)) frame state e = let is = cond_some (nat_eq frame f) (Holds page) state e in inl (stands_at (Some (At f)) frame is.0, sym is.1)
+state_cases page (Some (Moving serial source target)) frame state e = by_source (nat_eq frame source) e where
+  by_source : (a : Bool) → (if a then Some (Source serial) else if nat_eq frame target then Some (Target serial) else None) ≡ Some state →
+      ((Some (Moving serial source target) ≡ Some (At frame)) × (state ≡ Holds page)) ⊎ ((serial : ℕ) × ((state ≡ Source serial) ⊎ (state ≡ Target serial)))
+  by_source true e = inr (serial, inl (sym (same_Some _ _ e)))
+  by_source false e = inr (serial, inr (sym (cond_some (nat_eq frame target) (Target serial) state e).1))
 
 holds_by : (page q : ℕ) (o : Option Placement) (frame : ℕ) → state_by page o frame ≡ Some (Holds q) →
     (o ≡ Some (At frame)) × (page ≡ q)
-holds_by page q None frame e = cc
-holds_by page q (Some (At f)) frame e = let is = by_one page q frame (nat_eq frame f) e in
-    (stands_at (Some (At f)) frame is.0, is.1)
-holds_by page q (Some (Moving serial source target)) frame e =
-    absurd (by_two page q serial (nat_eq frame source) (nat_eq frame target) e)
+holds_by page q o frame e = elim (state_cases page o frame (Holds q) e) [
+  | inl at ↦ (at.0, let same : page ≡ q = (let is = at.1 in cc) in same)
+  | inr way ↦ absurd (elim way.1 [ inl is ↦ cc | inr is ↦ cc ])
+]
 
 -- the state of a frame comes from its block, or from its page, or is Free
 pub record ByPage (v : ZoneState) (frame : ℕ) (state : FrameState) : Type 0 where
@@ -188,21 +182,8 @@ pub flags_seen : {W : ℕ} (z : Inside W) (v : ZoneState) (page : ℕ) (note : P
 flags_seen z v page note noted = λ i. page_flags (noted.unmovable i) (noted.fits.dirty i)
 
 -- a frame is in a block that is handed out exactly where its state is Huge
-by_block : (page serial : ℕ) (a b : Bool) →
-    (if a then Some (Source serial) else if b then Some (Target serial) else None) ≡ Some Huge → ⊥
-by_block page serial true b e = cc
-by_block page serial false true e = cc
-by_block page serial false false e = cc
-
-by_held : (page : ℕ) (b : Bool) → (if b then Some (Holds page) else None) ≡ Some Huge → ⊥
-by_held page true e = cc
-by_held page false e = cc
-
 huge_by : (page : ℕ) (o : Option Placement) (frame : ℕ) → state_by page o frame ≡ Some Huge → ⊥
-huge_by page None frame e = cc
-huge_by page (Some (At f)) frame e = by_held page (nat_eq frame f) e
-huge_by page (Some (Moving serial source target)) frame e = by_block page serial (nat_eq frame source)
-    (nat_eq frame target) e
+huge_by page o frame e = elim (state_cases page o frame Huge e) [ inl at ↦ (let is = at.1 in cc) | inr way ↦ elim way.1 [ inl is ↦ cc | inr is ↦ cc ] ]
 
 pub huge_seen : (frames : List FrameState) (v : ZoneState) → FramesFit frames v → (frame : ℕ) (state : FrameState) →
     frame < frame_count v → slice_get frames frame ≡ Some state → state ≡ Huge → is_held v frame ≡ true
@@ -229,23 +210,6 @@ migration_is (Some (Moving s from target)) serial source e =
     let left : from ≡ source = cc in
     (target, λ i. Some (Moving (same i) (left i) target))
 
--- what is known of the page that an address names
-pub look_resident : (v : ZoneState) (address : Address) (page q frame : ℕ) (flags : PageFlags) (n m : ℕ) →
-    page_at v.records address ≡ Some page → map.get v.placement page ≡ Some (At frame) → page ≡ q → flags ≡ flags_of v q →
-    n ≡ pins v.records q → m ≡ maps v.records q → Some (look.At frame flags n m) ≡ look_of v address
-look_resident v address page q frame flags n m named at same f p u =
-    (λ i. Some (look.At frame (f i) (p i) (u i))) ∙ ap (λ (r : ℕ). look_by v r (Some (At frame))) (sym same)
-    ∙ sym (ap (look_by v page) at)
-    ∙ sym (ap (option_and_then (λ (r : ℕ). look_by v r (map.get v.placement r))) named)
-
-pub look_moving : (v : ZoneState) (address : Address) (page q serial source target n m : ℕ) →
-    page_at v.records address ≡ Some page → map.get v.placement page ≡ Some (Moving serial source target) → page ≡ q →
-    n ≡ pins v.records q → m ≡ maps v.records q → Some (look.Moving serial n m) ≡ look_of v address
-look_moving v address page q serial source target n m named at same p u =
-    (λ i. Some (look.Moving serial (p i) (u i))) ∙ ap (λ (r : ℕ). look_by v r (Some (Moving serial source target)))
-    (sym same) ∙ sym (ap (look_by v page) at)
-    ∙ sym (ap (option_and_then (λ (r : ℕ). look_by v r (map.get v.placement r))) named)
-
 -- whether a page is moving under a serial
 pub under_is : (o : Option Placement) (serial : ℕ) → is_under o serial ≡ true →
     (source target : ℕ) × (o ≡ Some (Moving serial source target))
@@ -259,24 +223,16 @@ pub own_when : (zone number serial : ℕ) (o : Option Placement) (under source t
 own_when zone number serial o under source target here at same =
     (λ i. eq-eqb zone number here i && is_under (at i) serial) ∙ eq-eqb under serial same
 
-pub own_under : (a b : Bool) → (a && b) ≡ true → b ≡ true
-own_under true b e = e
-own_under false b e = cc
-
 pub not_own : (zone number serial : ℕ) (o : Option Placement) (some : Bool) → some ≡ false →
     ((source target : ℕ) → o ≡ Some (Moving serial source target) → ⊥) →
     (some ≡ true → IsTrue (nat_eq zone number && is_under o serial)) × (IsTrue (nat_eq zone number && is_under o serial) →
     some ≡ true)
 not_own zone number serial o some e none = (
   λ is. absurd (untrue some e is),
-  λ own. (let way = under_is o serial (own_under (nat_eq zone number) (is_under o serial) own) in
+  λ own. (let way = under_is o serial ((and_parts (nat_eq zone number) (is_under o serial) own).1) in
       absurd (none way.0 way.1 way.2)),
 )
 
 pub other_serial : (o : Option Placement) (under serial source target : ℕ) → o ≡ Some (Moving under source target) →
     (under ≡ serial → ⊥) → (s t : ℕ) → o ≡ Some (Moving serial s t) → ⊥
 other_serial o under serial source target at ne s t e = let same : under ≡ serial = cc in ne same
-
-pub same_number : (a b : ℕ) → false ≡ not (nat_eq a b) → a ≡ b
-same_number a b e = elim (eqb_tells a b)
-    [ inl is ↦ is.1 | inr isnt ↦ (let bad : true ≡ false = sym (ap not isnt.0) ∙ sym e in cc) ]

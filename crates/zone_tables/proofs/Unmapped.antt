@@ -1,6 +1,6 @@
 -- An address is taken from a page, and with its last one the page goes out of use: the tables still stand for the zone.
-use Rattle.std.proofs.Common.{◌≡◌, ◌≢◌, ℕ, ◌-◌, ◌<◌, List, not, length, false, refl, sym, ap, subst, ◌∙◌, arith, nat_eq}
-use Rattle.std.specs.Prelude.{Option, Some, None, slice_get, slice_set, ◌&&◌}
+use Rattle.std.proofs.Common.{◌≡◌, ◌≢◌, ℕ, ◌-◌, ◌<◌, List, not, length, false, refl, sym, ap, ◌∙◌, arith, nat_eq}
+use Rattle.std.specs.Prelude.{Some, None, slice_get, slice_set, ◌&&◌}
 use Rattle.std.specs.Option.{option_and_then}
 use Rattle.std.specs.FinMap as map
 use Rattle.std.proofs.lemmas.Bool.{eq-eqb, eqb-true}
@@ -9,7 +9,7 @@ use Rattle.frame_core.proofs.Lists.{slice_get_set_same, slice_get_set_other}
 use Rattle.frame_core.specs.declared.place.Address.{Address}
 use Rattle.frame_core.specs.declared.state.FrameState.TheVariants.{Free}
 use Rattle.frame_core.specs.declared.record.Record.TheVariants.{Unmap}
-use Rattle.frame_core.specs.History.{same_address, page_at, maps, pins}
+use Rattle.frame_core.specs.History.{same_address, maps, pins}
 use Rattle.table_core.specs.declared.entry.Entry.TheVariants.{Absent}
 use Rattle.table_core.specs.Tables.{Tables, ChangesOnly}
 use Rattle.scan_core.specs.Frames.{Frames}
@@ -26,11 +26,12 @@ use Rattle.zone_tables.specs.Fits.{entry_for}
 use Rattle.zone_tables.specs.History.{History, told}
 use Rattle.zone_tables.specs.Notes.{unused_note}
 use Rattle.zone_tables.specs.Sound.{state_of, IsSound}
-use Rattle.zone_tables.proofs.Entries.{entries_changed}
-use Rattle.zone_tables.proofs.NotedPages.{placements_removed, unmovable_removed}
+use Rattle.zone_tables.proofs.Entries.{entries_changed, placement_same}
 use Rattle.zone_tables.proofs.Noting.{Noting}
 use Rattle.zone_tables.proofs.Placement.{GetsPlace, LeavesOthers, frames_fit, movable_fit, words_fit, notes_fit, sources_fit}
 use Rattle.zone_tables.proofs.Tables.{note_seen}
+use Rattle.zone_tables.proofs.NotedPages.{placements_put, unmovable_put}
+use Rattle.zone_tables.proofs.Facts.{Becomes, becomes}
 
 -- what is known when an address names its page no more
 pub record Unmapping {W : ℕ} (z : Inside W) (v : ZoneState) (client : ℕ) (address : Address) (page frame : ℕ) (tables : Tables) (history : History) : Type 0 where
@@ -103,12 +104,9 @@ module _ {W : ℕ} (z : Inside W) (v : ZoneState) (client : ℕ) (address : Addr
 
     -- the placement of the page of each other address stays
     placement_there : (a : Address) → same_address a address ≡ false → placement_at gone a ≡ placement_at v a
-    placement_there a e = ap (option_and_then (map.get gone.placement)) (named_there v client address page frame can a e) ∙ by_name (page_at v.records a) refl where
-      by_name : (o : Option ℕ) → page_at v.records a ≡ o → option_and_then (map.get gone.placement) (page_at v.records a) ≡ option_and_then (map.get v.placement) (page_at v.records a)
-      by_name None is = ap (option_and_then (map.get gone.placement)) is ∙ sym (ap (option_and_then (map.get v.placement)) is)
-      by_name (Some q) is =
-          let ne = none_left v client address page frame can one a q (named_there v client address page frame can a e ∙ is) in
-          ap (option_and_then (map.get gone.placement)) is ∙ get_remove_other v.placement page q ne ∙ sym (ap (option_and_then (map.get v.placement)) is)
+    placement_there a e =
+        let named = named_there v client address page frame can a e in
+        placement_same v gone a named (λ q is. get_remove_other v.placement page q (none_left v client address page frame can one a q (named ∙ is)))
 
     note_within : page < length z.notes
     note_within = omega (arith, can.valid.pages.numbered page (not_none _ (At frame) can.at), known.sound.notes.count)
@@ -142,18 +140,11 @@ module _ {W : ℕ} (z : Inside W) (v : ZoneState) (client : ℕ) (address : Addr
 
     pub last_view : state_of (after_last z page frame tables history) ≡ gone
     last_view =
-        let p = placements_removed z.notes page unused_note note_within refl in
-        let u = unmovable_removed z.notes page unused_note note_within refl in
+        let p = placements_put z.notes page unused_note note_within in
+        let u = unmovable_put z.notes page unused_note note_within false refl in
         let here : state_of (after_last z page frame tables history) ≡ without_page (noted (state_of z) (Unmap client address)) page =
         λ i. record (state_of z) { records = (known.history_is i).records; room = (known.history_is i).room; round = (known.history_is i).round; placement = p i; unmovable = u i } in
         here ∙ ap (λ (s : ZoneState). without_page (noted s (Unmap client address)) page) known.view
 
-    -- the fields of a zone after the last address was taken, given its frames and notes
-    abbrev last_with : Frames → List PageNote → Inside W
-    last_with frames notes = record z { frames = frames; tables = tables; notes = notes; history = history }
-
-    pub last_holds : (frames : Frames) (notes : List PageNote) → frames ≡ record z.frames { states = slice_set z.frames.states frame Free } → notes ≡ slice_set z.notes page unused_note → IsSound (last_with frames notes) (state_of (last_with frames notes)) × (state_of (last_with frames notes) ≡ gone)
-    last_holds frames notes frames_are notes_are =
-        let Holds : Inside W → Type 0 = λ u. IsSound u (state_of u) × (state_of u ≡ gone) in
-        let same : last_with frames notes ≡ after_last z page frame tables history = λ i. last_with (frames_are i) (notes_are i) in
-        subst Holds (sym same) (subst (IsSound (after_last z page frame tables history)) (sym last_view) last_sound, last_view)
+    pub last_holds : {frames : Frames} {notes : List PageNote} → frames ≡ record z.frames { states = slice_set z.frames.states frame Free } → notes ≡ slice_set z.notes page unused_note → Becomes (record z { frames = frames; tables = tables; notes = notes; history = history }) gone
+    last_holds frames_are notes_are = becomes {ideal = after_last z page frame tables history} (λ i. record z { frames = frames_are i; tables = tables; notes = notes_are i; history = history }) last_view last_sound

@@ -1,5 +1,5 @@
 -- A read and a write of several words leave a zone sound, as loads and stores one after the other do.
-use Rattle.std.proofs.Common.{◌≡◌, ℕ, zero, suc, ◌+◌, ◌-◌, ◌<◌, ◌≤◌, true, List, [], ◌∷◌, ◌++◌, length, take, drop, refl, sym, ap, subst, ◌∙◌, arith, map as each}
+use Rattle.std.proofs.Common.{◌≡◌, ℕ, zero, suc, ◌+◌, ◌-◌, ◌<◌, ◌≤◌, true, List, [], ◌∷◌, ◌++◌, length, take, drop, refl, sym, ap, ◌∙◌, arith, map as each}
 use Rattle.std.specs.Prelude.{Option, Some, slice_get, slice_set, unwrap_or}
 use Rattle.std.specs.FinMap as map
 use Rattle.std.specs.List.{range_with_len}
@@ -19,9 +19,9 @@ use Rattle.state_core.specs.ZoneState.{ZoneState, placement_at}
 use Rattle.state_core.proofs.Facts.{frame_within, page_named}
 use Rattle.zone_tables.specs.declared.note.PageNote.{PageNote}
 use Rattle.zone_tables.specs.declared.zone.ZoneTables.TheInside.{Inside}
-use Rattle.zone_tables.specs.History.{told, told_loads, told_stores}
+use Rattle.zone_tables.specs.History.{told, told_loads, told_stores, History}
 use Rattle.zone_tables.specs.Sound.{IsSound, state_of}
-use Rattle.zone_tables.proofs.Facts.{noted_view}
+use Rattle.zone_tables.proofs.Facts.{noted_view, Becomes, becomes}
 use Rattle.zone_tables.proofs.LoadsAndStores.{Storing, after_store, store_sound, store_view, loaded_sound, words_set_same}
 use Rattle.zone_tables.proofs.Tables.{words_seen}
 
@@ -48,15 +48,10 @@ first_load z v client address frame from count is = record {
   at = is.at;
 }
 
-pub loads_sound : {W : ℕ} (z : Inside W) (v : ZoneState) (client : ℕ) (address : Address) (frame from count : ℕ) → Reading z v address frame count → IsSound (after_loads z v client address from count) (loaded_all v client address from count)
-loads_sound z v client address frame from zero is = is.sound
-loads_sound z v client address frame from (suc count) is =
-    loads_sound (one_loaded z v client address from) (loaded v client address from) client address frame (from + 1) count (first_load z v client address frame from count is)
-
-pub loads_view : {W : ℕ} (z : Inside W) (v : ZoneState) (client : ℕ) (address : Address) (frame from count : ℕ) → Reading z v address frame count → state_of (after_loads z v client address from count) ≡ loaded_all v client address from count
-loads_view z v client address frame from zero is = is.view
-loads_view z v client address frame from (suc count) is =
-    loads_view (one_loaded z v client address from) (loaded v client address from) client address frame (from + 1) count (first_load z v client address frame from count is)
+pub loads_hold : {W : ℕ} (z : Inside W) (v : ZoneState) (client : ℕ) (address : Address) (frame from count : ℕ) → Reading z v address frame count → IsSound (after_loads z v client address from count) (loaded_all v client address from count) × (state_of (after_loads z v client address from count) ≡ loaded_all v client address from count)
+loads_hold z v client address frame from zero is = (is.sound, is.view)
+loads_hold z v client address frame from (suc count) is =
+    loads_hold (one_loaded z v client address from) (loaded v client address from) client address frame (from + 1) count (first_load z v client address frame from count is)
 
 -- what f has of the numbers from a first one on, without the first k
 dropped : (f : ℕ → ℕ) (first k n : ℕ) → drop k (each f (range_with_len first (k + n))) ≡ each f (range_with_len (first + k) n)
@@ -155,18 +150,13 @@ first_store z v client address page frame from value count note is =
       note_is = slice_get_set_same z.notes page page (record note { dirty = true }) refl (slice_get_within z.notes page note is.note_is);
     }
 
-each_sound : {W : ℕ} (z : Inside W) (v : ZoneState) (client : ℕ) (address : Address) (page frame from : ℕ) (note : PageNote) (values : List ℕ) → Writing z v address page frame from note (length values) → IsSound (after_each z client address page frame from note values) (stored_all v client address from values)
-each_sound z v client address page frame from note [] is = is.sound
-each_sound z v client address page frame from note (value ∷ values) is =
-    each_sound (after_store z page frame from value note (told z.history (Store client address from value))) (stored v client address from value) client address page frame (from + 1) (record note { dirty = true }) values (first_store z v client address page frame from value (length values) note is)
-
-each_view : {W : ℕ} (z : Inside W) (v : ZoneState) (client : ℕ) (address : Address) (page frame from : ℕ) (note : PageNote) (values : List ℕ) → Writing z v address page frame from note (length values) → state_of (after_each z client address page frame from note values) ≡ stored_all v client address from values
-each_view z v client address page frame from note [] is = is.view
-each_view z v client address page frame from note (value ∷ values) is =
-    each_view (after_store z page frame from value note (told z.history (Store client address from value))) (stored v client address from value) client address page frame (from + 1) (record note { dirty = true }) values (first_store z v client address page frame from value (length values) note is)
+each_hold : {W : ℕ} (z : Inside W) (v : ZoneState) (client : ℕ) (address : Address) (page frame from : ℕ) (note : PageNote) (values : List ℕ) → Writing z v address page frame from note (length values) → IsSound (after_each z client address page frame from note values) (stored_all v client address from values) × (state_of (after_each z client address page frame from note values) ≡ stored_all v client address from values)
+each_hold z v client address page frame from note [] is = (is.sound, is.view)
+each_hold z v client address page frame from note (value ∷ values) is =
+    each_hold (after_store z page frame from value note (told z.history (Store client address from value))) (stored v client address from value) client address page frame (from + 1) (record note { dirty = true }) values (first_store z v client address page frame from value (length values) note is)
 
 -- the fields of a zone after a write, all stores at once
-abbrev pub after_stores : {W : ℕ} → Inside W → ℕ → Address → ℕ → ℕ → ℕ → PageNote → List ℕ → Inside W
+abbrev after_stores : {W : ℕ} → Inside W → ℕ → Address → ℕ → ℕ → ℕ → PageNote → List ℕ → Inside W
 after_stores z client address page frame from note values = record z {
   words = with_words z.words frame (put_from (words_of z.words frame) from values);
   notes = slice_set z.notes page (record note { dirty = true });
@@ -202,10 +192,9 @@ each_at_once z v client address page frame from note (value ∷ values) some is 
 
 -- a write leaves the zone as stores one after the other do
 module _ {W : ℕ} (z : Inside W) (v : ZoneState) (client : ℕ) (address : Address) (page frame from : ℕ) (note : PageNote) (values : List ℕ) (some : 0 < length values) (is : Writing z v address page frame from note (length values)) where
-  pub stores_view : state_of (after_stores z client address page frame from note values) ≡ stored_all v client address from values
-  stores_view = ap state_of (sym (each_at_once z v client address page frame from note values some is)) ∙ each_view z v client address page frame from note values is
-
-  pub stores_sound : IsSound (after_stores z client address page frame from note values) (stored_all v client address from values)
-  stores_sound =
-      subst (λ (y : Inside W). IsSound y (stored_all v client address from values)) (each_at_once z v client address page frame from note values some is)
-      (each_sound z v client address page frame from note values is)
+  pub stores_hold : {rows : List (List ℕ)} {notes : List PageNote} {history : History} → rows ≡ with_words z.words frame (put_from (words_of z.words frame) from values) → notes ≡ slice_set z.notes page (record note { dirty = true }) →
+      history ≡ told_stores z.history client address from values → Becomes (record z { words = rows; notes = notes; history = history }) (stored_all v client address from values)
+  stores_hold r n h =
+      let known = each_hold z v client address page frame from note values is in
+      becomes {ideal = after_each z client address page frame from note values}
+      ((λ i. record z { words = r i; notes = n i; history = h i }) ∙ sym (each_at_once z v client address page frame from note values some is)) known.1 known.0

@@ -1,8 +1,8 @@
 use Rattle.std.proofs.Common.{◌≤◌, ◌∙◌, sym, length, arith}
-use Rattle.frame_core.proofs.Searches.{count_some}
+use Rattle.frame_core.proofs.Searches.{count_some, count_most}
 use Rattle.frame_core.specs.Below.{count_below}
 use Rattle.zone_tables.specs.Notes.{is_in_use}
-use Rattle.zone_tables.proofs.InUse.{in_use_most, was_in_use, gained_counted, lost_counted, kept_counted}
+use Rattle.zone_tables.proofs.InUse.{was_in_use, gained_counted, lost_counted, kept_counted}
 use Rattle.zone_tables.proofs.notes.Notes.put.Goals as goal
 
 pub overflow_sub-self : goal.overflow_sub-self
@@ -23,7 +23,7 @@ invariant_of-self-else-not-is c =
 
 pub overflow_add-self : goal.overflow_add-self
 overflow_add-self c =
-    let most : count_below (is_in_use c.self.inside.notes.items) (length c.self.inside.notes.items) ≤ length c.self.inside.notes.items = in_use_most c.self.inside.notes.items (length c.self.inside.notes.items) in
+    let most : count_below (is_in_use c.self.inside.notes.items) (length c.self.inside.notes.items) ≤ length c.self.inside.notes.items = count_most (is_in_use c.self.inside.notes.items) (length c.self.inside.notes.items) in
     omega (arith, most, c.self.invariant.in_use, c.self.invariant.few)
 
 pub invariant_of-self-then-is : goal.invariant_of-self-then-is

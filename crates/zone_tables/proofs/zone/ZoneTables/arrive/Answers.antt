@@ -12,9 +12,8 @@ use Rattle.zone_tables.proofs.HeldWords.{contents_kept}
 use Rattle.zone_tables.specs.declared.zone.ZoneTables.TheInside.{Inside}
 use Rattle.state_core.specs.declared.placement.Placement.TheVariants.{At, Moving}
 use Rattle.state_core.specs.Carrying.{relocated}
-use Rattle.state_core.specs.Ending.{IsSettled, target_of, moved_to_target}
+use Rattle.state_core.specs.Ending.{IsSettled, target_of}
 use Rattle.zone_tables.specs.Contents.{contents_at}
-use Rattle.zone_tables.specs.Sound.{state_of}
 use Rattle.zone_tables.specs.Tabulated.{tabulated}
 use Rattle.state_core.specs.ZoneState.{ZoneState}
 use Rattle.state_core.proofs.Facts.{not_none}
@@ -97,16 +96,13 @@ settling {g = g} c =
           ∙ contents_kept z v sound c.self.view_is way.target c.args.copy.now.words (target_unheld c.self.view_is c.self.invariant c.args.way.now.page c.requires.placed);
     }
 
-view : {g : Over} (c : After-note g) → state_of (after c) ≡ moved_to_target c.args.self.now c.args.way.now.serial c.args.way.now.page
-view c =
-    settle_view (settling c)
-    ∙ ap (λ (frame : ℕ). relocated c.args.self.now (Moved c.args.way.now.serial) c.args.way.now.page (At frame)) (sym (ap target_of c.requires.placed))
-
 pub invariant_of-self : goal.invariant_of-self
 invariant_of-self g c = settle_invariant (settling c)
 
 pub returns-clause-step : goal.returns-clause-step
-returns-clause-step g c = view c
+returns-clause-step g c =
+    settle_view (settling c)
+    ∙ ap (λ (frame : ℕ). relocated c.args.self.now (Moved c.args.way.now.serial) c.args.way.now.page (At frame)) (sym (ap target_of c.requires.placed))
 
 pub returns-clause-settled : goal.returns-clause-settled
 returns-clause-settled g c =

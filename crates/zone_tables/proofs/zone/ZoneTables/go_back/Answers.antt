@@ -11,8 +11,7 @@ use Rattle.zone_tables.specs.Moves.{Moves}
 use Rattle.zone_tables.specs.declared.zone.ZoneTables.TheInside.{Inside}
 use Rattle.state_core.specs.declared.placement.Placement.TheVariants.{At, Moving}
 use Rattle.state_core.specs.Carrying.{relocated}
-use Rattle.state_core.specs.Ending.{IsSettled, source_of, put_back_to_source}
-use Rattle.zone_tables.specs.Sound.{state_of}
+use Rattle.state_core.specs.Ending.{IsSettled, source_of}
 use Rattle.state_core.specs.ZoneState.{ZoneState}
 use Rattle.state_core.proofs.Facts.{not_none}
 use Rattle.state_core.proofs.Settled.{can_go_back, back_recorded, frames_apart, source_within, target_in, swept_if_put_back}
@@ -88,16 +87,13 @@ settling c =
       contents_same = refl;
     }
 
-view : {g : Over} (c : After-note g) → state_of (after c) ≡ put_back_to_source c.args.self.now c.args.way.now.serial c.args.way.now.page c.args.cause
-view c =
-    settle_view (settling c)
-    ∙ ap (λ (frame : ℕ). relocated c.args.self.now (Back c.args.way.now.serial c.args.cause) c.args.way.now.page (At frame)) (sym (ap source_of c.requires.placed))
-
 pub invariant_of-self : goal.invariant_of-self
 invariant_of-self g c = settle_invariant (settling c)
 
 pub returns-clause-step : goal.returns-clause-step
-returns-clause-step g c = view c
+returns-clause-step g c =
+    settle_view (settling c)
+    ∙ ap (λ (frame : ℕ). relocated c.args.self.now (Back c.args.way.now.serial c.args.cause) c.args.way.now.page (At frame)) (sym (ap source_of c.requires.placed))
 
 pub returns-clause-settled : goal.returns-clause-settled
 returns-clause-settled g c =

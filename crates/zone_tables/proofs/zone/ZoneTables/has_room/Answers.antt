@@ -1,13 +1,11 @@
 use Rattle.std.proofs.Common.{◌∙◌, ap}
 use Rattle.std.specs.Prelude.{nat_lt}
 use Rattle.state_core.specs.ZoneState.{ZoneState}
-use Rattle.zone_tables.proofs.Facts.{is_sound}
-use Rattle.zone_tables.proofs.OutAndEnded.{out_is}
 use Rattle.zone_tables.proofs.zone.ZoneTables.has_room.Goals as goal
+use Rattle.zone_tables.proofs.OutAndEnded.{out_seen}
 
 pub returns : goal.returns
 returns g c =
-    let sound = is_sound c.self.view_is c.self.invariant in
-    let out = c.from.ensures ∙ out_is c.self.inside.moves c.args.self.now.records sound.moves sound.valid.journal.well_ended c.out.result c.out.ensures in
+    let out = c.from.ensures ∙ out_seen c.self.view_is c.self.invariant c.out.ensures in
     let room = c.room.ensures ∙ ap (λ (v : ZoneState). v.room) c.self.view_is in
     λ i. nat_lt (out i) (room i)

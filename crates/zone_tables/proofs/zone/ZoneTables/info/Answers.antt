@@ -2,10 +2,10 @@ use Rattle.std.proofs.Common.{◌≡◌, ◌∙◌, ◌+◌}
 use Rattle.state_core.specs.Looking.{info_of}
 use Rattle.zone_tables.proofs.Facts.{is_sound}
 use Rattle.zone_tables.proofs.SearchesAndCounts.{free_counted, whole_counted, in_use_seen, blocks_seen, held_seen}
-use Rattle.zone_tables.proofs.OutAndEnded.{out_is}
 use Rattle.zone_tables.proofs.zone.ZoneTables.info.Given.{Over}
 use Rattle.zone_tables.proofs.zone.ZoneTables.info.Goals as goal
 use Rattle.zone_tables.proofs.zone.ZoneTables.info.Goals.{After-frames}
+use Rattle.zone_tables.proofs.OutAndEnded.{out_seen}
 
 counts : {g : Over} (c : After-frames g) → record { free = c.free.result; pages = c.in_use.result; moving = c.out.result; huge = c.blocks-2.result; whole = c.whole_blocks.result; held = c.frames.result } ≡ info_of c.args.self.now
 counts c =
@@ -13,7 +13,7 @@ counts c =
     let free = c.free.ensures ∙ free_counted c.self.inside.frames.states c.args.self.now sound.frames in
     let whole = c.whole_blocks.ensures ∙ whole_counted c.self.inside.frames.states c.args.self.now sound.frames in
     let pages = c.in_use.ensures ∙ in_use_seen c.self.inside c.args.self.now c.self.view_is sound.notes.count in
-    let moving = out_is c.self.inside.moves c.args.self.now.records sound.moves sound.valid.journal.well_ended c.out.result c.out.ensures in
+    let moving = out_seen c.self.view_is c.self.invariant c.out.ensures in
     let huge = c.blocks-2.ensures ∙ blocks_seen c.self.inside c.args.self.now c.self.view_is sound.orders in
     let held = c.frames.ensures ∙ held_seen c.self.inside c.args.self.now c.self.view_is sound.orders in
     λ i. record { free = free i; pages = pages i; moving = moving i; huge = huge i; whole = whole i; held = held i }

@@ -50,8 +50,7 @@ to_target-requires g c =
 pub isolate-serial-requires-clause-within : goal.isolate-serial-requires-clause-within
 isolate-serial-requires-clause-within g c =
     let sound = is_sound c.self.view_is c.self.invariant in
-    let at = (can_isolate c.args.self.now c.args.pair sound.valid c.requires.pair).at in
-    omega (arith, frame_within c.args.self.now sound.valid c.args.pair.page (At c.args.pair.source) at, sound.sources.count)
+    omega (arith, frame_within c.args.self.now sound.valid c.args.pair.page (At c.args.pair.source) c.requires.pair.from.here, sound.sources.count)
 
 pub isolate-serial-requires-clause-serial_left : goal.isolate-serial-requires-clause-serial_left
 isolate-serial-requires-clause-serial_left g c =
@@ -59,7 +58,7 @@ isolate-serial-requires-clause-serial_left g c =
 
 pub place-requires : goal.place-requires
 place-requires g c =
-    ap is_some (placement_seen c.self.inside c.args.self.now c.self.view_is c.args.pair.page ∙ (can_isolate c.args.self.now c.args.pair (is_sound c.self.view_is c.self.invariant).valid c.requires.pair).at)
+    ap is_some (placement_seen c.self.inside c.args.self.now c.self.view_is c.args.pair.page ∙ c.requires.pair.from.here)
 
 -- the note of the page after it was isolated
 abbrev noted : {g : Over} → After-read_out-carried g → PageNote
@@ -68,7 +67,7 @@ noted c = get_or c.self.inside.notes c.args.pair.page unused_note
 note_is : {g : Over} (c : After-read_out-carried g) → slice_get c.self.inside.notes c.args.pair.page ≡ Some (noted c)
 note_is c =
     let sound = is_sound c.self.view_is c.self.invariant in
-    let used = not_none _ (At c.args.pair.source) (can_isolate c.args.self.now c.args.pair sound.valid c.requires.pair).at in
+    let used = not_none _ (At c.args.pair.source) c.requires.pair.from.here in
     slice_get-get_or c.self.inside.notes c.args.pair.page unused_note (note_within c.self.inside c.args.self.now sound c.args.pair.page used)
 
 -- the fields after the call
@@ -151,21 +150,18 @@ to_migration-requires-clause-fresh g c =
 pub to_migration-requires-clause-resting : goal.to_migration-requires-clause-resting
 to_migration-requires-clause-resting g c =
     let sound = is_sound c.self.view_is c.self.invariant in
-    let at = (can_isolate c.args.self.now c.args.pair sound.valid c.requires.pair).at in
-    page_rests c.self.inside.tables.entries c.args.self.now sound.entries sound.valid c.args.pair.page c.args.pair.source at
+    page_rests c.self.inside.tables.entries c.args.self.now sound.entries sound.valid c.args.pair.page c.args.pair.source c.requires.pair.from.here
 
 pub read_out-carried-requires : goal.read_out-carried-requires
 read_out-carried-requires g c =
     let sound = is_sound c.self.view_is c.self.invariant in
-    let at = (can_isolate c.args.self.now c.args.pair sound.valid c.requires.pair).at in
-    omega (arith, frame_within c.args.self.now sound.valid c.args.pair.page (At c.args.pair.source) at, sound.words.count)
+    omega (arith, frame_within c.args.self.now sound.valid c.args.pair.page (At c.args.pair.source) c.requires.pair.from.here, sound.words.count)
 
 pub returns-clause-page : goal.returns-clause-page
 returns-clause-page g c =
     let sound = is_sound c.self.view_is c.self.invariant in
-    let at = (can_isolate c.args.self.now c.args.pair sound.valid c.requires.pair).at in
     let serial = c.isolate-serial.ensures.serial ∙ sound.moves.isolated in
     let zone = ap (λ (u : ZoneState). u.number) c.self.view_is in
-    let words = words_seen c.self.inside.words c.args.self.now sound.words sound.valid c.args.pair.page (At c.args.pair.source) at in
+    let words = words_seen c.self.inside.words c.args.self.now sound.words sound.valid c.args.pair.page (At c.args.pair.source) c.requires.pair.from.here in
     let page = c.read_out-carried.ensures ∙ (λ i. record { zone = zone i; number = c.args.pair.page; flags = c.flags_of-flags.ensures i; words = words i }) in
     λ i. record { serial = (c.new.ensures.serial ∙ serial) i; page = (c.new.ensures.page ∙ page) i }

@@ -1,5 +1,5 @@
 use Rattle.std.proofs.Common.{◌∙◌, ℕ, ◌+◌, ap, sym, arith}
-use Rattle.std.specs.Prelude.{Option, slice_set, unwrap_or, is_some}
+use Rattle.std.specs.Prelude.{Option, slice_set, unwrap_or}
 use Rattle.frame_core.specs.declared.record.Record.TheVariants.{Pin}
 use Rattle.frame_core.specs.History.{pins}
 use Rattle.state_core.proofs.Facts.{spare}
@@ -9,7 +9,7 @@ use Rattle.scan_core.specs.Frames.{is_holding_state}
 use Rattle.zone_tables.proofs.Facts.{held_by, is_sound}
 use Rattle.zone_tables.proofs.Noting.{Noting, noting_holds}
 use Rattle.zone_tables.proofs.Pinned.{pinning}
-use Rattle.zone_tables.proofs.Tables.{note_seen, placement_seen}
+use Rattle.zone_tables.proofs.Tables.{note_seen, use_seen, note_stays}
 use Rattle.zone_tables.proofs.zone.ZoneTables.pin.Given.{Over}
 use Rattle.zone_tables.proofs.zone.ZoneTables.pin.Goals as goal
 use Rattle.zone_tables.proofs.zone.ZoneTables.pin.Goals.{After-note}
@@ -34,19 +34,16 @@ known c =
     c.note.ensures
 
 pub invariant_of-self : goal.invariant_of-self
-invariant_of-self g c = (noting_holds (known c) c.revise.new.self (c.revise.ensures ∙ ap (slice_set c.self.inside.notes c.page_at-page.result) c.with_pin-note.ensures)).0
+invariant_of-self g c = (noting_holds (known c) (c.revise.ensures ∙ ap (slice_set c.self.inside.notes c.page_at-page.result) c.with_pin-note.ensures)).0
 
 pub returns-clause-step : goal.returns-clause-step
-returns-clause-step g c = (noting_holds (known c) c.revise.new.self (c.revise.ensures ∙ ap (slice_set c.self.inside.notes c.page_at-page.result) c.with_pin-note.ensures)).1
+returns-clause-step g c = (noting_holds (known c) (c.revise.ensures ∙ ap (slice_set c.self.inside.notes c.page_at-page.result) c.with_pin-note.ensures)).1
 
 pub returns-clause-valid : goal.returns-clause-valid
 returns-clause-valid g c = (invariant_of-self g c).valid
 
 pub revise-requires-clause-used : goal.revise-requires-clause-used
-revise-requires-clause-used g c =
-    ap is_some (placement_seen c.self.inside c.args.self.now c.self.view_is c.page_at-page.result) ∙ c.page_at-page.ensures.in_use
+revise-requires-clause-used g c = use_seen c.self.inside c.self.view_is c.page_at-page.result c.page_at-page.ensures.in_use
 
 pub revise-requires-clause-stays : goal.revise-requires-clause-stays
-revise-requires-clause-stays g c =
-    let seen = note_seen c.self.view_is (is_sound c.self.view_is c.self.invariant) c.page_at-page.ensures.in_use c.get.ensures in
-    ap (λ (n : PageNote). is_some n.placement) c.with_pin-note.ensures ∙ ap is_some seen.placement ∙ c.page_at-page.ensures.in_use
+revise-requires-clause-stays g c = note_stays c.self.view_is c.self.invariant c.page_at-page.result c.page_at-page.ensures.in_use c.get.ensures c.with_pin-note.result (ap (λ (n : PageNote). n.placement) c.with_pin-note.ensures)

@@ -1,20 +1,17 @@
-use Rattle.std.proofs.Common.{◌≡◌, ◌∙◌, ℕ, List, ap, subst, sym, arith}
+use Rattle.std.proofs.Common.{◌∙◌, ℕ, ap, sym, arith}
 use Rattle.std.specs.Prelude.{slice_set, unwrap_or}
-use Rattle.zone_tables.specs.declared.note.PageNote.{PageNote}
-use Rattle.zone_tables.specs.declared.zone.ZoneTables.TheInside.{Inside}
-use Rattle.zone_tables.specs.Sound.{IsSound, state_of}
 use Rattle.state_core.specs.Mapping.{placed}
 use Rattle.state_core.proofs.Facts.{spare}
 use Rattle.state_core.proofs.Finding.{some_lowest, unused_is}
 use Rattle.state_core.proofs.Placed.{CanPlace}
-use Rattle.zone_tables.proofs.Facts.{is_sound}
-use Rattle.zone_tables.proofs.FreshPage.{Placing, fresh_note, after_place, place_view, place_sound}
-use Rattle.zone_tables.proofs.ListedAddresses.{count_none, none_left, not_used}
+use Rattle.zone_tables.proofs.Facts.{is_sound, Becomes}
+use Rattle.zone_tables.proofs.FreshPage.{Placing, place_holds}
+use Rattle.zone_tables.proofs.ListedAddresses.{count_none, none_left}
 use Rattle.zone_tables.proofs.SearchesAndCounts.{free_seen}
-use Rattle.scan_core.specs.Frames.{Frames}
 use Rattle.zone_tables.proofs.zone.ZoneTables.place.Given.{Over}
 use Rattle.zone_tables.proofs.zone.ZoneTables.place.Goals as goal
 use Rattle.zone_tables.proofs.zone.ZoneTables.place.Goals.{After-note}
+use Rattle.std.proofs.lemmas.Bool.{not-true, and_parts}
 
 pub unused_page-page-requires : goal.unused_page-page-requires
 unused_page-page-requires g c = (omega arith, some_lowest c.args.self.now c.args.frame c.requires.free c.requires.within)
@@ -44,10 +41,8 @@ put-requires g c =
 
 placing : {g : Over} (c : After-note g) → Placing c.self.inside c.args.self.now c.args.client c.args.address c.args.unmovable c.unused_page-page.result c.args.frame c.set.new.self c.note.new.self
 placing c =
-    let sound = is_sound c.self.view_is c.self.invariant in
-    let unused = unused_is c.args.self.now c.unused_page-page.result c.unused_page-page.ensures in
     record {
-      sound = sound;
+      sound = is_sound c.self.view_is c.self.invariant;
       view = c.self.view_is;
       can = can c;
       tables_new = c.set.ensures.set;
@@ -55,34 +50,18 @@ placing c =
       history_is = c.note.ensures;
     }
 
--- the fields after the call, given its frames, words and notes
-abbrev after : {g : Over} → After-note g → Frames → List (List ℕ) → List PageNote → Inside g.row.W
-after c frames rows notes = record c.self.inside {
-  frames = frames;
-  tables = c.set.new.self;
-  words = rows;
-  notes = notes;
-  history = c.note.new.self;
-}
-
-notes_are : {g : Over} (c : After-note g) → c.put.new.self ≡ slice_set c.self.inside.notes c.unused_page-page.result (fresh_note c.args.unmovable c.args.frame)
-notes_are c = c.put.ensures ∙ ap (slice_set c.self.inside.notes c.unused_page-page.result) c.fresh.ensures
-
-same : {g : Over} (c : After-note g) → after c c.fill.new.self c.blank.new.self c.put.new.self ≡ after_place c.self.inside c.args.unmovable c.unused_page-page.result c.args.frame c.set.new.self c.note.new.self
-same c = λ i. after c (c.fill.ensures.page i) (c.blank.ensures.blank i) (notes_are c i)
-
-view : {g : Over} (c : After-note g) → state_of (after_place c.self.inside c.args.unmovable c.unused_page-page.result c.args.frame c.set.new.self c.note.new.self) ≡ placed c.args.self.now c.args.client c.args.address c.args.unmovable c.unused_page-page.result c.args.frame
-view c = place_view c.self.inside c.args.self.now c.args.client c.args.address c.args.unmovable c.unused_page-page.result c.args.frame c.set.new.self c.note.new.self (placing c)
+fresh : {g : Over} (c : After-note g) → Becomes (record c.self.inside { frames = c.fill.new.self; tables = c.set.new.self; words = c.blank.new.self; notes = c.put.new.self; history = c.note.new.self })
+    (placed c.args.self.now c.args.client c.args.address c.args.unmovable c.unused_page-page.result c.args.frame)
+fresh c =
+    place_holds c.self.inside c.args.self.now c.args.client c.args.address c.args.unmovable c.unused_page-page.result c.args.frame c.set.new.self c.note.new.self (placing c)
+    c.fill.ensures.page c.blank.ensures.blank (c.put.ensures ∙ ap (slice_set c.self.inside.notes c.unused_page-page.result) c.fresh.ensures)
 
 pub invariant_of-self : goal.invariant_of-self
-invariant_of-self g c =
-    let S : Inside g.row.W → Type 0 = λ z. IsSound z (state_of z) in
-    let ideal = after_place c.self.inside c.args.unmovable c.unused_page-page.result c.args.frame c.set.new.self c.note.new.self in
-    subst S (sym (same c)) (subst (IsSound ideal) (sym (view c)) (place_sound c.self.inside c.args.self.now c.args.client c.args.address c.args.unmovable c.unused_page-page.result c.args.frame c.set.new.self c.note.new.self (placing c)))
+invariant_of-self g c = (fresh c).0
 
 pub returns-clause-step : goal.returns-clause-step
 returns-clause-step g c =
-    ap state_of (same c) ∙ view c
+    (fresh c).1
     ∙ ap (λ (page : ℕ). placed c.args.self.now c.args.client c.args.address c.args.unmovable page c.args.frame) (sym (ap (λ o. unwrap_or o 0) c.unused_page-page.ensures))
 
 pub returns-clause-valid : goal.returns-clause-valid
@@ -95,9 +74,9 @@ set-requires-clause-within g c =
 pub set-requires-clause-room : goal.set-requires-clause-room
 set-requires-clause-room g c =
     let sound = is_sound c.self.view_is c.self.invariant in
-    omega (arith, count_none c.self.inside.tables.entries c.args.self.now sound.entries sound.valid c.args.frame (not_used _ _ c.requires.free))
+    omega (arith, count_none c.self.inside.tables.entries c.args.self.now sound.entries sound.valid c.args.frame (not-true _ (and_parts _ _ c.requires.free).0))
 
 pub set-requires-clause-resting : goal.set-requires-clause-resting
 set-requires-clause-resting g c =
     let sound = is_sound c.self.view_is c.self.invariant in
-    none_left c.self.inside.tables.entries c.args.self.now sound.entries sound.valid c.args.frame (not_used _ _ c.requires.free)
+    none_left c.self.inside.tables.entries c.args.self.now sound.entries sound.valid c.args.frame (not-true _ (and_parts _ _ c.requires.free).0)

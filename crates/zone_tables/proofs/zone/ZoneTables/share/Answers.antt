@@ -1,5 +1,5 @@
 use Rattle.std.proofs.Common.{◌∙◌, ℕ, ◌+◌, ap, arith}
-use Rattle.std.specs.Prelude.{Option, slice_set, unwrap_or, is_some}
+use Rattle.std.specs.Prelude.{Option, slice_set, unwrap_or}
 use Rattle.frame_core.specs.declared.record.Record.TheVariants.{Share}
 use Rattle.frame_core.specs.History.{maps}
 use Rattle.state_core.specs.declared.placement.Placement.TheVariants.{At}
@@ -9,7 +9,7 @@ use Rattle.zone_tables.proofs.Facts.{is_sound}
 use Rattle.zone_tables.proofs.ListedAddresses.{count_names, page_rests}
 use Rattle.zone_tables.proofs.Noting.{Noting, noting_holds}
 use Rattle.zone_tables.proofs.Shared.{sharing}
-use Rattle.zone_tables.proofs.Tables.{note_seen, placement_seen}
+use Rattle.zone_tables.proofs.Tables.{note_seen, use_seen, note_stays}
 use Rattle.zone_tables.specs.declared.note.PageNote.{PageNote}
 use Rattle.zone_tables.proofs.zone.ZoneTables.share.Given.{Over}
 use Rattle.zone_tables.proofs.zone.ZoneTables.share.Goals as goal
@@ -38,10 +38,10 @@ known c =
     c.get-note.result c.set.new.self c.note.new.self c.get-note.ensures c.set.ensures.set c.set.ensures.frames c.note.ensures
 
 pub invariant_of-self : goal.invariant_of-self
-invariant_of-self g c = (noting_holds (known c) c.revise.new.self (c.revise.ensures ∙ ap (slice_set c.self.inside.notes c.page_at-page.result) c.with_address.ensures)).0
+invariant_of-self g c = (noting_holds (known c) (c.revise.ensures ∙ ap (slice_set c.self.inside.notes c.page_at-page.result) c.with_address.ensures)).0
 
 pub returns-clause-step : goal.returns-clause-step
-returns-clause-step g c = (noting_holds (known c) c.revise.new.self (c.revise.ensures ∙ ap (slice_set c.self.inside.notes c.page_at-page.result) c.with_address.ensures)).1
+returns-clause-step g c = (noting_holds (known c) (c.revise.ensures ∙ ap (slice_set c.self.inside.notes c.page_at-page.result) c.with_address.ensures)).1
 
 pub returns-clause-valid : goal.returns-clause-valid
 returns-clause-valid g c = (invariant_of-self g c).valid
@@ -59,13 +59,10 @@ set-requires-clause-room g c =
     omega (arith, c.requires.few, ap (λ (o : Option ℕ). maps c.args.self.now.records (unwrap_or o 0)) c.page_at-page.ensures.named, count_names c.self.inside.tables.entries c.args.self.now sound.entries sound.valid c.page_at-page.result c.args.frame at)
 
 pub revise-requires-clause-used : goal.revise-requires-clause-used
-revise-requires-clause-used g c =
-    ap is_some (placement_seen c.self.inside c.args.self.now c.self.view_is c.page_at-page.result) ∙ c.page_at-page.ensures.in_use
+revise-requires-clause-used g c = use_seen c.self.inside c.self.view_is c.page_at-page.result c.page_at-page.ensures.in_use
 
 pub revise-requires-clause-stays : goal.revise-requires-clause-stays
-revise-requires-clause-stays g c =
-    let seen = note_seen c.self.view_is (is_sound c.self.view_is c.self.invariant) c.page_at-page.ensures.in_use c.get-note.ensures in
-    ap (λ (n : PageNote). is_some n.placement) c.with_address.ensures ∙ ap is_some seen.placement ∙ c.page_at-page.ensures.in_use
+revise-requires-clause-stays g c = note_stays c.self.view_is c.self.invariant c.page_at-page.result c.page_at-page.ensures.in_use c.get-note.ensures c.with_address.result (ap (λ (n : PageNote). n.placement) c.with_address.ensures)
 
 pub set-requires-clause-resting : goal.set-requires-clause-resting
 set-requires-clause-resting g c =

@@ -25,10 +25,10 @@ unmapping c =
     }
 
 pub invariant_of-self : goal.invariant_of-self
-invariant_of-self g c = (last_holds _ _ _ _ _ _ _ _ (unmapping c) c.requires.last c.empty.new.self c.put.new.self c.empty.ensures.state (c.put.ensures ∙ ap (slice_set c.self.inside.notes c.args.page) c.unused.ensures)).0
+invariant_of-self g c = (last_holds _ _ _ _ _ _ _ _ (unmapping c) c.requires.last c.empty.ensures.state (c.put.ensures ∙ ap (slice_set c.self.inside.notes c.args.page) c.unused.ensures)).0
 
 pub returns-clause-step : goal.returns-clause-step
-returns-clause-step g c = (last_holds _ _ _ _ _ _ _ _ (unmapping c) c.requires.last c.empty.new.self c.put.new.self c.empty.ensures.state (c.put.ensures ∙ ap (slice_set c.self.inside.notes c.args.page) c.unused.ensures)).1
+returns-clause-step g c = (last_holds _ _ _ _ _ _ _ _ (unmapping c) c.requires.last c.empty.ensures.state (c.put.ensures ∙ ap (slice_set c.self.inside.notes c.args.page) c.unused.ensures)).1
 
 pub returns-clause-valid : goal.returns-clause-valid
 returns-clause-valid g c = (invariant_of-self g c).valid

@@ -2,14 +2,14 @@ use Rattle.std.proofs.Common.{rules, ◌≡◌, ℕ, ◌*◌, ◌^◌, List, len
 use Rattle.std.specs.Prelude.{Some}
 use Rattle.std.specs.FinMap as map
 use Rattle.std.specs.Fn.{FnOnceReturnsAtMut}
-use Rattle.state_core.specs.Contents.{contents_of}
+use Rattle.state_core.specs.Contents.{contents_of, contents_written}
 use Rattle.state_core.specs.ZoneState.{ZoneState}
 use Rattle.state_core.proofs.Contents.{length_contents}
 use Rattle.frame_core.specs.Words.{block_words, HasBlock, put_from}
 use Rattle.zone_tables.specs.Sound.{IsSound}
-use Rattle.zone_tables.proofs.Facts.{is_sound}
+use Rattle.zone_tables.proofs.Facts.{is_sound, Becomes}
 use Rattle.zone_tables.proofs.BlockFrames.{order_held}
-use Rattle.zone_tables.proofs.BlockWords.{put_whole, words_read, write_view, write_sound}
+use Rattle.zone_tables.proofs.BlockWords.{put_whole, words_read, write_holds}
 use Rattle.zone_tables.proofs.HeldWords.{written_again}
 use Rattle.zone_tables.proofs.zone.ZoneTables.with_block.Given.{Over}
 use Rattle.zone_tables.proofs.zone.ZoneTables.with_block.Goals as goal
@@ -48,21 +48,20 @@ module _ (g : Over) (c : After-with_block g) where
       subst (HasBlock c.self.inside.words c.with_block.new.self c.args.first (2 ^ c.args.order)) (sym (put_whole (contents_of c.args.self.now c.args.first) left same))
       (written_again c.clear.ensures.words (subst (λ (n : ℕ). HasBlock c.clear.new.words c.with_block.new.self c.args.first n left) c.frames.ensures.value c.with_block.ensures.changed.3))
 
+  stored : Becomes (record c.self.inside { words = c.with_block.new.self; cleared = c.clear.new.self }) (contents_written c.args.self.now c.args.first 0 left)
+  stored =
+      write_holds c.self.inside c.args.self.now sound c.self.view_is c.args.first c.args.order at _ c.clear.ensures.noted _ 0 left written (omega (arith, many)) c.with_block.ensures.sized
+
 pub invariant_of-self : goal.invariant_of-self
-invariant_of-self g c =
-    subst (IsSound _) (sym (write_view c.self.inside c.args.self.now (sound g c) c.self.view_is c.args.first c.args.order (at g c) _ c.clear.ensures.noted _ 0 (left g c) (written g c)))
-    (write_sound c.self.inside c.args.self.now (sound g c) c.self.view_is c.args.first c.args.order (at g c) _ c.clear.ensures.noted _ 0 (left g c) (written g c) (omega (arith, many g c)) c.with_block.ensures.sized)
+invariant_of-self g c = (stored g c).0
 
 pub returns-clause-changed : goal.returns-clause-changed
-returns-clause-changed g c =
-    let shown =
-    ap (block_words c.clear.new.words c.args.first) c.frames.ensures.value
-    ∙ words_read c.self.inside c.args.self.now (sound g c) c.self.view_is c.args.first c.args.order (at g c) _ c.clear.ensures.noted _ c.clear.ensures.words in (
-      left g c,
-      many g c,
-      subst (λ (words : List ℕ). FnOnceReturnsAtMut g.F.FnOnce c.args.change words c.with_block.result (left g c)) shown c.with_block.ensures.changed.2,
-      write_view c.self.inside c.args.self.now (sound g c) c.self.view_is c.args.first c.args.order (at g c) _ c.clear.ensures.noted _ 0 (left g c) (written g c),
-    )
+returns-clause-changed g c = (
+  left g c,
+  many g c,
+  subst (λ (words : List ℕ). FnOnceReturnsAtMut g.F.FnOnce c.args.change words c.with_block.result (left g c)) (shown g c.before) c.with_block.ensures.changed.2,
+  (stored g c).1,
+)
 
 pub returns-clause-valid : goal.returns-clause-valid
 returns-clause-valid g c = (invariant_of-self g c).valid
