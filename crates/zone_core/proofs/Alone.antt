@@ -19,27 +19,14 @@ use Rattle.zone_core.specs.Outcome.{IsSame}
 use Rattle.zone_core.proofs.Scanning.{by_scan, no_pin}
 use Rattle.zone_core.proofs.Coming.{comes_begun, comes_scan, comes_move, comes_put_back, stopped_seen}
 use Rattle.zone_core.proofs.ByHand.{exact}
+use Rattle.zone_core.proofs.Same.{with_fingers}
 
 under_way_begun : (start : ZoneState) → IsAtRest start → IsUnderWay start (round_begun start)
 under_way_begun start rest = record { comes = comes_begun start rest; least = omega arith; fresh = λ e. refl }
 
 -- the facts of `IsSame` don't look at the fingers, nor at how the latest round began
 same_begun : (v z : ZoneState) → IsSame v (round_begun z) → IsSame v z
-same_begun v z same = record {
-  number = same.number;
-  blocks = same.blocks;
-  page_size = same.page_size;
-  placement = same.placement;
-  unmovable = same.unmovable;
-  marked = same.marked;
-  handed_out = same.handed_out;
-  contents = same.contents;
-  records = same.records;
-  length_is = same.length_is;
-  back = same.back;
-  out_is = same.out_is;
-  room = same.room;
-}
+same_begun v z same = with_fingers v (round_begun z) same
 
 -- a zone whose round has just begun is the same
 begun_same : (z : ZoneState) → IsSame z (round_begun z)

@@ -6,7 +6,7 @@ use Rattle.std.proofs.lemmas.Bool.{and_parts, eqb-true, or_cases, false≢true, 
 use Rattle.std.proofs.lemmas.Option.{same_Some}
 use Rattle.std.proofs.lemmas.Bool.Decides.{eqb_tells}
 use Rattle.frame_core.specs.declared.record.Record.{Record}
-use Rattle.frame_core.specs.declared.record.Record.TheVariants.{Map, Share, Unmap, Store, Load, Pin, Unpin, Isolate, Moved, Back, TakeHuge, GiveHuge, Mark, Unmark}
+use Rattle.frame_core.specs.declared.record.Record.TheVariants.{Isolate, Moved, Back}
 use Rattle.frame_core.specs.Moves.{isolated, out, put_back, is_out, page_of}
 use Rattle.frame_core.proofs.OnTheWay.{any_without, none_out}
 use Rattle.state_core.specs.declared.placement.Placement.{Placement}
@@ -101,13 +101,11 @@ stand_past z law page low s a b at = let under = law.pages.numbered page (not_no
 -- zones in which no page is moving are the same if they come to the same
 
 same_place : (o p : Option Placement) → ((s a b : ℕ) → o ≡ Some (Moving s a b) → ⊥) → ((s a b : ℕ) → p ≡ Some (Moving s a b) → ⊥) → final_frame o ≡ final_frame p → o ≡ p
-same_place None None h k e = refl
-same_place None (Some (At f)) h k e = cc
-same_place None (Some (Moving s a b)) h k e = absurd (k s a b refl)
-same_place (Some (At f)) None h k e = cc
-same_place (Some (At f)) (Some (At g)) h k e = let same : f ≡ g = same_Some f g e in ap (λ (n : ℕ). Some (At n)) same
-same_place (Some (At f)) (Some (Moving s a b)) h k e = absurd (k s a b refl)
 same_place (Some (Moving s a b)) p h k e = absurd (h s a b refl)
+same_place o (Some (Moving s a b)) h k e = absurd (k s a b refl)
+same_place None None h k e = refl
+same_place (Some (At f)) (Some (At g)) h k e = let same : f ≡ g = same_Some f g e in ap (λ (n : ℕ). Some (At n)) same
+same_place _ _ h k e = cc
 
 pub same_outcome : (z w : ZoneState) → StandFrom 0 z → StandFrom 0 w → out z.records ≡ [] → out w.records ≡ [] → put_back z.records ≡ put_back w.records → outcome_of z ≡ outcome_of w → IsSame z w
 same_outcome z w at_z at_w none_z none_w backs e =
@@ -147,17 +145,7 @@ out_has_page (Isolate serial page ∷ rs) s e = elim (eqb_tells serial s) [
 ]
 out_has_page (Moved serial ∷ rs) s e = out_has_page rs s (and_parts _ _ (sym (any_without serial s (out rs)) ∙ e)).0
 out_has_page (Back serial cause ∷ rs) s e = out_has_page rs s (and_parts _ _ (sym (any_without serial s (out rs)) ∙ e)).0
-out_has_page (Map c d p ∷ rs) s e = out_has_page rs s e
-out_has_page (Share c d p ∷ rs) s e = out_has_page rs s e
-out_has_page (Unmap c d ∷ rs) s e = out_has_page rs s e
-out_has_page (Store c d w x ∷ rs) s e = out_has_page rs s e
-out_has_page (Load c d w x ∷ rs) s e = out_has_page rs s e
-out_has_page (Pin c d ∷ rs) s e = out_has_page rs s e
-out_has_page (Unpin c d ∷ rs) s e = out_has_page rs s e
-out_has_page (TakeHuge f o ∷ rs) s e = out_has_page rs s e
-out_has_page (GiveHuge f o ∷ rs) s e = out_has_page rs s e
-out_has_page (Mark b ∷ rs) s e = out_has_page rs s e
-out_has_page (Unmark b ∷ rs) s e = out_has_page rs s e
+out_has_page (_ ∷ rs) s e = out_has_page rs s e
 
 standing : (o : Option Placement) (s : ℕ) → is_under o s ≡ true → ((t a b : ℕ) → o ≡ Some (Moving t a b) → ⊥) → ⊥
 standing None s e stands = false≢true e

@@ -1,14 +1,14 @@
 -- Two zones that are the same answer each call alike, and are the same after it.
-use Rattle.std.proofs.Common.{◌≡◌, ℕ, ◌*◌, ◌^◌, Bool, List, replicate, true, false, not, cond, ◌&&◌, length, refl, ap, ◌∙◌, nat_eq, nat_le, nat_lt, Option, Some, None, is_some, is_none, unwrap_or}
+use Rattle.std.proofs.Common.{◌≡◌, ℕ, ◌*◌, ◌^◌, Bool, List, replicate, true, false, not, cond, ◌&&◌, ◌∷◌, length, refl, ap, ◌∙◌, nat_eq, nat_le, nat_lt, Option, Some, None, is_some, is_none, unwrap_or}
 use Rattle.std.specs.FinMap as map
 use Rattle.std.specs.FinSet as set
 use Rattle.std.specs.Option.{option_and_then, option_or}
-use Rattle.std.specs.Ordering.{nat_cmp}
 use Rattle.frame_core.specs.PageFlags.{page_flags}
 use Rattle.frame_core.specs.declared.place.Address.{Address}
 use Rattle.frame_core.specs.declared.record.Record.{Record}
-use Rattle.frame_core.specs.declared.record.Record.TheVariants.{Map, Unmap, Load, TakeHuge, GiveHuge, Mark, Unmark}
+use Rattle.frame_core.specs.declared.record.Record.TheVariants.{Map, Share, Unmap, Load, Store, Pin, Unpin, TakeHuge, GiveHuge, Mark, Unmark}
 use Rattle.frame_core.specs.History.{page_at, last, maps, pins}
+use Rattle.frame_core.specs.Moves.{out, put_back}
 use Rattle.state_core.specs.declared.error.ZoneError.TheVariants.{JournalFull, Occupied, NoFrame, Range, ShareFull, Unmapped, PinFull, NotPinned, Pinned, NoBlock, NotHuge, Marked, NotMarked}
 use Rattle.state_core.specs.declared.information.Look.TheVariants as look
 use Rattle.state_core.specs.declared.placement.Placement.{Placement}
@@ -23,10 +23,15 @@ use Rattle.state_core.specs.Pinning.{pins_at, pin_refusal, unpin_refusal, pinned
 use Rattle.state_core.specs.Sharing.{maps_at, share_refusal, shared}
 use Rattle.state_core.specs.Unmapping.{is_last, unmap_refusal, without_page, unmapped}
 use Rattle.state_core.specs.ZoneState.{ZoneState, frame_count, is_free, lowest_free_frame, lowest_unused_page, noted}
-use Rattle.zone_core.specs.Outcome.{IsSame}
-use Rattle.zone_core.proofs.Same.{line, page_same, number_same, last_same, dirty_same, pins_same, maps_same, room_same, place_same, noted_same}
+use Rattle.zone_core.specs.Outcome.{without_ends, IsSame}
+use Rattle.zone_core.proofs.Same.{line, page_same, number_same, last_same, dirty_same, pins_same, maps_same, room_same, place_same, noted_same, with_books}
 
 module _ (z w : ZoneState) (same : IsSame z w) where
+  -- one more record, which is the same in both
+  agrees : (entry : Record) → without_ends (entry ∷ z.records) ≡ without_ends (entry ∷ w.records) → put_back (entry ∷ z.records) ≡ put_back (entry ∷ w.records)
+      → out (entry ∷ z.records) ≡ out (entry ∷ w.records) → IsSame (noted z entry) (noted w entry)
+  agrees entry = noted_same z w same entry entry
+
   -- loads and stores
 
   pub access_agrees : (a : Address) → access_refusal z a ≡ access_refusal w a
@@ -36,10 +41,10 @@ module _ (z w : ZoneState) (same : IsSame z w) where
   value_agrees a word = ap (λ (page : ℕ). last z.records page word) (number_same z w same a) ∙ last_same z w same (unwrap_or (page_at w.records a) 0) word
 
   pub loaded_agrees : (client : ℕ) (a : Address) (word : ℕ) → IsSame (loaded z client a word) (loaded w client a word)
-  loaded_agrees client a word = noted_same z w same _ _ (ap (Load client a word) (value_agrees a word)) refl refl refl refl refl refl
+  loaded_agrees client a word = noted_same z w same _ _ (λ i. Load client a word (value_agrees a word i) ∷ same.records i) same.back same.out_is
 
   pub stored_agrees : (client : ℕ) (a : Address) (word value : ℕ) → IsSame (stored z client a word value) (stored w client a word value)
-  stored_agrees client a word value = noted_same z w same _ _ refl refl refl refl refl refl refl
+  stored_agrees client a word value = agrees (Store client a word value) (ap (λ rs. Store client a word value ∷ rs) same.records) same.back same.out_is
 
   -- maps
 
@@ -64,22 +69,9 @@ module _ (z w : ZoneState) (same : IsSame z w) where
 
   pub mapped_agrees : (client : ℕ) (a : Address) (unmovable : Bool) (frame : ℕ) → IsSame (mapped z client a unmovable frame) (mapped w client a unmovable frame)
   mapped_agrees client a unmovable frame =
-      let next = noted_same z w same _ _ (ap (Map client a) page_agrees) refl refl refl refl refl refl in
-      record {
-        number = next.number;
-        blocks = next.blocks;
-        page_size = next.page_size;
-        placement = λ i. map.insert (same.placement i) (page_agrees i) (At frame);
-        unmovable = λ i. cond unmovable (set.insert (same.unmovable i) (page_agrees i)) (same.unmovable i);
-        marked = next.marked;
-        handed_out = next.handed_out;
-        contents = next.contents;
-        records = next.records;
-        length_is = next.length_is;
-        back = next.back;
-        out_is = next.out_is;
-        room = next.room;
-      }
+      with_books _ _ (noted_same z w same (Map client a (unwrap_or (lowest_unused_page z) 0)) (Map client a (unwrap_or (lowest_unused_page w) 0)) (λ i. Map client a (page_agrees i) ∷ same.records i) same.back same.out_is)
+      (λ i. map.insert (same.placement i) (page_agrees i) (At frame))
+      (λ i. cond unmovable (set.insert (same.unmovable i) (page_agrees i)) (same.unmovable i)) same.marked same.handed_out same.contents
 
   -- shares
 
@@ -93,7 +85,7 @@ module _ (z w : ZoneState) (same : IsSame z w) where
       (cond (is_some (page_same z w same alias i)) (Some Occupied) (cond (nat_le 4 (maps_agrees a i)) (Some ShareFull) None)))
 
   pub shared_agrees : (client : ℕ) (a alias : Address) → IsSame (shared z client a alias) (shared w client a alias)
-  shared_agrees client a alias = noted_same z w same _ _ refl refl refl refl refl refl refl
+  shared_agrees client a alias = agrees (Share client a alias) (ap (λ rs. Share client a alias ∷ rs) same.records) same.back same.out_is
 
   -- pins
 
@@ -111,10 +103,10 @@ module _ (z w : ZoneState) (same : IsSame z w) where
       (cond (is_none (page_same z w same a i)) (Some Unmapped) (cond (nat_eq (pins_agrees a i) 0) (Some NotPinned) None))
 
   pub pinned_agrees : (client : ℕ) (a : Address) → IsSame (pinned z client a) (pinned w client a)
-  pinned_agrees client a = noted_same z w same _ _ refl refl refl refl refl refl refl
+  pinned_agrees client a = agrees (Pin client a) (ap (λ rs. Pin client a ∷ rs) same.records) same.back same.out_is
 
   pub unpinned_agrees : (client : ℕ) (a : Address) → IsSame (unpinned z client a) (unpinned w client a)
-  unpinned_agrees client a = noted_same z w same _ _ refl refl refl refl refl refl refl
+  unpinned_agrees client a = agrees (Unpin client a) (ap (λ rs. Unpin client a ∷ rs) same.records) same.back same.out_is
 
   -- unmaps
 
@@ -130,33 +122,18 @@ module _ (z w : ZoneState) (same : IsSame z w) where
       → IsSame (without_page (noted z (Unmap client a)) (unwrap_or (page_at z.records a) 0)) (without_page (noted w (Unmap client a)) (unwrap_or (page_at w.records a) 0))
   without_agrees client a next =
       let page = number_same z w same a in
-      record {
-        number = next.number;
-        blocks = next.blocks;
-        page_size = next.page_size;
-        placement = λ i. map.remove (same.placement i) (page i);
-        unmovable = λ i. set.remove (same.unmovable i) (page i);
-        marked = next.marked;
-        handed_out = next.handed_out;
-        contents = next.contents;
-        records = next.records;
-        length_is = next.length_is;
-        back = next.back;
-        out_is = next.out_is;
-        room = next.room;
-      }
+      with_books _ _ next (λ i. map.remove (same.placement i) (page i)) (λ i. set.remove (same.unmovable i) (page i)) same.marked same.handed_out same.contents
 
   pub unmapped_agrees : (client : ℕ) (a : Address) → IsSame (unmapped z client a) (unmapped w client a)
   unmapped_agrees client a = by (is_last z a) (is_last w a) (last_agrees a) where
     next : IsSame (noted z (Unmap client a)) (noted w (Unmap client a))
-    next = noted_same z w same _ _ refl refl refl refl refl refl refl
+    next = agrees (Unmap client a) (ap (λ rs. Unmap client a ∷ rs) same.records) same.back same.out_is
 
     by : (b c : Bool) → b ≡ c → IsSame (cond b (without_page (noted z (Unmap client a)) (unwrap_or (page_at z.records a) 0)) (noted z (Unmap client a)))
         (cond c (without_page (noted w (Unmap client a)) (unwrap_or (page_at w.records a) 0)) (noted w (Unmap client a)))
     by true true e = without_agrees client a next
     by false false e = next
-    by true false e = cc
-    by false true e = cc
+    by _ _ e = cc
 
   -- blocks
 
@@ -173,41 +150,13 @@ module _ (z w : ZoneState) (same : IsSame z w) where
 
   pub taken_agrees : (first order : ℕ) → IsSame (block_taken z first order) (block_taken w first order)
   taken_agrees first order =
-      let next = noted_same z w same (TakeHuge first order) (TakeHuge first order) refl refl refl refl refl refl refl in
-      record {
-        number = next.number;
-        blocks = next.blocks;
-        page_size = next.page_size;
-        placement = next.placement;
-        unmovable = next.unmovable;
-        marked = next.marked;
-        handed_out = ap (λ m. map.insert m first order) same.handed_out;
-        contents = λ i. map.insert (same.contents i) first (replicate (2 ^ order * same.page_size i) 0);
-        records = next.records;
-        length_is = next.length_is;
-        back = next.back;
-        out_is = next.out_is;
-        room = next.room;
-      }
+      with_books _ _ (agrees (TakeHuge first order) (ap (λ rs. TakeHuge first order ∷ rs) same.records) same.back same.out_is) same.placement same.unmovable same.marked
+      (ap (λ m. map.insert m first order) same.handed_out) (λ i. map.insert (same.contents i) first (replicate (2 ^ order * same.page_size i) 0))
 
   pub given_agrees : (first order : ℕ) → IsSame (block_given z first order) (block_given w first order)
   given_agrees first order =
-      let next = noted_same z w same (GiveHuge first order) (GiveHuge first order) refl refl refl refl refl refl refl in
-      record {
-        number = next.number;
-        blocks = next.blocks;
-        page_size = next.page_size;
-        placement = next.placement;
-        unmovable = next.unmovable;
-        marked = next.marked;
-        handed_out = ap (λ m. map.remove m first) same.handed_out;
-        contents = ap (λ m. map.remove m first) same.contents;
-        records = next.records;
-        length_is = next.length_is;
-        back = next.back;
-        out_is = next.out_is;
-        room = next.room;
-      }
+      with_books _ _ (agrees (GiveHuge first order) (ap (λ rs. GiveHuge first order ∷ rs) same.records) same.back same.out_is) same.placement same.unmovable same.marked
+      (ap (λ m. map.remove m first) same.handed_out) (ap (λ m. map.remove m first) same.contents)
 
   pub contents_refusal_agrees : (first order from count : ℕ) → contents_refusal z first order from count ≡ contents_refusal w first order from count
   contents_refusal_agrees first order from count = λ i. contents_refusal (line z w same i) first order from count
@@ -216,21 +165,8 @@ module _ (z w : ZoneState) (same : IsSame z w) where
   contents_from_agrees first from count = λ i. contents_from (line z w same i) first from count
 
   pub written_agrees : (first from : ℕ) (values : List ℕ) → IsSame (contents_written z first from values) (contents_written w first from values)
-  written_agrees first from values = record {
-    number = same.number;
-    blocks = same.blocks;
-    page_size = same.page_size;
-    placement = same.placement;
-    unmovable = same.unmovable;
-    marked = same.marked;
-    handed_out = same.handed_out;
-    contents = λ i. (contents_written (line z w same i) first from values).contents;
-    records = same.records;
-    length_is = same.length_is;
-    back = same.back;
-    out_is = same.out_is;
-    room = same.room;
-  }
+  written_agrees first from values =
+      with_books z w same same.placement same.unmovable same.marked same.handed_out (λ i. (contents_written (line z w same i) first from values).contents)
 
   -- marks
 
@@ -247,28 +183,15 @@ module _ (z w : ZoneState) (same : IsSame z w) where
   pub told_agrees : (block : ℕ) → marked_of z block ≡ marked_of w block
   told_agrees block = λ i. marked_of (line z w same i) block
 
-  with_marks : (entry : Record) (f : set.FinSet nat_cmp → set.FinSet nat_cmp) → IsSame (noted z entry) (noted w entry) → IsSame (record (noted z entry) { marked = f z.marked }) (record (noted w entry) { marked = f w.marked })
-  with_marks entry f next = record {
-    number = next.number;
-    blocks = next.blocks;
-    page_size = next.page_size;
-    placement = next.placement;
-    unmovable = next.unmovable;
-    marked = ap f same.marked;
-    handed_out = next.handed_out;
-    contents = next.contents;
-    records = next.records;
-    length_is = next.length_is;
-    back = next.back;
-    out_is = next.out_is;
-    room = next.room;
-  }
-
   pub marked_agrees : (block : ℕ) → IsSame (block_marked z block) (block_marked w block)
-  marked_agrees block = with_marks (Mark block) (λ m. set.insert m block) (noted_same z w same (Mark block) (Mark block) refl refl refl refl refl refl refl)
+  marked_agrees block =
+      with_books _ _ (agrees (Mark block) (ap (λ rs. Mark block ∷ rs) same.records) same.back same.out_is) same.placement same.unmovable
+      (ap (λ m. set.insert m block) same.marked) same.handed_out same.contents
 
   pub unmarked_agrees : (block : ℕ) → IsSame (block_unmarked z block) (block_unmarked w block)
-  unmarked_agrees block = with_marks (Unmark block) (λ m. set.remove m block) (noted_same z w same (Unmark block) (Unmark block) refl refl refl refl refl refl refl)
+  unmarked_agrees block =
+      with_books _ _ (agrees (Unmark block) (ap (λ rs. Unmark block ∷ rs) same.records) same.back same.out_is) same.placement same.unmovable
+      (ap (λ m. set.remove m block) same.marked) same.handed_out same.contents
 
   -- looks
 

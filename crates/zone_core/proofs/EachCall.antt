@@ -39,15 +39,8 @@ module _ (z w : ZoneState) (same : IsSame z w) (W : ℕ) where
   answers_agree (Map address unmovable) = λ i. Mapped (same_page i) (same_frame i)
   answers_agree (MapAt address unmovable frame) = ap (λ (page : ℕ). Mapped page frame) same_page
   answers_agree (Load address word) = ap Value (value_agrees z w same address word)
-  answers_agree (Store address word value) = refl
-  answers_agree (Share address alias) = refl
-  answers_agree (Unmap address) = refl
-  answers_agree (Pin address) = refl
-  answers_agree (Unpin address) = refl
   answers_agree (TakeOrder order) = ap Frame (same_run order)
-  answers_agree (GiveOrder first order) = refl
-  answers_agree (Mark block) = refl
-  answers_agree (Unmark block) = refl
+  answers_agree _ = refl
 
   pub same_after : (call : ZoneCall W) (client : ℕ) → IsSame (after call client z) (after call client w)
   same_after (Map address unmovable) client =

@@ -16,7 +16,7 @@ use Rattle.state_core.proofs.Entries.{get_insert_same, get_insert_other}
 use Rattle.state_core.proofs.Settled.{valid_moved, out_fewer}
 use Rattle.zone_core.specs.Alone.{AreCarriedUp, IsSeenAs}
 use Rattle.zone_core.specs.Outcome.{outcome_of, final_frame}
-use Rattle.zone_core.proofs.Scanning.{not_moving, no_pin}
+use Rattle.zone_core.proofs.Scanning.{not_moving, no_pin, placed_same}
 
 module _ (z : ZoneState) (law : IsValidZone z) (carried : AreCarriedUp z) (page serial source target : ℕ) (at : map.get z.placement page ≡ Some (Moving serial source target)) where
   target_is : target_of (map.get z.placement page) ≡ target
@@ -36,12 +36,7 @@ module _ (z : ZoneState) (law : IsValidZone z) (carried : AreCarriedUp z) (page 
   }
 
   frame_moved : (q : ℕ) → final_frame (map.get (moved_to_target z serial page).placement q) ≡ final_frame (map.get z.placement q)
-  frame_moved q =
-      let there = At (target_of (map.get z.placement page)) in
-      elim (eqb_tells q page) [
-        | inl same ↦ ap final_frame (get_insert_same z.placement page q there same.1) ∙ ap Some target_is ∙ sym (ap final_frame at) ∙ sym (ap (λ p. final_frame (map.get z.placement p)) same.1)
-        | inr other ↦ ap final_frame (get_insert_other z.placement page q there other.1)
-      ]
+  frame_moved q = placed_same final_frame z.placement page q (At (target_of (map.get z.placement page))) (ap Some target_is ∙ sym (ap final_frame at))
 
   -- what a zone comes to is the same before and after
   pub outcome_moved : outcome_of (moved_to_target z serial page) ≡ outcome_of z
@@ -88,18 +83,9 @@ module _ (z : ZoneState) (law : IsValidZone z) (carried : AreCarriedUp z) (page 
         pins_are = λ q. refl;
         count = refl;
         spare = omega arith;
-        stands = λ q frame above below. elim (eqb_tells q page) [
-          | inl same ↦
-              ap (λ o. stands_in o frame) (get_insert_same z.placement page q home same.1 ∙ ap Some home_is)
-              ∙ ne_eqb frame source (λ is. omega arith)
-              ∙ sym (ap (λ o. stands_in o frame) (ap (map.get z.placement) same.1 ∙ at))
-          | inr other ↦ ap (λ o. stands_in o frame) (get_insert_other z.placement page q home other.1)
-        ];
-        takes = λ q frame above below. elim (eqb_tells q page) [
-          | inl same ↦
-              ap (λ o. takes_up o frame) (get_insert_same z.placement page q home same.1 ∙ ap Some home_is)
-              ∙ ne_eqb frame source (λ is. omega arith)
-              ∙ sym (ap (λ o. takes_up o frame) (ap (map.get z.placement) same.1 ∙ at) ∙ or_from (nat_eq frame source) (nat_eq frame target) (ne_eqb frame source (λ is. omega arith)) (ne_eqb frame target (λ is. omega arith)))
-          | inr other ↦ ap (λ o. takes_up o frame) (get_insert_other z.placement page q home other.1)
-        ];
+        stands = λ q frame above below. placed_same (λ o. stands_in o frame) z.placement page q home
+            (ap (λ o. stands_in (Some o) frame) home_is ∙ ne_eqb frame source (λ is. omega arith) ∙ sym (ap (λ o. stands_in o frame) at));
+        takes = λ q frame above below. placed_same (λ o. takes_up o frame) z.placement page q home
+            (ap (λ o. takes_up (Some o) frame) home_is ∙ ne_eqb frame source (λ is. omega arith)
+            ∙ sym (ap (λ o. takes_up o frame) at ∙ or_from (nat_eq frame source) (nat_eq frame target) (ne_eqb frame source (λ is. omega arith)) (ne_eqb frame target (λ is. omega arith))));
       }

@@ -1,11 +1,10 @@
 -- A round over two zones that are the same goes alike: it begins, isolates pages, and ends their moves.
-use Rattle.std.proofs.Common.{◌≡◌, ℕ, suc, ◌+◌, ◌-◌, ◌*◌, ◌^◌, Bool, true, false, not, cond, ◌&&◌, List, [], ◌∷◌, length, refl, sym, ap, subst, ◌∙◌, nat_eq, nat_le, nat_lt, Option, Some, None}
+use Rattle.std.proofs.Common.{◌≡◌, ℕ, ◌+◌, ◌-◌, ◌*◌, ◌^◌, Bool, true, false, cond, ◌&&◌, List, [], ◌∷◌, length, refl, sym, ap, subst, ◌∙◌, nat_eq, nat_lt, Option, Some, None}
 use Rattle.std.specs.FinMap as map
-use Rattle.frame_core.specs.Below.{lowest, highest}
 use Rattle.frame_core.specs.declared.record.Cause.{Cause}
 use Rattle.frame_core.specs.declared.record.Cause.TheVariants.{Pinned}
 use Rattle.frame_core.specs.declared.record.Record.{Record}
-use Rattle.frame_core.specs.declared.record.Record.TheVariants.{Map, Share, Unmap, Store, Load, Pin, Unpin, Isolate, Moved, Back, TakeHuge, GiveHuge, Mark, Unmark}
+use Rattle.frame_core.specs.declared.record.Record.TheVariants.{Isolate, Moved, Back}
 use Rattle.frame_core.specs.History.{pins}
 use Rattle.frame_core.specs.Moves.{isolated, out, page_of, put_back, without}
 use Rattle.state_core.specs.declared.error.ZoneError.TheVariants.{JournalFull}
@@ -16,31 +15,21 @@ use Rattle.state_core.specs.declared.round.Pair.{Pair}
 use Rattle.state_core.specs.Carrying.{relocated}
 use Rattle.state_core.specs.Ending.{source_of, target_of, ended_as, moved_to_target, put_back_to_source, committed}
 use Rattle.state_core.specs.Isolating.{isolate_refusal, next_state}
-use Rattle.state_core.specs.Pairs.{is_marked, can_move_if_some, holder, holds_movable, is_free_unmarked, next_source, next_target, pair_from, pair_at, next_pair}
+use Rattle.state_core.specs.Pairs.{stands_in, next_pair}
 use Rattle.state_core.specs.Rounds.{round_begun}
-use Rattle.state_core.specs.ZoneState.{ZoneState}
+use Rattle.state_core.specs.ZoneState.{ZoneState, takes_up}
 use Rattle.zone_core.specs.Outcome.{without_ends, IsSame}
 use Rattle.zone_core.proofs.Records.{isolated_same}
 use Rattle.zone_core.specs.Fingers.{IsSameInRound}
-use Rattle.zone_core.proofs.Same.{line, pins_same, can_move_same}
+use Rattle.zone_core.specs.Alone.{IsSeenAs}
+use Rattle.zone_core.proofs.Same.{pins_same, noted_same, with_books, with_fingers}
+use Rattle.zone_core.proofs.Scanner.{pair_same}
 
 -- the page of a serial without the ends of moves
 page_of-without_ends : (rs : List Record) (s : ℕ) → page_of (without_ends rs) s ≡ page_of rs s
 page_of-without_ends [] s = refl
 page_of-without_ends (Isolate serial page ∷ rs) s = ap (cond (nat_eq serial s) (Some page)) (page_of-without_ends rs s)
-page_of-without_ends (Moved serial ∷ rs) s = page_of-without_ends rs s
-page_of-without_ends (Back serial cause ∷ rs) s = page_of-without_ends rs s
-page_of-without_ends (Map c d e ∷ rs) s = page_of-without_ends rs s
-page_of-without_ends (Share c d e ∷ rs) s = page_of-without_ends rs s
-page_of-without_ends (Unmap c d ∷ rs) s = page_of-without_ends rs s
-page_of-without_ends (Store c d w x ∷ rs) s = page_of-without_ends rs s
-page_of-without_ends (Load c d w x ∷ rs) s = page_of-without_ends rs s
-page_of-without_ends (Pin c d ∷ rs) s = page_of-without_ends rs s
-page_of-without_ends (Unpin c d ∷ rs) s = page_of-without_ends rs s
-page_of-without_ends (TakeHuge f o ∷ rs) s = page_of-without_ends rs s
-page_of-without_ends (GiveHuge f o ∷ rs) s = page_of-without_ends rs s
-page_of-without_ends (Mark b ∷ rs) s = page_of-without_ends rs s
-page_of-without_ends (Unmark b ∷ rs) s = page_of-without_ends rs s
+page_of-without_ends (_ ∷ rs) s = page_of-without_ends rs s
 
 module _ (z w : ZoneState) (same : IsSame z w) where
   pub page_of_agrees : (serial : ℕ) → page_of z.records serial ≡ page_of w.records serial
@@ -48,25 +37,7 @@ module _ (z w : ZoneState) (same : IsSame z w) where
 
   -- a round that begins sets the fingers of both alike
   pub begun_agrees : IsSameInRound (round_begun z) (round_begun w)
-  begun_agrees = record {
-    same = record {
-      number = same.number;
-      blocks = same.blocks;
-      page_size = same.page_size;
-      placement = same.placement;
-      unmovable = same.unmovable;
-      marked = same.marked;
-      handed_out = same.handed_out;
-      contents = same.contents;
-      records = same.records;
-      length_is = same.length_is;
-      back = same.back;
-      out_is = same.out_is;
-      room = same.room;
-    };
-    migrate = refl;
-    free = ap (λ n. 512 * n) same.blocks;
-  }
+  begun_agrees = record { same = with_fingers z w same; migrate = refl; free = ap (λ n. 512 * n) same.blocks }
 
   pub isolate_agrees : isolate_refusal z ≡ isolate_refusal w
   isolate_agrees = λ i. cond (nat_lt (length (same.out_is i) + 1) (same.room i) && nat_lt (isolated_same z w same i) (2 ^ 32 - 1)) None (Some JournalFull)
@@ -77,21 +48,8 @@ module _ (z w : ZoneState) (same : IsSame z w) where
   -- one more record of a move, and another placement of its page
   relocated_agrees : (entry entry' : Record) (page : ℕ) (p p' : Placement) → p ≡ p' → without_ends (entry ∷ z.records) ≡ without_ends (entry' ∷ w.records)
       → put_back (entry ∷ z.records) ≡ put_back (entry' ∷ w.records) → out (entry ∷ z.records) ≡ out (entry' ∷ w.records) → IsSame (relocated z entry page p) (relocated w entry' page p')
-  relocated_agrees entry entry' page p p' placed rs back outs = record {
-    number = same.number;
-    blocks = same.blocks;
-    page_size = same.page_size;
-    placement = λ i. map.insert (same.placement i) page (placed i);
-    unmovable = same.unmovable;
-    marked = same.marked;
-    handed_out = same.handed_out;
-    contents = same.contents;
-    records = rs;
-    length_is = ap suc same.length_is;
-    back = back;
-    out_is = outs;
-    room = ap (λ n. n - 1) same.room;
-  }
+  relocated_agrees entry entry' page p p' placed rs back outs =
+      with_books _ _ (noted_same z w same entry entry' rs back outs) (λ i. map.insert (same.placement i) page (placed i)) same.unmovable same.marked same.handed_out same.contents
 
   moved_agrees : (serial page : ℕ) → IsSame (moved_to_target z serial page) (moved_to_target w serial page)
   moved_agrees serial page =
@@ -109,8 +67,7 @@ module _ (z w : ZoneState) (same : IsSame z w) where
         (cond c (moved_to_target w serial page) (put_back_to_source w serial page Pinned))
     by true true e = moved_agrees serial page
     by false false e = put_back_agrees serial page Pinned
-    by true false e = cc
-    by false true e = cc
+    by _ _ e = cc
 
 -- a call that leaves both fingers as they are
 pub record LeavesFingers (z after : ZoneState) : Type 0 where
@@ -139,30 +96,24 @@ module _ (z w : ZoneState) (alike : IsSameInRound z w) where
   pub put_back_in_round : (serial page : ℕ) (cause : Cause) → IsSameInRound (put_back_to_source z serial page cause) (put_back_to_source w serial page cause)
   put_back_in_round serial page cause = record { same = put_back_agrees z w alike.same serial page cause; migrate = alike.migrate; free = alike.free }
 
-  -- the next pair is the same
-
-  movable_agrees : (page : Option ℕ) → can_move_if_some z page ≡ can_move_if_some w page
-  movable_agrees None = refl
-  movable_agrees (Some page) = can_move_same z w alike.same page
-
-  holds_agrees : (frame : ℕ) → holds_movable z frame ≡ holds_movable w frame
-  holds_agrees frame =
-      let page : can_move_if_some z (holder z frame) ≡ can_move_if_some w (holder w frame)
-      = movable_agrees (holder z frame) ∙ ap (λ v. can_move_if_some w (holder v frame)) (line z w alike.same) in
-      λ i. not (is_marked (line z w alike.same i) frame) && page i
-
-  source_agrees : next_source z ≡ next_source w
-  source_agrees = λ i. lowest (λ frame. nat_le (alike.migrate i) frame && holds_agrees frame i) (alike.free i)
-
-  target_agrees : (source : ℕ) → next_target z source ≡ next_target w source
-  target_agrees source = λ i. highest (λ frame. nat_lt source frame && is_free_unmarked (line z w alike.same i) frame) (alike.free i)
-
-  pair_at_agrees : (source : Option ℕ) → pair_at z source ≡ pair_at w source
-  pair_at_agrees None = refl
-  pair_at_agrees (Some source) = λ i. pair_from source (holder (line z w alike.same i) source) (target_agrees source i)
+  -- the scanner can't tell them apart, so the next pair is the same
+  seen : IsSeenAs z w
+  seen = record {
+    blocks = alike.same.blocks;
+    migrate = alike.migrate;
+    free = alike.free;
+    stands = λ page frame low high. ap (λ m. stands_in (map.get m page) frame) alike.same.placement;
+    takes = λ page frame low high. ap (λ m. takes_up (map.get m page) frame) alike.same.placement;
+    marked = alike.same.marked;
+    handed_out = alike.same.handed_out;
+    unmovable = alike.same.unmovable;
+    pins_are = pins_same z w alike.same;
+    count = isolated_same z w alike.same;
+    spare = λ i. alike.same.room i - length (alike.same.out_is i);
+  }
 
   pub pair_agrees : next_pair z ≡ next_pair w
-  pair_agrees = pair_at_agrees (next_source z) ∙ ap (pair_at w) source_agrees
+  pair_agrees = pair_same z w seen
 
   -- and its page is isolated
 
@@ -172,25 +123,7 @@ module _ (z w : ZoneState) (alike : IsSameInRound z w) where
       let serial = isolated_same z w alike.same in
       let there = relocated_agrees z w alike.same (Isolate (isolated z.records) pair.page) (Isolate (isolated w.records) pair.page) pair.page _ _
       (λ i. Moving (serial i) pair.source pair.target) (λ i. Isolate (serial i) pair.page ∷ alike.same.records i) alike.same.back (λ i. serial i ∷ alike.same.out_is i) in
-      record {
-        same = record {
-          number = there.number;
-          blocks = there.blocks;
-          page_size = there.page_size;
-          placement = there.placement;
-          unmovable = there.unmovable;
-          marked = there.marked;
-          handed_out = there.handed_out;
-          contents = there.contents;
-          records = there.records;
-          length_is = there.length_is;
-          back = there.back;
-          out_is = there.out_is;
-          room = there.room;
-        };
-        migrate = refl;
-        free = refl;
-      }
+      record { same = with_fingers _ _ there; migrate = refl; free = refl }
 
   pub isolated_agrees : IsSameInRound (next_state z (next_pair z)) (next_state w (next_pair w))
   isolated_agrees = subst (λ pair. IsSameInRound (next_state z (next_pair z)) (next_state w pair)) pair_agrees (next_agrees (next_pair z))

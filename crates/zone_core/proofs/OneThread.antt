@@ -1,5 +1,5 @@
 -- What is true between two pages of a round on one thread.
-use Rattle.std.proofs.Common.{◌≡◌, ℕ, Bool, List, [], ◌∷◌, refl, sym, ap, subst, ◌∙◌, Option, Some, None, not, cond}
+use Rattle.std.proofs.Common.{◌≡◌, ℕ, Bool, List, [], ◌∷◌, refl, ap, subst, ◌∙◌, Option, Some, None, not, cond}
 use Rattle.std.specs.Prelude.{is_none}
 use Rattle.std.specs.FinMap as map
 use Rattle.std.proofs.lemmas.Bool.{eq-eqb}
@@ -99,10 +99,3 @@ pub record IsPageOf (z z_new : ZoneState) (p : IsolatedPage) (o : Option Pair) :
 pub page_scanned : (z z_new : ZoneState) (p : IsolatedPage) (o : Option Pair) → answer.Page p ≡ next_answer z o → z_new ≡ next_state z o → IsPageOf z z_new p o
 page_scanned z z_new p None says left = cc
 page_scanned z z_new p (Some pair) says left = record { pair = pair; found = refl; page = cc; left = left }
-
-pub none_scanned : (z : ZoneState) (o : Option Pair) → answer.Met ≡ next_answer z o → o ≡ None
-none_scanned z None says = refl
-none_scanned z (Some pair) says = cc
-
-pub full_scanned : (z : ZoneState) (error : ZoneError) → Some error ≡ isolate_refusal z → scan_pair z ≡ None
-full_scanned z error full = ap (λ (r : Option ZoneError). cond (is_none r) (next_pair z) None) (sym full)

@@ -1,6 +1,7 @@
 -- A calm round by hand whose scanners met leaves the zone packed.
-use Rattle.std.proofs.Common.{◌≡◌, ℕ, zero, suc, true, cond, List, ◌∷◌, [], length, refl, sym, ap, subst, ◌∙◌, Option, None, is_none}
+use Rattle.std.proofs.Common.{◌≡◌, ℕ, zero, suc, true, cond, length, refl, sym, ap, subst, ◌∙◌, Option, None, is_none}
 use Rattle.std.proofs.lemmas.Bool.{and_parts, eqb-true}
+use Rattle.std.proofs.lemmas.List.{nil_from_length}
 use Rattle.frame_core.specs.declared.record.Record.TheVariants.{Isolate, Moved}
 use Rattle.frame_core.specs.Moves.{isolated, out}
 use Rattle.state_core.specs.declared.error.ZoneError.{ZoneError}
@@ -51,16 +52,12 @@ met_below (suc n) z was = met_below n (one z n) (met_one z n was)
 
 -- so it is packed
 
-none_of : (serials : List ℕ) → length serials ≡ 0 → serials ≡ []
-none_of [] e = refl
-none_of (serial ∷ more) e = cc
-
 if_no_refusal : (refusal : Option ZoneError) (pair : Option Pair) → refusal ≡ None → cond (is_none refusal) pair None ≡ None → pair ≡ None
 if_no_refusal refusal pair e none = sym (ap (λ r. cond (is_none r) pair None) e) ∙ none
 
 module _ (start : ZoneState) (law : IsValidZone start) (calm : is_calm start ≡ true) (refused : isolate_refusal (all_isolated start) ≡ None) where
   at_rest : IsAtRest start
-  at_rest = record { valid = law; none_out = none_of (out start.records) (eqb-true _ 0 (and_parts _ _ calm).0) }
+  at_rest = record { valid = law; none_out = nil_from_length (out start.records) (eqb-true _ 0 (and_parts _ _ calm).0) }
 
   quiet_met : IsQuietMet (all_isolated start)
   quiet_met =

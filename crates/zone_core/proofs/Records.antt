@@ -2,7 +2,7 @@
 use Rattle.std.proofs.Common.{◌≡◌, ℕ, ◌+◌, ◌-◌, not, cond, ◌&&◌, ◌||◌, List, [], ◌∷◌, refl, ap, nat_eq, Some, None, sym, ◌∙◌}
 use Rattle.frame_core.specs.Below.{one_if}
 use Rattle.frame_core.specs.declared.record.Record.{Record}
-use Rattle.frame_core.specs.declared.record.Record.TheVariants.{Map, Share, Unmap, Store, Load, Pin, Unpin, Isolate, Moved, Back, TakeHuge, GiveHuge, Mark, Unmark}
+use Rattle.frame_core.specs.declared.record.Record.TheVariants.{Map, Share, Unmap, Store, Pin, Unpin, Isolate}
 use Rattle.frame_core.specs.declared.place.Address.{Address}
 use Rattle.frame_core.specs.History.{page_at, pins, is_page, same_address, last, dirty}
 use Rattle.frame_core.specs.Moves.{isolated}
@@ -14,85 +14,31 @@ page_at-without_ends [] a = refl
 page_at-without_ends (Map client address page ∷ rs) a = ap (cond (same_address a address) (Some page)) (page_at-without_ends rs a)
 page_at-without_ends (Share client address alias ∷ rs) a = λ i. cond (same_address a alias) (page_at-without_ends rs address i) (page_at-without_ends rs a i)
 page_at-without_ends (Unmap client address ∷ rs) a = ap (cond (same_address a address) None) (page_at-without_ends rs a)
-page_at-without_ends (Moved serial ∷ rs) a = page_at-without_ends rs a
-page_at-without_ends (Back serial cause ∷ rs) a = page_at-without_ends rs a
-page_at-without_ends (Store c d w x ∷ rs) a = page_at-without_ends rs a
-page_at-without_ends (Load c d w x ∷ rs) a = page_at-without_ends rs a
-page_at-without_ends (Pin c d ∷ rs) a = page_at-without_ends rs a
-page_at-without_ends (Unpin c d ∷ rs) a = page_at-without_ends rs a
-page_at-without_ends (Isolate s p ∷ rs) a = page_at-without_ends rs a
-page_at-without_ends (TakeHuge f o ∷ rs) a = page_at-without_ends rs a
-page_at-without_ends (GiveHuge f o ∷ rs) a = page_at-without_ends rs a
-page_at-without_ends (Mark b ∷ rs) a = page_at-without_ends rs a
-page_at-without_ends (Unmark b ∷ rs) a = page_at-without_ends rs a
+page_at-without_ends (_ ∷ rs) a = page_at-without_ends rs a
 
 pub pins-without_ends : (rs : List Record) (page : ℕ) → pins (without_ends rs) page ≡ pins rs page
 pins-without_ends [] page = refl
 pins-without_ends (Map client address fresh ∷ rs) page = ap (cond (nat_eq fresh page) 0) (pins-without_ends rs page)
 pins-without_ends (Pin client address ∷ rs) page = λ i. one_if (is_page (page_at-without_ends rs address i) page) + pins-without_ends rs page i
 pins-without_ends (Unpin client address ∷ rs) page = λ i. pins-without_ends rs page i - one_if (is_page (page_at-without_ends rs address i) page)
-pins-without_ends (Share c d e ∷ rs) page = pins-without_ends rs page
-pins-without_ends (Unmap c d ∷ rs) page = pins-without_ends rs page
-pins-without_ends (Moved serial ∷ rs) page = pins-without_ends rs page
-pins-without_ends (Back serial cause ∷ rs) page = pins-without_ends rs page
-pins-without_ends (Store c d w x ∷ rs) page = pins-without_ends rs page
-pins-without_ends (Load c d w x ∷ rs) page = pins-without_ends rs page
-pins-without_ends (Isolate s p ∷ rs) page = pins-without_ends rs page
-pins-without_ends (TakeHuge f o ∷ rs) page = pins-without_ends rs page
-pins-without_ends (GiveHuge f o ∷ rs) page = pins-without_ends rs page
-pins-without_ends (Mark b ∷ rs) page = pins-without_ends rs page
-pins-without_ends (Unmark b ∷ rs) page = pins-without_ends rs page
+pins-without_ends (_ ∷ rs) page = pins-without_ends rs page
 
 pub isolated-without_ends : (rs : List Record) → isolated (without_ends rs) ≡ isolated rs
 isolated-without_ends [] = refl
 isolated-without_ends (Isolate s p ∷ rs) = ap (λ n. n + 1) (isolated-without_ends rs)
-isolated-without_ends (Moved serial ∷ rs) = isolated-without_ends rs
-isolated-without_ends (Back serial cause ∷ rs) = isolated-without_ends rs
-isolated-without_ends (Map c d e ∷ rs) = isolated-without_ends rs
-isolated-without_ends (Share c d e ∷ rs) = isolated-without_ends rs
-isolated-without_ends (Unmap c d ∷ rs) = isolated-without_ends rs
-isolated-without_ends (Store c d w x ∷ rs) = isolated-without_ends rs
-isolated-without_ends (Load c d w x ∷ rs) = isolated-without_ends rs
-isolated-without_ends (Pin c d ∷ rs) = isolated-without_ends rs
-isolated-without_ends (Unpin c d ∷ rs) = isolated-without_ends rs
-isolated-without_ends (TakeHuge f o ∷ rs) = isolated-without_ends rs
-isolated-without_ends (GiveHuge f o ∷ rs) = isolated-without_ends rs
-isolated-without_ends (Mark b ∷ rs) = isolated-without_ends rs
-isolated-without_ends (Unmark b ∷ rs) = isolated-without_ends rs
+isolated-without_ends (_ ∷ rs) = isolated-without_ends rs
 
 pub last-without_ends : (rs : List Record) (page w : ℕ) → last (without_ends rs) page w ≡ last rs page w
 last-without_ends [] page w = refl
 last-without_ends (Map c d fresh ∷ rs) page w = ap (cond (nat_eq fresh page) 0) (last-without_ends rs page w)
 last-without_ends (Store c address word value ∷ rs) page w = λ i. cond (is_page (page_at-without_ends rs address i) page && nat_eq word w) value (last-without_ends rs page w i)
-last-without_ends (Share c d e ∷ rs) page w = last-without_ends rs page w
-last-without_ends (Unmap c d ∷ rs) page w = last-without_ends rs page w
-last-without_ends (Load c d x y ∷ rs) page w = last-without_ends rs page w
-last-without_ends (Pin c d ∷ rs) page w = last-without_ends rs page w
-last-without_ends (Unpin c d ∷ rs) page w = last-without_ends rs page w
-last-without_ends (Isolate s p ∷ rs) page w = last-without_ends rs page w
-last-without_ends (Moved s ∷ rs) page w = last-without_ends rs page w
-last-without_ends (Back s cause ∷ rs) page w = last-without_ends rs page w
-last-without_ends (TakeHuge f o ∷ rs) page w = last-without_ends rs page w
-last-without_ends (GiveHuge f o ∷ rs) page w = last-without_ends rs page w
-last-without_ends (Mark b ∷ rs) page w = last-without_ends rs page w
-last-without_ends (Unmark b ∷ rs) page w = last-without_ends rs page w
+last-without_ends (_ ∷ rs) page w = last-without_ends rs page w
 
 pub dirty-without_ends : (rs : List Record) (page : ℕ) → dirty (without_ends rs) page ≡ dirty rs page
 dirty-without_ends [] page = refl
 dirty-without_ends (Map c d fresh ∷ rs) page = ap (λ b. not (nat_eq fresh page) && b) (dirty-without_ends rs page)
 dirty-without_ends (Store c address word value ∷ rs) page = λ i. is_page (page_at-without_ends rs address i) page || dirty-without_ends rs page i
-dirty-without_ends (Share c d e ∷ rs) page = dirty-without_ends rs page
-dirty-without_ends (Unmap c d ∷ rs) page = dirty-without_ends rs page
-dirty-without_ends (Load c d x y ∷ rs) page = dirty-without_ends rs page
-dirty-without_ends (Pin c d ∷ rs) page = dirty-without_ends rs page
-dirty-without_ends (Unpin c d ∷ rs) page = dirty-without_ends rs page
-dirty-without_ends (Isolate s p ∷ rs) page = dirty-without_ends rs page
-dirty-without_ends (Moved s ∷ rs) page = dirty-without_ends rs page
-dirty-without_ends (Back s cause ∷ rs) page = dirty-without_ends rs page
-dirty-without_ends (TakeHuge f o ∷ rs) page = dirty-without_ends rs page
-dirty-without_ends (GiveHuge f o ∷ rs) page = dirty-without_ends rs page
-dirty-without_ends (Mark b ∷ rs) page = dirty-without_ends rs page
-dirty-without_ends (Unmark b ∷ rs) page = dirty-without_ends rs page
+dirty-without_ends (_ ∷ rs) page = dirty-without_ends rs page
 
 -- zones that are the same have isolated as many pages
 pub isolated_same : (z w : ZoneState) → IsSame z w → isolated z.records ≡ isolated w.records

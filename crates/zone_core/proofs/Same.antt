@@ -1,13 +1,16 @@
 -- What two zones that are the same have in common: whatever the calls read of them.
-use Rattle.std.proofs.Common.{◌≡◌, ℕ, suc, ◌-◌, not, ◌&&◌, ◌||◌, ◌∷◌, length, refl, sym, ap, ◌∙◌, nat_eq, nat_lt, Option, Some, None, unwrap_or}
+use Rattle.std.proofs.Common.{◌≡◌, ℕ, List, suc, ◌-◌, not, ◌&&◌, ◌||◌, ◌∷◌, length, refl, sym, ap, ◌∙◌, nat_eq, nat_lt, Option, Some, None, unwrap_or}
 use Rattle.std.specs.FinMap as map
 use Rattle.std.specs.FinSet as set
+use Rattle.std.specs.Ordering.{nat_cmp}
 use Rattle.std.specs.Option.{option_and_then}
 use Rattle.frame_core.specs.Below.{count_pairs, some_below}
 use Rattle.frame_core.specs.declared.place.Address.{Address}
 use Rattle.frame_core.specs.declared.record.Record.{Record}
 use Rattle.frame_core.specs.History.{page_at, is_page, last, dirty, maps, pins}
 use Rattle.frame_core.specs.Moves.{out, put_back}
+use Rattle.state_core.specs.declared.placement.Placement.{Placement}
+use Rattle.state_core.specs.declared.round.RoundStart.{RoundStart}
 use Rattle.state_core.specs.Pairs.{is_marked, can_move, stays_if_some, holder, is_stuck, is_calm}
 use Rattle.state_core.specs.ZoneState.{ZoneState, frame_count, is_held, has_room, noted, placement_at}
 use Rattle.zone_core.specs.Outcome.{without_ends, IsSame}
@@ -62,11 +65,10 @@ module _ (z w : ZoneState) (same : IsSame z w) where
   pub calm_same : is_calm z ≡ is_calm w
   calm_same = λ i. nat_eq (length (same.out_is i)) 0 && not (some_below (λ frame. stuck_same frame i) (frame_count (line i)))
 
-  -- one more record of a call
-  pub noted_same : (entry entry' : Record) → entry ≡ entry' → without_ends (entry ∷ z.records) ≡ entry ∷ without_ends z.records → without_ends (entry' ∷ w.records) ≡ entry' ∷ without_ends w.records
-      → put_back (entry ∷ z.records) ≡ put_back z.records → put_back (entry' ∷ w.records) ≡ put_back w.records
-      → out (entry ∷ z.records) ≡ out z.records → out (entry' ∷ w.records) ≡ out w.records → IsSame (noted z entry) (noted w entry')
-  noted_same entry entry' e cz cw bz bw oz ow = record {
+  -- one more record
+  pub noted_same : (entry entry' : Record) → without_ends (entry ∷ z.records) ≡ without_ends (entry' ∷ w.records) → put_back (entry ∷ z.records) ≡ put_back (entry' ∷ w.records)
+      → out (entry ∷ z.records) ≡ out (entry' ∷ w.records) → IsSame (noted z entry) (noted w entry')
+  noted_same entry entry' records back outs = record {
     number = same.number;
     blocks = same.blocks;
     page_size = same.page_size;
@@ -75,9 +77,33 @@ module _ (z w : ZoneState) (same : IsSame z w) where
     marked = same.marked;
     handed_out = same.handed_out;
     contents = same.contents;
-    records = cz ∙ (λ i. e i ∷ same.records i) ∙ sym cw;
+    records = records;
     length_is = ap suc same.length_is;
-    back = bz ∙ same.back ∙ sym bw;
-    out_is = oz ∙ same.out_is ∙ sym ow;
+    back = back;
+    out_is = outs;
     room = ap (λ n. n - 1) same.room;
   }
+
+  -- other books, which are alike in both
+  module _ {p p' : map.FinMap nat_cmp Placement} {u u' m m' : set.FinSet nat_cmp} {h h' : map.FinMap nat_cmp ℕ} {c c' : map.FinMap nat_cmp (List ℕ)} {migrate free migrate' free' : ℕ} {round round' : Option RoundStart} where
+    pub with_books : p ≡ p' → u ≡ u' → m ≡ m' → h ≡ h' → c ≡ c' → IsSame (record z { placement = p; unmovable = u; marked = m; handed_out = h; contents = c; migrate = migrate; free = free; round = round })
+        (record w { placement = p'; unmovable = u'; marked = m'; handed_out = h'; contents = c'; migrate = migrate'; free = free'; round = round' })
+    with_books placement unmovable marked handed_out contents = record {
+      number = same.number;
+      blocks = same.blocks;
+      page_size = same.page_size;
+      placement = placement;
+      unmovable = unmovable;
+      marked = marked;
+      handed_out = handed_out;
+      contents = contents;
+      records = same.records;
+      length_is = same.length_is;
+      back = same.back;
+      out_is = same.out_is;
+      room = same.room;
+    }
+
+  -- the fingers don't matter, nor how the latest round began
+  pub with_fingers : {migrate free migrate' free' : ℕ} {round round' : Option RoundStart} → IsSame (record z { migrate = migrate; free = free; round = round }) (record w { migrate = migrate'; free = free'; round = round' })
+  with_fingers = with_books same.placement same.unmovable same.marked same.handed_out same.contents

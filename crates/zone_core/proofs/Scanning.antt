@@ -1,12 +1,14 @@
 -- Steps of the scanner.
 use Rattle.std.proofs.Common.{◌≡◌, ℕ, zero, suc, ◌+◌, ◌-◌, ◌<◌, ◌≤◌, cond, ◌∷◌, length, inl, inr, refl, sym, ap, subst, ◌∙◌, arith, Option, Some, None, is_none}
 use Rattle.std.specs.FinMap as map
+use Rattle.std.specs.Ordering.{nat_cmp}
 use Rattle.std.proofs.lemmas.Bool.{and_parts, eqb-true}
 use Rattle.std.proofs.lemmas.Bool.Decides.{eqb_tells}
 use Rattle.frame_core.specs.declared.record.Record.TheVariants.{Isolate}
 use Rattle.frame_core.specs.History.{pins}
 use Rattle.frame_core.specs.Moves.{isolated, out, put_back}
 use Rattle.state_core.specs.declared.error.ZoneError.{ZoneError}
+use Rattle.state_core.specs.declared.placement.Placement.{Placement}
 use Rattle.state_core.specs.declared.placement.Placement.TheVariants.{At, Moving}
 use Rattle.state_core.specs.declared.round.Pair.{Pair}
 use Rattle.state_core.specs.Isolating.{isolate_refusal, isolated_next, next_state}
@@ -86,14 +88,21 @@ no_pin z carried page serial source target at = eqb-true (pins z.records page) 0
 
 -- two zones that come to the same come to the same after the scanner's step
 
-frame_isolated : (z w : ZoneState) (pair : Pair) (q : ℕ) → final_frame (map.get z.placement q) ≡ final_frame (map.get w.placement q) → final_frame (map.get (isolated_next z pair).placement q) ≡ final_frame (map.get (isolated_next w pair).placement q)
-frame_isolated z w pair q same =
-    let here = Moving (isolated z.records) pair.source pair.target in
-    let there = Moving (isolated w.records) pair.source pair.target in
-    elim (eqb_tells q pair.page) [
-      | inl is ↦ ap final_frame (get_insert_same z.placement pair.page q here is.1) ∙ sym (ap final_frame (get_insert_same w.placement pair.page q there is.1))
-      | inr other ↦ ap final_frame (get_insert_other z.placement pair.page q here other.1) ∙ same ∙ sym (ap final_frame (get_insert_other w.placement pair.page q there other.1))
-    ]
+-- what is told of a page in two books alike still is once the same page got a new place in both
+both_placed : {X : Type 0} (tell : Option Placement → X) (m n : map.FinMap nat_cmp Placement) (page q : ℕ) (p p' : Placement) → tell (Some p) ≡ tell (Some p')
+    → tell (map.get m q) ≡ tell (map.get n q) → tell (map.get (map.insert m page p) q) ≡ tell (map.get (map.insert n page p') q)
+both_placed tell m n page q p p' new old = elim (eqb_tells q page) [
+  | inl same ↦ ap tell (get_insert_same m page q p same.1) ∙ new ∙ sym (ap tell (get_insert_same n page q p' same.1))
+  | inr other ↦ ap tell (get_insert_other m page q p other.1) ∙ old ∙ sym (ap tell (get_insert_other n page q p' other.1))
+]
+
+-- what is told of a page stays where its new place tells the same
+pub placed_same : {X : Type 0} (tell : Option Placement → X) (m : map.FinMap nat_cmp Placement) (page q : ℕ) (p : Placement) → tell (Some p) ≡ tell (map.get m page)
+    → tell (map.get (map.insert m page p) q) ≡ tell (map.get m q)
+placed_same tell m page q p new = elim (eqb_tells q page) [
+  | inl same ↦ ap tell (get_insert_same m page q p same.1) ∙ new ∙ sym (ap (λ k. tell (map.get m k)) same.1)
+  | inr other ↦ ap tell (get_insert_other m page q p other.1)
+]
 
 outcome_isolated : (z w : ZoneState) (pair : Pair) → 0 < z.room → 0 < w.room → outcome_of z ≡ outcome_of w → outcome_of (isolated_next z pair) ≡ outcome_of (isolated_next w pair)
 outcome_isolated z w pair some_z some_w same =
@@ -103,7 +112,7 @@ outcome_isolated z w pair some_z some_w same =
     let room : (z.room - 1) - length (isolated z.records ∷ out z.records) ≡ (w.room - 1) - length (isolated w.records ∷ out w.records) = omega arith in
     let both : length z.records + z.room ≡ length w.records + w.room = ap (λ (r : Outcome). r.places) same in
     let places : length (Isolate (isolated z.records) pair.page ∷ z.records) + (z.room - 1) ≡ length (Isolate (isolated w.records) pair.page ∷ w.records) + (w.room - 1) = omega arith in
-    let frame = λ (q : ℕ). frame_isolated z w pair q (ap (λ (r : Outcome). r.frame q) same) in
+    let frame = λ (q : ℕ). both_placed final_frame z.placement w.placement pair.page q (Moving (isolated z.records) pair.source pair.target) (Moving (isolated w.records) pair.source pair.target) refl (ap (λ (r : Outcome). r.frame q) same) in
     λ i. record (same i) {
       records = Isolate (serial i) pair.page ∷ records_same i;
       room = room i;
@@ -188,20 +197,8 @@ seen_isolated z w pair low high seen =
       pins_are = seen.pins_are;
       count = ap (λ n. n + 1) seen.count;
       spare = omega arith;
-      stands = λ q frame above below. elim (eqb_tells q pair.page) [
-        | inl is ↦ ap (λ o. stands_in o frame) (get_insert_same z.placement pair.page q here is.1) ∙ sym (ap (λ o. stands_in o frame) (get_insert_same w.placement pair.page q there is.1))
-        | inr other ↦
-            ap (λ o. stands_in o frame) (get_insert_other z.placement pair.page q here other.1)
-            ∙ seen.stands q frame (omega arith) (omega arith)
-            ∙ sym (ap (λ o. stands_in o frame) (get_insert_other w.placement pair.page q there other.1))
-      ];
-      takes = λ q frame above below. elim (eqb_tells q pair.page) [
-        | inl is ↦ ap (λ o. takes_up o frame) (get_insert_same z.placement pair.page q here is.1) ∙ sym (ap (λ o. takes_up o frame) (get_insert_same w.placement pair.page q there is.1))
-        | inr other ↦
-            ap (λ o. takes_up o frame) (get_insert_other z.placement pair.page q here other.1)
-            ∙ seen.takes q frame (omega arith) (omega arith)
-            ∙ sym (ap (λ o. takes_up o frame) (get_insert_other w.placement pair.page q there other.1))
-      ];
+      stands = λ q frame above below. both_placed (λ o. stands_in o frame) z.placement w.placement pair.page q here there refl (seen.stands q frame (omega arith) (omega arith));
+      takes = λ q frame above below. both_placed (λ o. takes_up o frame) z.placement w.placement pair.page q here there refl (seen.takes q frame (omega arith) (omega arith));
     }
 
 seen_scan : (z w : ZoneState) → IsValidZone z → IsSeenAs z w → IsSeenAs (scan_step z) (scan_step w)

@@ -14,7 +14,8 @@ use Rattle.state_core.specs.ZoneState.{ZoneState}
 use Rattle.state_core.proofs.Carried.{own_fresh}
 use Rattle.zone_core.specs.Seats.{ScanSeat, EndSeat, seat_noted}
 use Rattle.zone_core.specs.OneThread.{last_for}
-use Rattle.zone_core.proofs.OneThread.{IsBetween, between_begun, between_moved, unpinned, pair_scanned, page_scanned, none_scanned, full_scanned, exact_stopped, refusal_is, last_is}
+use Rattle.zone_core.proofs.OneThread.{IsBetween, between_begun, between_moved, unpinned, page_scanned, exact_stopped, refusal_is, last_is}
+use Rattle.zone_core.proofs.Steps.{met_none, met_stops, full_stops}
 use Rattle.zone_core.proofs.one_thread.compact.Goals as goal
 
 pub loop-page-init : goal.loop-page-init
@@ -66,22 +67,21 @@ loop-page-preserved g c =
 pub returns-in-Ok-Met-clause-exact : goal.returns-in-Ok-Met-clause-exact
 returns-in-Ok-Met-clause-exact g c =
     let z = c.loop-page.zone in
-    let none = none_scanned z (next_pair z) (sym c.in-Ok-Met.field-0-is ∙ c.in-Ok-Met.ensures.answer) in
-    subst (IsSame (by_hand c.args.zone.now)) (sym (c.in-Ok-Met.ensures.ok ∙ ap (next_state z) none))
-    (exact_stopped c.args.zone.now z c.loop-page.invariant.between (pair_scanned z _ (sym c.in-Ok-Met.ensures.refused) none))
+    let met = sym c.in-Ok-Met.field-0-is ∙ c.in-Ok-Met.ensures.answer in
+    subst (IsSame (by_hand c.args.zone.now)) (sym (c.in-Ok-Met.ensures.ok ∙ ap (next_state z) (met_none z (next_pair z) met)))
+    (exact_stopped c.args.zone.now z c.loop-page.invariant.between (met_stops z c.in-Ok-Met.ensures.refused met))
 
 pub returns-in-Ok-Met-clause-stopped : goal.returns-in-Ok-Met-clause-stopped
 returns-in-Ok-Met-clause-stopped g c =
     let z = c.loop-page.zone in
-    let none = none_scanned z (next_pair z) (sym c.in-Ok-Met.field-0-is ∙ c.in-Ok-Met.ensures.answer) in
     ap last_for c.in-Ok-Met.ensures.refused
-    ∙ last_is c.args.zone.now z c.loop-page.invariant.between (pair_scanned z _ (sym c.in-Ok-Met.ensures.refused) none)
+    ∙ last_is c.args.zone.now z c.loop-page.invariant.between (met_stops z c.in-Ok-Met.ensures.refused (sym c.in-Ok-Met.field-0-is ∙ c.in-Ok-Met.ensures.answer))
 
 pub returns-in-Ok-Met-clause-packed : goal.returns-in-Ok-Met-clause-packed
 returns-in-Ok-Met-clause-packed g c met calm =
     let z = c.loop-page.zone in
     let between = c.loop-page.invariant.between in
-    let none = pair_scanned z _ (sym c.in-Ok-Met.ensures.refused) (none_scanned z (next_pair z) (sym c.in-Ok-Met.field-0-is ∙ c.in-Ok-Met.ensures.answer)) in
+    let none = met_stops z c.in-Ok-Met.ensures.refused (sym c.in-Ok-Met.field-0-is ∙ c.in-Ok-Met.ensures.answer) in
     packed_exact c.args.zone.now c.isolate_next.new.self between.rest.valid calm
     (sym (refusal_is c.args.zone.now z between none) ∙ sym c.in-Ok-Met.ensures.refused)
     (returns-in-Ok-Met-clause-exact g c)
@@ -91,9 +91,9 @@ pub returns-in-Err-clause-exact : goal.returns-in-Err-clause-exact
 returns-in-Err-clause-exact g c =
     let z = c.loop-page.zone in
     subst (IsSame (by_hand c.args.zone.now)) (sym c.in-Err.ensures.err)
-    (exact_stopped c.args.zone.now z c.loop-page.invariant.between (full_scanned z _ c.in-Err.ensures.refused))
+    (exact_stopped c.args.zone.now z c.loop-page.invariant.between (full_stops z _ c.in-Err.ensures.refused))
 
 pub returns-in-Err-clause-stopped : goal.returns-in-Err-clause-stopped
 returns-in-Err-clause-stopped g c =
     ap last_for c.in-Err.ensures.refused
-    ∙ last_is c.args.zone.now c.loop-page.zone c.loop-page.invariant.between (full_scanned c.loop-page.zone _ c.in-Err.ensures.refused)
+    ∙ last_is c.args.zone.now c.loop-page.zone c.loop-page.invariant.between (full_stops c.loop-page.zone _ c.in-Err.ensures.refused)
