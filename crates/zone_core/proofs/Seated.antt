@@ -61,8 +61,7 @@ counted z v (Some a) error view law none isolated_is moved_is back_is sum =
 none_out : (n : ℕ) (r : Result Audit ZoneError) (test : Bool) → nat_lt 0 n ≡ test → result_err r ≡ (if test then Some Out else None) → IsOk r ↔ (n ≡ 0)
 none_out n (Ok a) false is e = (λ ok. omega (arith, ltb-false 0 n is), λ none. refl)
 none_out n (Err error) true is e = (λ bad. cc, λ none. absurd (omega (arith, ltb-true 0 n is)))
-none_out n (Ok a) true is e = cc
-none_out n (Err error) false is e = cc
+none_out n _ _ is e = cc
 
 -- the counts of a zone and of its seats, where these agree
 module _ {t m b : ℕ} {z : ZoneState} (scan : ScanSeat) (ends : EndSeat) (r : Result Audit ZoneError) (law : IsValidZone z) (books : AreBooks t m b z)

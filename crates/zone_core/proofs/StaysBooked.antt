@@ -37,16 +37,12 @@ use Rattle.zone_core.specs.declared.seats.Answered.{Answered}
 use Rattle.zone_core.specs.declared.seats.Answered.TheVariants as answered
 
 mark_most : (last : Option Answered) → met_mark last ≤ 1
-mark_most None = omega arith
-mark_most (Some answered.Page) = omega arith
 mark_most (Some answered.Met) = omega arith
-mark_most (Some answered.JournalFull) = omega arith
+mark_most _ = omega arith
 
 marked_met : (last : Option Answered) → met_mark last ≡ 1 → last ≡ Some answered.Met
-marked_met None e = absurd (omega (arith, e))
-marked_met (Some answered.Page) e = absurd (omega (arith, e))
 marked_met (Some answered.Met) e = refl
-marked_met (Some answered.JournalFull) e = absurd (omega (arith, e))
+marked_met _ e = absurd (omega (arith, e))
 
 -- a seat that has the total of the book counted each isolated page, and where its last answer is that the scanners met, they have met
 module _ {t m b : ℕ} (count : ℕ) (last : Option Answered) {v : ZoneState} (books : AreBooks t m b v) (told : t ≡ scan_amount count last) where
@@ -92,13 +88,9 @@ module _ {t m b m_new b_new : ℕ} {v : ZoneState} (u : ZoneState) (entry : Reco
       stays before (books.met met before))
 
 -- the records and the round are the same whether or not an address was the last of its page
-same_records : (b : Bool) (z : ZoneState) (page : ℕ) → (if b then without_page z page else z).records ≡ z.records
-same_records true z page = refl
-same_records false z page = refl
-
-same_round : (b : Bool) (z : ZoneState) (page : ℕ) → (if b then without_page z page else z).round ≡ z.round
-same_round true z page = refl
-same_round false z page = refl
+same_journal : (b : Bool) (z : ZoneState) (page : ℕ) → ((if b then without_page z page else z).records ≡ z.records) × ((if b then without_page z page else z).round ≡ z.round)
+same_journal true z page = (refl, refl)
+same_journal false z page = (refl, refl)
 
 module _ {t m b : ℕ} (client : ℕ) where
   pub booked_loaded : (v : ZoneState) (address : Address) (word : ℕ) → HasBegunWithin v → AreBooks t m b v → AreBooks t m b (loaded v client address word)
@@ -117,9 +109,8 @@ module _ {t m b : ℕ} (client : ℕ) where
   booked_call (Store address word value) v begun books = booked_stored v address word value begun books
   booked_call (Share address alias) v begun books = booked_loud _ (entry.Share client address alias) begun books refl refl refl books.moved books.back refl
   booked_call (Unmap address) v begun books =
-      let page = unwrap_or (page_at v.records address) 0 in
-      booked_loud _ (entry.Unmap client address) begun books
-      (same_records (is_last v address) (noted v (entry.Unmap client address)) page) (same_round (is_last v address) (noted v (entry.Unmap client address)) page) refl books.moved books.back refl
+      let same = same_journal (is_last v address) (noted v (entry.Unmap client address)) (unwrap_or (page_at v.records address) 0) in
+      booked_loud _ (entry.Unmap client address) begun books same.0 same.1 refl books.moved books.back refl
   booked_call (Pin address) v begun books = booked_loud _ (entry.Pin client address) begun books refl refl refl books.moved books.back refl
   booked_call (Unpin address) v begun books = booked_loud _ (entry.Unpin client address) begun books refl refl refl books.moved books.back refl
   booked_call (TakeOrder order) v begun books = booked_loud _ (entry.TakeHuge (unwrap_or (lowest_run v order) 0) order) begun books refl refl refl books.moved books.back refl
@@ -154,16 +145,12 @@ module _ {t m b n : ℕ} {v u : ZoneState} (serial page : ℕ) (law : IsValidZon
       by true same to =
           booked_quiet u (entry.Moved serial) law.fingers.begun books (ap (λ (z : ZoneState). z.records) to) (ap (λ (z : ZoneState). z.round) to) refl
           (more ∙ ap (λ (k : ℕ). k + 1) books.moved) books.back refl stays
-      by false same to = absurd (not_moved same) where
-        not_moved : ended.Back ≡ ended.Moved → ⊥
-        not_moved e = cc
+      by false same to = absurd (cc)
 
     pub booked_pinned : ended_as v page ≡ ended.Back → n ≡ b + 1 → AreBooks t m n u
     booked_pinned is more = by (nat_eq (pins v.records page) 0) is step where
       by : (test : Bool) → (if test then ended.Moved else ended.Back) ≡ ended.Back → u ≡ (if test then moved_to_target v serial page else put_back_to_source v serial page Pinned) → AreBooks t m n u
-      by true same to = absurd (not_back same) where
-        not_back : ended.Moved ≡ ended.Back → ⊥
-        not_back e = cc
+      by true same to = absurd (cc)
       by false same to = booked_back to more
 
 -- where the scanners met, nothing changed
