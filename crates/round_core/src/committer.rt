@@ -106,8 +106,8 @@ impl<K: Keeping, M: Ledger, B: Ledger> Promise<Committed<M, B>> for HandsPartBac
 
 pub(crate) type Committer<K, M, B> = PromisedHandle<Committed<M, B>, HandsPartBack<K>>;
 
-/// Starts the committer. Where no thread can be started, the committer's body runs on this thread. The copier_parts is dropped
-/// then, and the senders with it, so that the body ends at once.
+/// Starts the committer. Where no thread can be started, the committer's body runs on this thread. The copiers' parts are dropped
+/// then, and the senders with them, so that the body ends at once.
 pub(crate) fn start_committer<
     's,
     'e,

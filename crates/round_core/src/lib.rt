@@ -1,4 +1,5 @@
-//! Rounds on threads: a scanner isolates pages of a zone in page_lists, copiers copy them, and a committer ends their moves in page_lists.
+//! Rounds on threads: a scanner isolates many pages of a zone under one hold of its lock, copiers copy them, and a committer ends their
+//! moves in the same way.
 //!
 //! The zone is under one lock, which keeps it valid. Contracts see a round by what it changes in the two seats.
 #![tactic(auto)]

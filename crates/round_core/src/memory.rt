@@ -159,7 +159,7 @@ fn reserve_joined(alloc: Global, copiers: usize) -> Result<CopierResults, AllocE
     })
 }
 
-/// Takes the memory of the lists for page_lists with this division.
+/// Takes the memory of the lists of pages, for this division.
 fn reserve_page_lists(alloc: Global, division: Division) -> Result<PageLists, AllocError>
     ensures { IfOk result (λ b. (b.pages.items ≡ []) × (0 < deque_capacity b.pages)) }
 {
