@@ -1,5 +1,6 @@
 pub mod Calls
 pub mod Copying
+pub mod Counts
 pub mod Crews
 pub mod Errors
 pub mod Kept

@@ -1,15 +1,16 @@
 -- What the threads of a round start with, and how they ran.
-use Rattle.std.specs.Prelude.{◌≡◌, ◌+◌, ◌<◌, ◌≤◌, ℕ, true, false, [], All, map, Some, IfSome, length, vec_len, vec_capacity}
+use Rattle.std.specs.Prelude.{◌≡◌, ◌+◌, ◌<◌, ◌≤◌, ℕ, true, false, [], All, map, Some, IfSome, OnSome, length, vec_len, vec_capacity}
 use Rattle.std.specs.VecDeque.{deque_capacity}
 use Rattle.hand_core.specs.PageEnds.{Giver}
 use Rattle.hand_core.specs.CopyEnds.{has_ended}
-use Rattle.zone_core.specs.Seats.{ScanSeat}
+use Rattle.zone_core.specs.Seats.{ScanSeat, EndSeat}
 use Rattle.round_core.specs.Crews.{IsUnused, IsUnsent, AreListed}
 use Rattle.round_core.specs.Rounds.{answer_at}
 use Rattle.round_core.specs.declared.memory.CopierResults.{CopierResults}
 use Rattle.round_core.specs.declared.memory.Memory.{Memory}
 use Rattle.round_core.specs.declared.memory.CopierParts.{CopierParts}
 use Rattle.round_core.specs.declared.crew.RoundRun.{RoundRun}
+use Rattle.round_core.specs.declared.round.Stop.{Stop}
 
 -- a giver that gave nothing, whose first page has this serial
 pub record IsFresh (serial : ℕ) (g : Giver) : Type 0 where
@@ -50,3 +51,11 @@ pub record HasRun (serial : ℕ) (scan : ScanSeat) (ran : RoundRun) : Type 0 whe
   -- where the scanner came to an end, each page that it counted was given
   pub count : IfSome ran.stop (λ _. scan.count ≡ ran.giver.base + length ran.giver.given)
   pub stopped : IfSome ran.stop (λ stop. scan.last ≡ Some (answer_at stop))
+
+-- how a round ran, by the seats before and after it, where the scanner may stop as told. Where it came to an end, and no moving page
+-- has a pin, no page was put back
+pub record IsRunOver (stops_at : ℕ → Stop → Type 0) (unpinned : Type 0) (scan scan_new : ScanSeat) (ends ends_new : EndSeat) (ran : RoundRun) : Type 0 where
+  pub has_run : HasRun scan.count scan_new ran
+  pub stops : IfSome ran.stop (stops_at scan_new.count)
+  pub back : OnSome ran.stop (unpinned → ends_new.back ≡ ends.back)
+  pub rounds : scan_new.rounds ≡ scan.rounds + 1

@@ -1,7 +1,8 @@
 ghost use Rattle.std.specs.Prelude.{◌≡◌, ◌+◌, ◌*◌, ◌<◌, ◌≤◌, ◌↔◌, ℕ, true, map, Some, IsSome, IsOk, IfOk, IfErr, OnOk, OnSome, IfSome, IfNone, length};
+ghost use Rattle.round_core.specs.Counts.{AreCounted, CountsOn};
 ghost use Rattle.round_core.specs.Kept.{AreAllEnded};
 ghost use Rattle.round_core.specs.Rounds.{AreShared, IsRound, IsRefusedEarly, IsAfter, IsWant};
-ghost use Rattle.round_core.specs.Runs.{IsReady, AreJoined, HasRun};
+ghost use Rattle.round_core.specs.Runs.{IsReady, AreJoined, HasRun, IsRunOver};
 
 use crate::crew::{RoundRun, run};
 use crate::error::RoundError;
@@ -58,10 +59,27 @@ pub fn compact<
         return Err(RoundError::Memory);
     };
     let Some(ran) = in_scope(rt, shared, seats, memory, gate) else {
-        audit(rt, shared, seats)?;
-        return Err(RoundError::NoWorker);
+        return Err(not_started(rt, shared, seats));
     };
     wind_up(rt, shared, seats, &before, ran)
+}
+
+/// Why a round is refused whose threads couldn't all be started. The audit shows that no move has ended.
+fn not_started<K: Keeping, I: Ledger, N: Ledger, M: Ledger, B: Ledger, R: Wait>(
+    rt: &R,
+    shared: &KeptZone<K, I, M, B>,
+    seats: &mut Seats<I, N, M, B>,
+) -> RoundError
+    requires whole { seats.old.ends.parts ≡ 64 }
+    requires ended { seats.old.scan.count ≤ seats.old.ends.moved + seats.old.ends.back }
+    ensures error { result ≡ RoundError.NoWorker }
+    ensures settled { seats.old.ends.moved + seats.old.ends.back ≡ seats.old.scan.count }
+    ensures same { (seats.new.scan ≡ seats.old.scan) × (seats.new.ends ≡ seats.old.ends) }
+{
+    match audit(rt, shared, seats) {
+        Ok(_) => RoundError::NoWorker,
+        Err(error) => error,
+    }
 }
 
 /// Audits the zone with its seats. Where the answer is Ok, each isolated page has ended once, and none is out.
@@ -70,7 +88,7 @@ fn audit_zone<I: Ledger, N: Ledger, M: Ledger, B: Ledger>(
     seats: &mut Seats<I, N, M, B>,
 ) -> Result<Audit, ZoneError>
     ensures ended { OnOk result (AreAllEnded zone.old seats.old.scan.count) }
-    ensures counts { IfOk result (λ a. (a.isolated ≡ seats.old.scan.count) × (a.moved ≡ seats.old.ends.moved) × (a.back ≡ seats.old.ends.back) × (a.moved + a.back ≡ a.isolated)) }
+    ensures counts { IfOk result (AreCounted seats.old.scan seats.old.ends) }
     ensures whole { OnOk result (seats.old.ends.parts ≡ 64) }
     ensures exact { 64 ≤ seats.old.ends.parts → (IsOk result ↔ (seats.old.ends.moved + seats.old.ends.back ≡ seats.old.scan.count)) }
     ensures most { 64 ≤ seats.old.ends.parts → seats.old.ends.moved + seats.old.ends.back ≤ seats.old.scan.count }
@@ -85,7 +103,7 @@ fn audit<K: Keeping, I: Ledger, N: Ledger, M: Ledger, B: Ledger, R: Wait>(
     shared: &KeptZone<K, I, M, B>,
     seats: &mut Seats<I, N, M, B>,
 ) -> Result<Audit, RoundError>
-    ensures counts { IfOk result (λ a. (a.isolated ≡ seats.old.scan.count) × (a.moved ≡ seats.old.ends.moved) × (a.back ≡ seats.old.ends.back) × (a.moved + a.back ≡ a.isolated)) }
+    ensures counts { IfOk result (AreCounted seats.old.scan seats.old.ends) }
     ensures whole { OnOk result (seats.old.ends.parts ≡ 64) }
     ensures exact { 64 ≤ seats.old.ends.parts → (IsOk result ↔ (seats.old.ends.moved + seats.old.ends.back ≡ seats.old.scan.count)) }
     ensures most { 64 ≤ seats.old.ends.parts → seats.old.ends.moved + seats.old.ends.back ≤ seats.old.scan.count }
@@ -118,12 +136,9 @@ fn in_scope<
     requires memory { IsReady seats.old.scan.count memory }
     requires parts { 1 < seats.old.ends.parts }
     requires begins { K.begins_at seats.old.scan.count }
-    ensures ran { IfSome result (HasRun seats.old.scan.count seats.new.scan) }
-    ensures stops { IfSome result (λ ran. IfSome ran.stop (λ stop. K.stops_at seats.new.scan.count stop)) }
-    ensures back { IfSome result (λ ran. OnSome ran.stop (K.unpinned → seats.new.ends.back ≡ seats.old.ends.back)) }
-    ensures rounds { OnSome result (seats.new.scan.rounds ≡ seats.old.scan.rounds + 1) }
+    ensures ran { IfSome result (IsRunOver K.stops_at K.unpinned seats.old.scan seats.new.scan seats.old.ends seats.new.ends) }
     ensures none { IfNone result (seats.new.scan ≡ seats.old.scan) }
-    ensures ends { (seats.new.ends.parts ≡ seats.old.ends.parts) × (seats.old.ends.moved ≤ seats.new.ends.moved) × (seats.old.ends.back ≤ seats.new.ends.back) }
+    ensures ends { CountsOn seats.old.ends seats.new.ends }
 {
     let lent = &mut *seats;
     let (lent, ran) = thread::scope(
@@ -133,12 +148,9 @@ fn in_scope<
             requires memory { IsReady lent.now.scan.count memory }
             requires parts { 1 < lent.now.ends.parts }
             requires begins { K.begins_at lent.now.scan.count }
-            ensures ran { IfSome result.1 (HasRun lent.entry.now.scan.count result.0.now.scan) }
-            ensures stops { IfSome result.1 (λ ran. IfSome ran.stop (λ stop. K.stops_at result.0.now.scan.count stop)) }
-            ensures back { IfSome result.1 (λ ran. OnSome ran.stop (K.unpinned → result.0.now.ends.back ≡ lent.entry.now.ends.back)) }
-            ensures rounds { OnSome result.1 (result.0.now.scan.rounds ≡ lent.entry.now.scan.rounds + 1) }
+            ensures ran { IfSome result.1 (IsRunOver K.stops_at K.unpinned lent.entry.now.scan result.0.now.scan lent.entry.now.ends result.0.now.ends) }
             ensures none { IfNone result.1 (result.0.now.scan ≡ lent.entry.now.scan) }
-            ensures ends { (result.0.now.ends.parts ≡ lent.entry.now.ends.parts) × (lent.entry.now.ends.moved ≤ result.0.now.ends.moved) × (lent.entry.now.ends.back ≤ result.0.now.ends.back) }
+            ensures ends { CountsOn lent.entry.now.ends result.0.now.ends }
             ensures lent { result.0.ghost_name ≡ lent.entry.ghost_name }
         {
             let ran = run(scope, rt, shared, lent, memory, gate);

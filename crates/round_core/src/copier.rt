@@ -1,10 +1,10 @@
-ghost use Rattle.std.specs.Prelude.{◌≡◌, ◌<◌, [], false, IfSome};
+ghost use Rattle.std.specs.Prelude.{◌≡◌, ◌≢◌, ◌<◌, ◌++◌, ◌∷◌, [], true, false, IfSome, length, vec_len, vec_capacity};
 ghost use Rattle.round_core.specs.Copying.{IsCarried};
 ghost use Rattle.round_core.specs.Crews.{IsUnused, IsUnsent};
 
 use crate::gate::{Gate, Point};
 use crate::stack::stack;
-use frame_core::Serial;
+use frame_core::{Copied, Isolated, Serial};
 use hand_core::{Batch, DoneSender, Taker, Took};
 use std::snapshot::Snapshot;
 use std::sync::Wait;
@@ -46,29 +46,55 @@ pub fn carry<G: Gate, R: Wait>(
                 if serials.len() >= serials.capacity() {
                     return given_up(taker, sender, serials);
                 }
-                serials.push_reserved(page.serial());
-                copies.push(page.copy_into_new());
+                copy_page(page, &mut serials, &mut copies);
                 gate.at(Point::Copied, who);
-                if taker.has_more() && copies.len() < most {
+                if takes_another(&taker, &copies, most) {
                     continue;
                 }
                 if sender.send_all(rt, copies.take()).is_err() {
                     return given_up(taker, sender, serials);
                 }
             }
-            Took::End => {
-                let whole = sender.close(rt).is_ok();
-                return Carried {
-                    taker,
-                    sender,
-                    serials,
-                    whole,
-                };
-            }
+            Took::End => return at_end(rt, taker, sender, serials),
             Took::Gone => return given_up(taker, sender, serials),
         }
     }
     unreachable!()
+}
+
+/// Copies a page, and notes its serial.
+fn copy_page(page: Isolated, serials: &mut Vec<Serial>, copies: &mut Batch<Copied>)
+    requires serials { vec_len serials.old < vec_capacity serials.old }
+    requires copies { length copies.old.items < 8 }
+    ensures serials { serials.new.items ≡ serials.old.items ++ page.serial ∷ [] }
+    ensures copies { copies.new.items ≡ copies.old.items ++ page ∷ [] }
+{
+    serials.push_reserved(page.serial());
+    copies.push(page.copy_into_new());
+}
+
+/// Whether a page is taken before the copies are sent: it was received together with them, and a batch has a place for its copy.
+fn takes_another(taker: &Taker, copies: &Batch<Copied>, most: usize) -> bool
+    ensures more { result ≡ true → taker.now.in_hand ≢ [] }
+    ensures place { result ≡ true → length copies.now.items < most }
+{
+    taker.has_more() && copies.len() < most
+}
+
+/// What a copier hands back that took the end mark: it closes its sender.
+fn at_end<R: Wait>(rt: &R, taker: Taker, mut sender: DoneSender, serials: Vec<Serial>) -> Carried
+    requires { sender.closed ≡ false }
+    ensures same { (result.taker ≡ taker) × (result.serials ≡ serials) }
+    ensures closed { result.sender ≡ record sender { closed = true; marked = result.sender.marked } }
+    ensures marked { result.sender.marked ≡ result.whole }
+{
+    let whole = sender.close(rt).is_ok();
+    Carried {
+        taker,
+        sender,
+        serials,
+        whole,
+    }
 }
 
 /// What a copier hands back that didn't come to its end.

@@ -1,7 +1,8 @@
 ghost use Rattle.std.specs.Prelude.{◌≡◌, ◌+◌, ◌<◌, ◌≤◌, ℕ, false, All, IfOk, IfErr, OnSome, IfSome, IfNone, vec_len, []};
 ghost use Rattle.std.specs.VecDeque.{deque_capacity};
 ghost use Rattle.hand_core.specs.CopyEnds.{has_ended};
-ghost use Rattle.round_core.specs.Runs.{IsFresh, IsUnstarted, IsEmpty, IsReady, AreJoined, HasRun};
+ghost use Rattle.round_core.specs.Runs.{IsFresh, IsUnstarted, IsEmpty, IsReady, AreJoined, IsRunOver};
+ghost use Rattle.round_core.specs.Counts.{CountsOn};
 
 use crate::committer::{Committed, Committer, start_committer};
 use crate::copier::{Carried, Copier, start_copier};
@@ -175,11 +176,8 @@ fn run_crew<K: Keeping, I: Ledger, N: Ledger, M: Ledger, B: Ledger, G: Gate, R: 
     requires pages { (pages.items ≡ []) × (0 < deque_capacity pages) }
     requires joined { IsEmpty (vec_len crew.copiers) joined }
     requires begins { K.begins_at scan.old.count }
-    ensures ran { HasRun scan.old.count scan.new result }
-    ensures stops { IfSome result.stop (λ stop. K.stops_at scan.new.count stop) }
-    ensures rounds { scan.new.rounds ≡ scan.old.rounds + 1 }
+    ensures ran { IsRunOver K.stops_at K.unpinned scan.old scan.new ends.old ends.new result }
     ensures ends { (ends.new.parts ≡ ends.old.parts + 1) × (ends.old.moved ≤ ends.new.moved) × (ends.old.back ≤ ends.new.back) }
-    ensures back { OnSome result.stop (K.unpinned → ends.new.back ≡ ends.old.back) }
 {
     let Crew {
         mut giver,
@@ -232,12 +230,9 @@ pub(crate) fn run<
     requires memory { IsReady seats.old.scan.count memory }
     requires parts { 1 < seats.old.ends.parts }
     requires begins { K.begins_at seats.old.scan.count }
-    ensures ran { IfSome result (HasRun seats.old.scan.count seats.new.scan) }
-    ensures stops { IfSome result (λ ran. IfSome ran.stop (λ stop. K.stops_at seats.new.scan.count stop)) }
-    ensures back { IfSome result (λ ran. OnSome ran.stop (K.unpinned → seats.new.ends.back ≡ seats.old.ends.back)) }
-    ensures rounds { OnSome result (seats.new.scan.rounds ≡ seats.old.scan.rounds + 1) }
+    ensures ran { IfSome result (IsRunOver K.stops_at K.unpinned seats.old.scan seats.new.scan seats.old.ends seats.new.ends) }
     ensures none { IfNone result (seats.new.scan ≡ seats.old.scan) }
-    ensures ends { (seats.new.ends.parts ≡ seats.old.ends.parts) × (seats.old.ends.moved ≤ seats.new.ends.moved) × (seats.old.ends.back ≤ seats.new.ends.back) }
+    ensures ends { CountsOn seats.old.ends seats.new.ends }
 {
     let Memory {
         copier_parts,

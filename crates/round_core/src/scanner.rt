@@ -1,6 +1,7 @@
 ghost use Rattle.std.specs.Prelude.{◌≡◌, ◌+◌, ◌++◌, ◌<◌, ◌≤◌, [], false, Some, None, Err, length, IfSome, IfNone, OnSome, IfOk, OnOk};
 ghost use Rattle.std.specs.VecDeque.{deque_capacity};
 ghost use Rattle.frame_core.specs.Serials.{HasSerialsFrom};
+ghost use Rattle.round_core.specs.Counts.{CountsBack};
 ghost use Rattle.round_core.specs.Crews.{IsNext};
 ghost use Rattle.round_core.specs.Rounds.{answer_at};
 
@@ -37,7 +38,7 @@ pub(crate) fn scan_all<K: Keeping, I: Ledger, N: Ledger, M: Ledger, B: Ledger, G
     ensures stopped { IfOk result (λ stop. scan.new.last ≡ Some (answer_at stop)) }
     ensures stops { IfOk result (λ stop. K.stops_at scan.new.count stop) }
     ensures rounds { scan.new.rounds ≡ scan.old.rounds + 1 }
-    ensures ends { (ends.new.parts ≡ ends.old.parts) × (ends.new.moved ≡ ends.old.moved) × (ends.old.back ≤ ends.new.back) }
+    ensures ends { CountsBack ends.old ends.new }
     ensures back { OnOk result (ends.new.back ≡ ends.old.back) }
     // Where the zone refused none, each page that was counted was given or put back.
     ensures left { result ≡ Err None → giver.new.base + length giver.new.given + ends.new.back ≡ scan.new.count + ends.old.back }
@@ -70,7 +71,7 @@ fn give_all<K: Keeping, I: Ledger, M: Ledger, B: Ledger, G: Gate, R: Wait>(
     ensures given { OnOk result (giver.new.given ≡ giver.old.given ++ pages.old.items) }
     ensures pages { pages.new.items ≡ [] }
     ensures room { deque_capacity pages.new ≡ deque_capacity pages.old }
-    ensures ends { (ends.new.parts ≡ ends.old.parts) × (ends.new.moved ≡ ends.old.moved) × (ends.old.back ≤ ends.new.back) }
+    ensures ends { CountsBack ends.old ends.new }
     ensures back { OnOk result (ends.new.back ≡ ends.old.back) }
     // Where the zone refused none, each page was given or put back.
     ensures left { result ≡ Err None → length giver.new.given + ends.new.back ≡ length giver.old.given + length pages.old.items + ends.old.back }

@@ -2,7 +2,7 @@ ghost use Rattle.std.specs.Prelude.{◌≡◌, ◌<◌, ◌≤◌};
 
 use crate::keeping::{Keeping, Open};
 use crate::round::Stop;
-use crate::under_lock::{commit_copies, isolate_pages, put_back_pages};
+use crate::under_lock::{begin_round, commit_copies, isolate_pages, put_back_pages};
 use frame_core::{Copied, Isolated, Serial};
 use hand_core::Stub;
 use hand_core::patience::{TRIES, pause};
@@ -136,6 +136,7 @@ impl<K: Keeping, I: Ledger, M: Ledger, B: Ledger> KeptZone<K, I, M, B> {
     ghost use Rattle.frame_core.specs.Serials.{HasSerialsFrom};
     ghost use Rattle.zone_core.specs.Seats.{seat_begun};
     ghost use Rattle.round_core.specs.Kept.{LockInvariant};
+    ghost use Rattle.round_core.specs.Counts.{CountsBack};
     ghost use Rattle.round_core.specs.Rounds.{answer_at};
     ghost use Rattle.round_core.specs.Scanning.{HasBegun};
     ghost use Rattle.zone_core.specs.ZoneIdentity.{HasIdentity};
@@ -238,7 +239,7 @@ impl<K: Keeping, I: Ledger, M: Ledger, B: Ledger> KeptZone<K, I, M, B> {
     {
         let mut room = self.lock(rt);
         let zone = &mut room.zone;
-        zone.begin_round(seat);
+        begin_round::<K, I, N, M, B>(zone, seat);
         isolate_pages::<K, I, N, M, B>(zone, seat, pages)
     }
 
@@ -293,7 +294,7 @@ impl<K: Keeping, I: Ledger, M: Ledger, B: Ledger> KeptZone<K, I, M, B> {
     ) -> Option<Serial>
         ensures pages { pages.new.items ≡ [] }
         ensures room { deque_capacity pages.new ≡ deque_capacity pages.old }
-        ensures seat { (seat.new.parts ≡ seat.old.parts) × (seat.new.moved ≡ seat.old.moved) × (seat.old.back ≤ seat.new.back) }
+        ensures seat { CountsBack seat.old seat.new }
         ensures back { result ≡ None → seat.new.back ≡ seat.old.back + length pages.old.items }
     {
         let mut room = self.lock(rt);

@@ -1,20 +1,41 @@
-//! Steps of many pages under one hold of the lock.
+//! Steps under one hold of the lock.
 
-ghost use Rattle.std.specs.Prelude.{◌≡◌, ◌+◌, ◌<◌, ◌≤◌, [], length, Some, None, IfSome, IfNone, OnSome};
+ghost use Rattle.std.specs.Prelude.{◌≡◌, ◌+◌, ◌<◌, ◌≤◌, [], length, Some, None, IfSome, IfNone, IfOk, IfErr, OnOk, OnErr};
 ghost use Rattle.std.specs.VecDeque.{deque_capacity};
 ghost use Rattle.frame_core.specs.Moves.{isolated};
 ghost use Rattle.state_core.specs.Valid.{IsValidZone};
 ghost use Rattle.frame_core.specs.Serials.{HasSerialsFrom};
+ghost use Rattle.zone_core.specs.Seats.{seat_begun};
 ghost use Rattle.zone_core.specs.ZoneIdentity.{HasIdentity};
+ghost use Rattle.state_core.specs.Ending.{put_back_to_source};
+ghost use Rattle.round_core.specs.Counts.{CountsBack};
 ghost use Rattle.round_core.specs.PuttingBack.{all_put_back};
 ghost use Rattle.round_core.specs.Rounds.{answer_at};
 
 use crate::keeping::Keeping;
 use crate::round::Stop;
-use frame_core::{Copied, Isolated, Serial};
+use frame_core::{Cause, Copied, Isolated, Serial};
 use std::collections::VecDeque;
 use std::sync::ledger::Ledger;
 use zone_core::{EndSeat, Next, ScanSeat, Zone};
+
+/// Begins a round of the scanner.
+pub(crate) fn begin_round<K: Keeping, I: Ledger, N: Ledger, M: Ledger, B: Ledger>(
+    zone: &mut Zone<I, M, B>,
+    scan: &mut ScanSeat<I, N>,
+)
+    requires valid { IsValidZone zone.old }
+    requires keeps { K.keeps zone.old }
+    requires begins { K.begins_at scan.old.count }
+    ensures seat { scan.new ≡ seat_begun scan.old }
+    ensures keeps { K.keeps_scanning zone.new }
+    ensures told { K.told zone.new.records ≡ K.told zone.old.records }
+    ensures count { isolated zone.new.records ≡ scan.new.count }
+    ensures identity { HasIdentity zone.old.number zone.old.blocks zone.new }
+    ensures valid { IsValidZone zone.new }
+{
+    zone.begin_round(scan);
+}
 
 /// Isolates pages into the empty list, in their order, until the list is full. Where it stops before, the answer says why.
 pub(crate) fn isolate_pages<K: Keeping, I: Ledger, N: Ledger, M: Ledger, B: Ledger>(
@@ -39,13 +60,39 @@ pub(crate) fn isolate_pages<K: Keeping, I: Ledger, N: Ledger, M: Ledger, B: Ledg
     ensures valid { IsValidZone zone.new }
 {
     while pages.len() < pages.capacity() {
-        match zone.isolate_next(scan) {
-            Ok(Next::Page(page)) => pages.push_back_reserved(page),
-            Ok(Next::Met) => return Some(Stop::Met),
-            Err(_) => return Some(Stop::JournalFull),
+        match isolate_page::<K, I, N, M, B>(zone, scan) {
+            Ok(page) => pages.push_back_reserved(page),
+            Err(stop) => return Some(stop),
         }
     }
     None
+}
+
+/// Isolates the next page. Where the scanner stops in its place, the answer says why.
+fn isolate_page<K: Keeping, I: Ledger, N: Ledger, M: Ledger, B: Ledger>(
+    zone: &mut Zone<I, M, B>,
+    scan: &mut ScanSeat<I, N>,
+) -> Result<Isolated, Stop>
+    requires valid { IsValidZone zone.old }
+    requires keeps { K.keeps_scanning zone.old }
+    requires count { isolated zone.old.records ≡ scan.old.count }
+    ensures serial { IfOk result (λ page. page.serial ≡ scan.old.count) }
+    ensures count { OnOk result (scan.new.count ≡ scan.old.count + 1) }
+    ensures same { OnErr result (scan.new.count ≡ scan.old.count) }
+    ensures counted { isolated zone.new.records ≡ scan.new.count }
+    ensures rounds { scan.new.rounds ≡ scan.old.rounds }
+    ensures stopped { IfErr result (λ stop. scan.new.last ≡ Some (answer_at stop)) }
+    ensures keeps { K.keeps_scanning zone.new }
+    ensures told { K.told zone.new.records ≡ K.told zone.old.records }
+    ensures stops { IfErr result (K.stops_at scan.new.count) }
+    ensures identity { HasIdentity zone.old.number zone.old.blocks zone.new }
+    ensures valid { IsValidZone zone.new }
+{
+    match zone.isolate_next(scan) {
+        Ok(Next::Page(page)) => Ok(page),
+        Ok(Next::Met) => Err(Stop::Met),
+        Err(_) => Err(Stop::JournalFull),
+    }
 }
 
 /// Commits all copies, in their order. The answer is the least serial of those that were refused now or before, if there is one.
@@ -66,11 +113,30 @@ pub(crate) fn commit_copies<K: Keeping, I: Ledger, M: Ledger, B: Ledger>(
     ensures valid { IsValidZone zone.new }
 {
     while let Some(copy) = copies.pop_front() {
-        if let Err(refused) = zone.commit(seat, copy) {
-            stranger = least(stranger, Some(refused.0.serial()));
-        }
+        stranger = least(stranger, commit_copy::<K, I, M, B>(zone, seat, copy));
     }
     stranger
+}
+
+/// Commits a copy. The answer is its serial if it was refused.
+fn commit_copy<K: Keeping, I: Ledger, M: Ledger, B: Ledger>(
+    zone: &mut Zone<I, M, B>,
+    seat: &mut EndSeat<M, B>,
+    copy: Copied,
+) -> Option<Serial>
+    requires valid { IsValidZone zone.old }
+    requires keeps { K.keeps zone.old }
+    ensures keeps { K.keeps zone.new }
+    ensures told { K.told zone.new.records ≡ K.told zone.old.records }
+    ensures back { K.unpinned → seat.new.back ≡ seat.old.back }
+    ensures parts { seat.new.parts ≡ seat.old.parts }
+    ensures identity { HasIdentity zone.old.number zone.old.blocks zone.new }
+    ensures valid { IsValidZone zone.new }
+{
+    match zone.commit(seat, copy) {
+        Ok(_) => None,
+        Err(refused) => Some(refused.0.serial()),
+    }
 }
 
 /// Puts all pages back, in their order. The answer is the least serial of those that were refused, if there is one.
@@ -85,7 +151,7 @@ pub(crate) fn put_back_pages<K: Keeping, I: Ledger, M: Ledger, B: Ledger>(
     ensures told { K.told zone.new.records ≡ K.told zone.old.records }
     ensures put_back { result ≡ None → zone.new ≡ all_put_back zone.old pages.old.items }
     ensures back { result ≡ None → seat.new.back ≡ seat.old.back + length pages.old.items }
-    ensures seat { (seat.new.parts ≡ seat.old.parts) × (seat.new.moved ≡ seat.old.moved) × (seat.old.back ≤ seat.new.back) }
+    ensures seat { CountsBack seat.old seat.new }
     ensures pages { pages.new.items ≡ [] }
     ensures room { deque_capacity pages.new ≡ deque_capacity pages.old }
     ensures identity { HasIdentity zone.old.number zone.old.blocks zone.new }
@@ -93,11 +159,31 @@ pub(crate) fn put_back_pages<K: Keeping, I: Ledger, M: Ledger, B: Ledger>(
 {
     let mut stranger = None;
     while let Some(page) = pages.pop_front() {
-        if let Err(refused) = zone.put_back(seat, page) {
-            stranger = least(stranger, Some(refused.0.serial()));
-        }
+        stranger = least(stranger, put_back_page::<K, I, M, B>(zone, seat, page));
     }
     stranger
+}
+
+/// Puts a page back. The answer is its serial if it was refused.
+fn put_back_page<K: Keeping, I: Ledger, M: Ledger, B: Ledger>(
+    zone: &mut Zone<I, M, B>,
+    seat: &mut EndSeat<M, B>,
+    page: Isolated,
+) -> Option<Serial>
+    requires valid { IsValidZone zone.old }
+    requires keeps { K.keeps zone.old }
+    ensures keeps { K.keeps zone.new }
+    ensures told { K.told zone.new.records ≡ K.told zone.old.records }
+    ensures put_back { result ≡ None → zone.new ≡ put_back_to_source zone.old page.serial page.page.number Cause.NotCopied }
+    ensures back { result ≡ None → seat.new.back ≡ seat.old.back + 1 }
+    ensures seat { CountsBack seat.old seat.new }
+    ensures identity { HasIdentity zone.old.number zone.old.blocks zone.new }
+    ensures valid { IsValidZone zone.new }
+{
+    match zone.put_back(seat, page) {
+        Ok(()) => None,
+        Err(refused) => Some(refused.0.serial()),
+    }
 }
 
 /// The least of two serials, of which each may be none.

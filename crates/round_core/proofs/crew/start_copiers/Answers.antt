@@ -4,13 +4,6 @@ use Rattle.hand_core.specs.PageEnds.{Taker}
 use Rattle.round_core.specs.Crews.{IsUnused, IsUnsent}
 use Rattle.round_core.proofs.crew.start_copiers.Goals as goal
 
--- where there was a taker, there was also one of the others, since there are as many
-none_left : (takers others left : ℕ) → others ≡ takers → left + 1 ≡ takers → others ≡ 0 → ⊥
-none_left takers others left as_many some none = omega arith
-
-room_left : (copiers takers all capacity left : ℕ) → copiers + takers ≡ all → all ≤ capacity → left + 1 ≡ takers → copiers < capacity
-room_left copiers takers all capacity left started room some = omega arith
-
 pub start_copier-requires : goal.start_copier-requires
 start_copier-requires g c =
     let old = c.loop-taker.invariant in
@@ -21,13 +14,13 @@ start_copier-requires g c =
     (c.type_bounds.sync-G, (c.type_bounds.sync-R, (record { of_it = refl; open_still = taker.1.open_still; none = taker.1.none }, (sender.1, list.1))))
 
 pub unreachable-requires : goal.unreachable-requires
-unreachable-requires g c = none_left _ _ _ c.loop-taker.invariant.as_many_senders c.in-Some.ensures.cases c.in_default-pop.ensures.cases.0
+unreachable-requires g c = omega (arith, c.loop-taker.invariant.as_many_senders, c.in-Some.ensures.cases, c.in_default-pop.ensures.cases.0)
 
 pub unreachable-requires-in_default-pop-2 : goal.unreachable-requires-in_default-pop-2
-unreachable-requires-in_default-pop-2 g c = none_left _ _ _ c.loop-taker.invariant.as_many_lists c.in-Some.ensures.cases c.in_default-pop-2.ensures.cases.0
+unreachable-requires-in_default-pop-2 g c = omega (arith, c.loop-taker.invariant.as_many_lists, c.in-Some.ensures.cases, c.in_default-pop-2.ensures.cases.0)
 
 pub push_reserved-requires : goal.push_reserved-requires
-push_reserved-requires g c = room_left _ _ _ _ _ c.loop-taker.invariant.started c.loop-taker.invariant.room c.in-Some.ensures.cases
+push_reserved-requires g c = omega (arith, c.loop-taker.invariant.started, c.loop-taker.invariant.room, c.in-Some.ensures.cases)
 
 pub loop-taker-preserved : goal.loop-taker-preserved
 loop-taker-preserved g c =

@@ -1,6 +1,7 @@
 use Rattle.std.proofs.Common.{◌≡◌, ◌+◌, ◌<◌, ◌≤◌, length, false, Some, IfSome, IfNone}
 use Rattle.std.specs.VecDeque.{deque_capacity}
 use Rattle.frame_core.specs.Serials.{HasSerialsFrom}
+use Rattle.round_core.specs.Counts.{CountsBack}
 use Rattle.round_core.specs.Rounds.{answer_at}
 use Rattle.round_core.specs.Scanning.{HasBegun}
 use Rattle.round_core.proofs.scanner.scan_all.Given as goal
@@ -14,7 +15,7 @@ invariant-loop g l = record {
   places : 0 < deque_capacity l.pages;
   giver : l.giver ≡ record l.fn.giver { given = l.giver.given };
   rounds : l.scan.rounds ≡ l.fn.scan.rounds + 1;
-  ends : (l.ends.parts ≡ l.fn.ends.parts) × (l.ends.moved ≡ l.fn.ends.moved) × (l.fn.ends.back ≤ l.ends.back);
+  ends : CountsBack l.fn.ends l.ends;
   back : l.ends.back ≡ l.fn.ends.back;
   stopped : IfSome l.stop (λ stop. l.scan.last ≡ Some (answer_at stop));
   stops : IfSome l.stop (λ stop. g.K.Keeping.stops_at l.scan.count stop);
