@@ -1,5 +1,5 @@
 -- A collector that has a zone alone goes on as a reservation by hand does: it takes blocks, and runs rounds that move pages.
-use Rattle.std.proofs.Common.{◌≡◌, ℕ, zero, suc, ◌+◌, ◌-◌, ◌<◌, ◌≤◌, Bool, true, false, if◌then◌else◌, List, [], ◌∷◌, ◌++◌, length, refl, sym, ap, subst, ◌∙◌, arith, append_assoc, length-append, Option, Some, None, unwrap_or}
+use Rattle.std.proofs.Common.{◌≡◌, ℕ, zero, suc, ◌+◌, ◌-◌, ◌<◌, ◌≤◌, Bool, true, false, if◌then◌else◌, List, [], ◌∷◌, ◌++◌, length, refl, sym, ap, subst, ◌∙◌, arith, append_assoc, length-append, Option, Some, None, unwrap_or, zero-add}
 use Rattle.std.proofs.lemmas.Bool.Decides.{nat_tests}
 use Rattle.frame_core.specs.Moves.{isolated, out}
 use Rattle.zone_core.specs.Alone.{IsAtRest}
@@ -15,6 +15,7 @@ use Rattle.state_core.specs.ZoneState.{ZoneState}
 use Rattle.huge_core.specs.ByHand.{Reservation, stopped, with_block, with_round, lowest_first, lowest_taken, asked, taking, moves, idle_stop, reserved_by_hand, frames_of, after, HasFilled}
 use Rattle.huge_core.specs.Huge.{Huge}
 use Rattle.huge_core.specs.declared.report.Stop.TheVariants.{JournalFull}
+use native.Mathlib.Numerals.{unary_clauses}
 use Rattle.huge_core.proofs.SameByHand.{AreSame, are_same_refl, are_same_trans, same_after, same_with_round, rest_same, rest_by_hand, where_none, reserved_is, reserved_same}
 
 -- a block that is taken
@@ -129,16 +130,7 @@ module _ (order n : ℕ) (start : ZoneState) where
   pub begun_by_hand : IsAtRest start → IsUnderWayByHand order n start [] 0 start
   begun_by_hand rest = record {
     rest = rest;
-    same = λ rounds.
-        let whole = reserved_by_hand order (0 + rounds) n start in
-        let here = reserved_by_hand order rounds n start in
-        let ran : 0 + rounds ≡ rounds = omega arith in
-        let none : here.rounds ≡ 0 + here.rounds = omega arith in
-        let left : n ≡ n - length {A = Option Huge} [] = omega arith in
-        let same : AreSame whole here = subst (λ (k : ℕ). AreSame whole (reserved_by_hand order k n start)) ran (are_same_refl whole) in
-        let front : AreSame whole (after [] 0 here) =
-        record { frames = same.frames; rounds = same.rounds ∙ none; stop = same.stop; zone = same.zone } in
-        subst (λ (m : ℕ). AreSame whole (after [] 0 (reserved_by_hand order rounds m start))) left front;
+    same = λ rounds. simp (zero-add, unary_clauses) (are_same_refl (reserved_by_hand order rounds n start));
   }
 
   module _ (now next : ZoneState) (got : List (Option Huge)) (ran : ℕ) where
@@ -172,9 +164,7 @@ module _ (order n : ℕ) (start : ZoneState) where
               let rest_next = reserved_by_hand order rounds left next in
               let more : ran + suc rounds ≡ ran + 1 + rounds = omega arith in
               let behind : AreSame whole (after frames ran (with_round rest)) =
-              subst (λ (k : ℕ). AreSame (reserved_by_hand order k n start) (after frames ran (with_round rest))) more
-              (subst (λ (r : Reservation). AreSame (reserved_by_hand order (ran + suc rounds) n start) (after frames ran r))
-              (where_moves order rounds left now (omega arith) refused moved) (was.same (suc rounds))) in
+              rw (more, where_moves order rounds left now (omega arith) refused moved) at (was.same (suc rounds)) in
               let on : AreSame (after frames ran (with_round rest)) (after frames ran (with_round rest_next)) =
               same_after frames ran (with_round rest) (with_round rest_next)
               (same_with_round rest rest_next (reserved_same order low high rounds left (by_hand now) next hand rests same)) in

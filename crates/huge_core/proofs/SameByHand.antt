@@ -1,7 +1,6 @@
 -- Reservations by hand over zones that are the same leave the same.
-use Rattle.std.proofs.Common.{◌≡◌, ℕ, zero, suc, ◌+◌, ◌-◌, ◌^◌, ◌≤◌, ◌&&◌, Bool, true, false, cond, nat_lt, List, ◌∷◌, ◌++◌, length, refl, sym, ap, subst, ◌∙◌, arith, Option, Some, None, is_none, unwrap_or, if◌then◌else◌, not}
+use Rattle.std.proofs.Common.{◌≡◌, ℕ, zero, suc, ◌+◌, ◌-◌, ◌^◌, ◌≤◌, ◌&&◌, Bool, true, false, cond, nat_lt, List, ◌∷◌, ◌++◌, length, refl, sym, ap, ◌∙◌, arith, Option, Some, None, unwrap_or, if◌then◌else◌, rules}
 use Rattle.std.proofs.lemmas.Bool.Decides.{nat_tests}
-use Rattle.frame_core.proofs.Searches.{lowest_some}
 use Rattle.frame_core.specs.Moves.{isolated, out}
 use Rattle.zone_core.proofs.ByHand.{moving_isolated, moving_all, none_by_hand, outcome_all}
 use Rattle.zone_core.proofs.Records.{isolated_same, isolated-without_ends}
@@ -12,12 +11,12 @@ use Rattle.zone_core.proofs.Calls.{take_agrees, run_agrees, taken_agrees}
 use Rattle.zone_core.proofs.RoundsKept.{by_hand_agrees}
 use Rattle.round_core.specs.Rounds.{stop_for, stop_by_hand}
 use Rattle.state_core.specs.declared.error.ZoneError.{ZoneError}
-use Rattle.state_core.specs.declared.error.ZoneError.TheVariants.{JournalFull as JournalIsFull, NoBlock as NoBlockIsFree}
-use Rattle.state_core.specs.HandingOut.{lowest_run, is_run, take_order_refusal, block_taken}
+use Rattle.state_core.specs.declared.error.ZoneError.TheVariants.{JournalFull as JournalIsFull}
+use Rattle.state_core.specs.HandingOut.{take_order_refusal}
 use Rattle.state_core.specs.Valid.{IsValidZone}
-use Rattle.state_core.specs.ZoneState.{ZoneState, frame_count, has_room}
-use Rattle.state_core.proofs.Facts.{spare}
-use Rattle.state_core.proofs.HandingOut.{valid_block_taken}
+use Rattle.state_core.specs.ZoneState.{ZoneState, frame_count}
+use Rattle.state_core.proofs.Calls.{call_valid}
+use Rattle.state_core.specs.declared.call.ZoneCall.TheVariants.{TakeOrder}
 use Rattle.huge_core.specs.ByHand.{Reservation, stopped, with_block, with_round, lowest_first, lowest_taken, asked, taking, moves, idle_stop, reserved_by_hand, after}
 use Rattle.huge_core.specs.declared.report.Stop.{Stop}
 use Rattle.huge_core.specs.declared.report.Stop.TheVariants.{Enough, Rounds, JournalFull}
@@ -25,55 +24,13 @@ use Rattle.huge_core.specs.declared.report.Stop.TheVariants.{Enough, Rounds, Jou
 -- zones that are the same
 
 pub same_refl : (z : ZoneState) → IsSame z z
-same_refl z = record {
-  number = refl;
-  blocks = refl;
-  page_size = refl;
-  placement = refl;
-  unmovable = refl;
-  marked = refl;
-  handed_out = refl;
-  contents = refl;
-  records = refl;
-  length_is = refl;
-  back = refl;
-  out_is = refl;
-  room = refl;
-}
+same_refl z = search rules
 
 pub same_sym : (z w : ZoneState) → IsSame z w → IsSame w z
-same_sym z w same = record {
-  number = sym same.number;
-  blocks = sym same.blocks;
-  page_size = sym same.page_size;
-  placement = sym same.placement;
-  unmovable = sym same.unmovable;
-  marked = sym same.marked;
-  handed_out = sym same.handed_out;
-  contents = sym same.contents;
-  records = sym same.records;
-  length_is = sym same.length_is;
-  back = sym same.back;
-  out_is = sym same.out_is;
-  room = sym same.room;
-}
+same_sym z w same = search rules
 
 pub same_trans : (z w v : ZoneState) → IsSame z w → IsSame w v → IsSame z v
-same_trans z w v a b = record {
-  number = a.number ∙ b.number;
-  blocks = a.blocks ∙ b.blocks;
-  page_size = a.page_size ∙ b.page_size;
-  placement = a.placement ∙ b.placement;
-  unmovable = a.unmovable ∙ b.unmovable;
-  marked = a.marked ∙ b.marked;
-  handed_out = a.handed_out ∙ b.handed_out;
-  contents = a.contents ∙ b.contents;
-  records = a.records ∙ b.records;
-  length_is = a.length_is ∙ b.length_is;
-  back = a.back ∙ b.back;
-  out_is = a.out_is ∙ b.out_is;
-  room = a.room ∙ b.room;
-}
+same_trans z w v a b = search rules
 
 pub rest_same : (z w : ZoneState) → IsAtRest z → IsValidZone w → IsSame z w → IsAtRest w
 rest_same z w rest law same = record { valid = law; none_out = sym same.out_is ∙ rest.none_out }
@@ -180,48 +137,23 @@ module _ (z w : ZoneState) (rest_z : IsAtRest z) (rest_w : IsAtRest w) (same : I
 
 -- a block that is taken
 
-passed : (room none : Bool) → (if not room then Some JournalIsFull else if none then Some NoBlockIsFree else None) ≡ None
-    → (room ≡ true) × (none ≡ false)
-passed false none e = cc
-passed true true e = cc
-passed true false e = (refl, refl)
-
-first_is : (o : Option ℕ) → is_none o ≡ false → o ≡ Some (unwrap_or o 0)
-first_is None e = cc
-first_is (Some first) e = refl
-
 module _ (order : ℕ) (low : 3 ≤ order) (high : order ≤ 9) where
-  rest_taken : (z : ZoneState) → IsAtRest z → take_order_refusal z order ≡ None → IsAtRest (lowest_taken z order)
-  rest_taken z rest accepted =
-      let free = passed (has_room z) (is_none (lowest_run z order)) accepted in
-      let first = lowest_some (is_run z order) (frame_count z) (lowest_first z order) (first_is (lowest_run z order) free.1) in
-      record {
-        valid = valid_block_taken z (lowest_first z order) order first.1 rest.valid (spare z free.0) low high;
-        none_out = rest.none_out;
-      }
+  pub rest_taken : (z : ZoneState) → IsAtRest z → take_order_refusal z order ≡ None → IsAtRest (lowest_taken z order)
+  rest_taken z rest accepted = record { valid = call_valid 8 (TakeOrder order) 0 z rest.valid (low, high) accepted; none_out = rest.none_out }
 
   taken_same : (z w : ZoneState) → IsSame z w → IsSame (lowest_taken z order) (lowest_taken w order)
   taken_same z w same =
-      subst (λ (o : Option ℕ). IsSame (lowest_taken z order) (block_taken w (unwrap_or o 0) order)) (run_agrees z w same order)
-      (taken_agrees z w same (lowest_first z order) order)
+      rw (← run_agrees z w same order) (taken_agrees z w same (lowest_first z order) order)
 
   taking_same : (none : ℕ → ZoneState → Reservation) → ((left : ℕ) → Agrees (none left)) → (n : ℕ) → Agrees (λ z. taking order n z none)
   taking_same none agrees zero z w rest_z rest_w same = same_stopped Enough Enough z w refl same
   taking_same none agrees (suc n) z w rest_z rest_w same =
       let refusal = take_agrees z w same order in
       let first : lowest_first z order ≡ lowest_first w order = ap (λ (o : Option ℕ). unwrap_or o 0) (run_agrees z w same order) in
-      let on_z = taking order n (lowest_taken z order) none in
-      let on_w = taking order n (lowest_taken w order) none in
-      let taken_z = with_block (lowest_first z order) on_z in
-      let taken_w = with_block (lowest_first w order) on_w in
       let on = λ (accepted : take_order_refusal z order ≡ None).
       taking_same none agrees n (lowest_taken z order) (lowest_taken w order)
       (rest_taken z rest_z accepted) (rest_taken w rest_w (sym refusal ∙ accepted)) (taken_same z w same) in
-      let full_z = stopped JournalFull z in
-      let full_w = stopped JournalFull w in
-      subst (λ (o : Option ZoneError). AreSame (taking order (suc n) z none) (asked o taken_w full_w (none (suc n) w))) refusal
-      (same_asked (take_order_refusal z order) taken_z full_z (none (suc n) z) taken_w full_w (none (suc n) w)
-      (λ accepted. same_with_block (lowest_first z order) (lowest_first w order) on_z on_w first (on accepted))
+      rw (← refusal) (same_asked (take_order_refusal z order) _ _ _ _ _ _ (λ accepted. same_with_block _ _ _ _ first (on accepted))
       (same_stopped JournalFull JournalFull z w refl same) (agrees (suc n) z w rest_z rest_w same))
 
 -- what a reservation by hand does where no block is free, by the rounds that it may run
@@ -238,16 +170,9 @@ reserved_is order (suc rounds) n z = refl
 round_same : (order rounds left : ℕ) → Agrees (reserved_by_hand order rounds left) → Agrees (where_none order (suc rounds) left)
 round_same order rounds left on z w rest_z rest_w same =
     let hand = by_hand_same z w rest_z rest_w same in
-    let on_z = reserved_by_hand order rounds left (by_hand z) in
-    let on_w = reserved_by_hand order rounds left (by_hand w) in
-    let stop_z = idle_stop (stop_by_hand z) in
-    let stop_w = idle_stop (stop_by_hand w) in
-    let idle_z = stopped stop_z (by_hand z) in
-    let idle_w = stopped stop_w (by_hand w) in
-    same_with_round (if moves z then on_z else idle_z) (if moves w then on_w else idle_w)
-    (subst (λ (b : Bool). AreSame (if moves z then on_z else idle_z) (if b then on_w else idle_w)) (moves_same z w rest_z rest_w same)
-    (same_cond (moves z) on_z idle_z on_w idle_w (on (by_hand z) (by_hand w) (rest_by_hand z rest_z) (rest_by_hand w rest_w) hand)
-    (same_stopped stop_z stop_w (by_hand z) (by_hand w) (ap idle_stop (stop_same z w rest_z rest_w same)) hand)))
+    same_with_round _ _ (rw (← moves_same z w rest_z rest_w same)
+    (same_cond (moves z) _ _ _ _ (on (by_hand z) (by_hand w) (rest_by_hand z rest_z) (rest_by_hand w rest_w) hand)
+    (same_stopped _ _ (by_hand z) (by_hand w) (ap idle_stop (stop_same z w rest_z rest_w same)) hand)))
 
 module _ (order : ℕ) (low : 3 ≤ order) (high : order ≤ 9) where
   pub reserved_same : (rounds n : ℕ) → Agrees (reserved_by_hand order rounds n)

@@ -1,5 +1,5 @@
 -- A collector that has a zone alone stops as a reservation by hand does.
-use Rattle.std.proofs.Common.{◌≡◌, ℕ, suc, ◌+◌, ◌-◌, ◌<◌, ◌≤◌, false, List, [], ◌∷◌, ◌++◌, length, refl, sym, ap, subst, ◌∙◌, arith, Option, Some}
+use Rattle.std.proofs.Common.{◌≡◌, ℕ, suc, ◌+◌, ◌-◌, ◌<◌, ◌≤◌, false, List, length, refl, sym, ap, subst, ◌∙◌, append-nil, arith, Option, Some}
 use Rattle.std.specs.FinMap as map
 use Rattle.std.specs.Prelude.{Result, Err, IfErr}
 use Rattle.std.proofs.lemmas.Bool.{false_from_ne_true, false≢true}
@@ -35,25 +35,25 @@ valid_kept z law = record {
   valid = law;
 }
 
--- where memory or a thread was wanting for a round, the zone is as before
+-- where memory or a thread was wanting for a round, the seats weren't broken
+pub unbroken : (error : RoundError) (scan scan_new : ScanSeat) (ends ends_new : EndSeat) → IsRefusedEarly scan scan_new ends ends_new (Err error) → IsWant error → IsBroken scan ends → ⊥
+unbroken error scan scan_new ends ends_new early want broken = subst (λ (r : Result Round RoundError). IfErr r IsWant) (early.broken.1 broken).0 want
+
+-- and the zone is as before
 pub wanting : (error : RoundError) (now behind : ZoneState) (scan scan_new : ScanSeat) (ends ends_new : EndSeat)
     → IsRefusedEarly scan scan_new ends ends_new (Err error)
     → ((IsBroken scan ends → ⊥) → scan_new.rounds ≡ scan.rounds → IsSame now behind) → IsWant error → IsSame now behind
 wanting error now behind scan scan_new ends ends_new early unbegun want =
-    unbegun (λ broken. subst (λ (r : Result Round RoundError). IfErr r IsWant) (early.broken.1 broken).0 want) (early.want want)
+    unbegun (unbroken error scan scan_new ends ends_new early want) (early.want want)
 
 -- a collector that got these blocks in so many rounds stopped for this reason, and left this zone
 abbrev at_end : List (Option Huge) → ℕ → Stop → ZoneState → Reservation
 at_end got ran stop z = record { frames = frames_of got; rounds = ran; stop = stop; zone = z }
 
-none_more : {A : Type 0} (xs : List A) → xs ++ [] ≡ xs
-none_more [] = refl
-none_more (x ∷ xs) = ap (λ ys. x ∷ ys) (none_more xs)
-
 after_stopped : (got : List (Option Huge)) (ran : ℕ) (stop : Stop) (z : ZoneState)
     → after (frames_of got) ran (stopped stop z) ≡ at_end got ran stop z
 after_stopped got ran stop z =
-    let frames = none_more (frames_of got) in
+    let frames = append-nil (frames_of got) in
     let rounds : ran + 0 ≡ ran = omega arith in
     λ i. record { frames = frames i; rounds = rounds i; stop = stop; zone = z }
 
@@ -84,9 +84,7 @@ module _ (c : Collector) (n : ℕ) (start now : ZoneState) (got : ArrayVec (Opti
   told report behind zone left sum here same =
       let whole = reservation_for c n start report in
       let end = at_end report.got.items report.rounds (stop_for report.stop) behind in
-      let all : AreSame whole end =
-      subst (λ (k : ℕ). AreSame (reserved_by_hand c.order k n start) end) sum
-      (subst (AreSame (reserved_by_hand c.order (ran + left) n start)) here (was.same left)) in
+      let all : AreSame whole end = rw (here, sum) at (was.same left) in
       record {
         frames = sym all.frames;
         rounds = sym all.rounds;
@@ -143,7 +141,6 @@ module _ (c : Collector) (n : ℕ) (start now : ZoneState) (got : ArrayVec (Opti
           let here = ap (after fs ran) (where_idle c.order left wanted now (omega (arith, fewer)) refused idles)
           ∙ after_round fs ran (stopped (idle_stop by) hand) ∙ after_stopped got.items (ran + 1) (idle_stop by) hand
           ∙ ap (λ (s : Stop). at_end got.items (ran + 1) s hand) (sym none.1) in
-          subst (λ (s : Stop). IsReservedByHand c n start behind (record { got = got; rounds = ran + 1; stop = s }))
-          (sym (idle_stop_is at stop met full ∙ ap idle_stop at_is))
+          rw (idle_stop_is at stop met full ∙ ap idle_stop at_is)
           (told (record { got = got; rounds = ran + 1; stop = idle_stop by }) hand behind (suc left)
           (omega (arith, most, none.0)) here (λ fine. same))

@@ -1,17 +1,15 @@
-use Rattle.std.proofs.Common.{length, subst, IfErr, OnOk}
-use Rattle.huge_core.specs.Huge.{Huge, IsRead, IsRefusedWords}
+use Rattle.std.proofs.Common.{length}
 use Rattle.huge_core.proofs.Refused.{read, refused_words}
 use Rattle.huge_core.proofs.huge.Huge.read.Goals as goal
 
 pub returns-clause-refused : goal.returns-clause-refused
 returns-clause-refused g c =
-    subst (λ (huge : Huge). IfErr c.read_block.result (IsRefusedWords huge c.args.from (length c.args.values.now))) c.self.view_is
+    rw (← c.self.view_is)
     (refused_words c.behind-room.inside.zone _ c.args.from (length c.args.values.now) c.behind-room.invariant.0
     c.read_block.result c.read_block.ensures.refused)
 
 pub returns-clause-ok : goal.returns-clause-ok
 returns-clause-ok g c =
-    subst (λ (huge : Huge). OnOk c.read_block.result (IsRead huge c.args.from (length c.args.values.now) c.read_block.new.values))
-    c.self.view_is
+    rw (← c.self.view_is)
     (read c.behind-room.inside.zone _ c.args.from (length c.args.values.now) c.read_block.new.values c.behind-room.invariant.0
     c.read_block.result c.read_block.ensures.refused c.read_block.ensures.values)

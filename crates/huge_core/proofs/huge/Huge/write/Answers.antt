@@ -1,16 +1,15 @@
-use Rattle.std.proofs.Common.{length, subst, IfErr, OnOk}
-use Rattle.huge_core.specs.Huge.{Huge, IsWritten, IsRefusedWords}
+use Rattle.std.proofs.Common.{length}
 use Rattle.huge_core.proofs.Refused.{written, refused_words}
 use Rattle.huge_core.proofs.huge.Huge.write.Goals as goal
 
 pub returns-clause-refused : goal.returns-clause-refused
 returns-clause-refused g c =
-    subst (λ (huge : Huge). IfErr c.write_block.result (IsRefusedWords huge c.args.from (length c.args.values.now))) c.self.view_is
+    rw (← c.self.view_is)
     (refused_words c.behind-room.inside.zone _ c.args.from (length c.args.values.now) c.behind-room.invariant.0
     c.write_block.result c.write_block.ensures.refused)
 
 pub returns-clause-ok : goal.returns-clause-ok
 returns-clause-ok g c =
-    subst (λ (huge : Huge). OnOk c.write_block.result (IsWritten huge c.args.from c.args.values.now)) c.self.view_is
+    rw (← c.self.view_is)
     (written c.behind-room.inside.zone c.write_block.new.self _ c.args.from c.args.values.now c.write_block.ensures.valid
     c.write_block.result c.write_block.ensures.refused c.write_block.ensures.ok)
