@@ -1,5 +1,5 @@
 -- What the answer of a zone under its lock tells of the zone.
-use Rattle.std.proofs.Common.{◌≡◌, ℕ, List, [], ◌∷◌, ◌++◌, refl, sym, ap, subst, ◌∙◌, append_assoc, Option, None, Some}
+use Rattle.std.proofs.Common.{◌≡◌, ℕ, List, [], ◌∷◌, ◌++◌, refl, sym, ap, ◌∙◌, append_assoc, Option, None, Some}
 use Rattle.std.specs.Prelude.{Result, Ok, Err, IfOk, IfErr, OnOk}
 use Rattle.std.specs.Result.{result_err}
 use Rattle.hand_core.specs.Told.{Pair, Told, pair_of, written_if}
@@ -59,14 +59,9 @@ pair_written (Some slip) receipt = refl
 -- it holds one receipt more, or the same
 pub holds_more : (pair : Option Pair) (before : List Record) (slip slip_new : Option Told) (receipts receipts_new : List Record) (receipt : Record)
     → Holds pair before slip receipts → slip_new ≡ written_if receipt slip → receipts_new ≡ receipts ++ receipt ∷ [] → Holds pair before slip_new receipts_new
-holds_more pair before slip slip_new receipts receipts_new receipt holds is more = (
-  ap pair_of is ∙ pair_written slip receipt ∙ holds.0,
-  subst (AreSince before slip_new) (sym more) (subst (λ (s : Option Told). AreSince before s (receipts ++ receipt ∷ [])) (sym is) (since_more before slip receipts receipt holds.1)),
-)
+holds_more pair before slip slip_new receipts receipts_new receipt holds is more =
+    rw (is, more) (pair_written slip receipt ∙ holds.0, since_more before slip receipts receipt holds.1)
 
 pub holds_same : (pair : Option Pair) (before : List Record) (slip slip_new : Option Told) (receipts receipts_new : List Record)
     → Holds pair before slip receipts → slip_new ≡ slip → receipts_new ≡ receipts → Holds pair before slip_new receipts_new
-holds_same pair before slip slip_new receipts receipts_new holds is same = (
-  ap pair_of is ∙ holds.0,
-  subst (AreSince before slip_new) (sym same) (subst (λ (s : Option Told). AreSince before s receipts) (sym is) holds.1),
-)
+holds_same pair before slip slip_new receipts receipts_new holds is same = rw (is, same) holds

@@ -1,8 +1,9 @@
 -- Calls of a client, one after the other: those of a read or a write of several words, and what they leave.
-use Rattle.std.proofs.Common.{◌≡◌, ℕ, zero, suc, ◌+◌, ◌≤◌, Bool, true, false, not, if◌then◌else◌, List, [], ◌∷◌, ◌++◌, length, inl, inr, refl, sym, true≢false, ap, subst, ◌∙◌, append-nil, append_assoc, eq-eqb, Option, None, Some, arith}
+use Rattle.std.proofs.Common.{◌≡◌, ℕ, zero, suc, ◌+◌, ◌≤◌, Bool, true, false, not, if◌then◌else◌, List, [], ◌∷◌, ◌++◌, length, refl, sym, ap, subst, ◌∙◌, append-nil, append_assoc, eq-eqb, Option, None, Some, arith}
 use Rattle.std.specs.Prelude.{Result, Ok, Err, OnOk, is_some}
 use Rattle.std.specs.Result.{result_err}
-use Rattle.std.proofs.lemmas.Bool.Decides.{leb_tells}
+use Rattle.std.proofs.lemmas.Bool.{not-false}
+use Rattle.std.proofs.lemmas.Bool.Decides.{nat_tests}
 use Rattle.std.proofs.lemmas.List.FromFn.{length-map-range_with_len}
 use Rattle.frame_core.specs.declared.place.Address.{Address}
 use Rattle.frame_core.specs.declared.record.Record.{Record}
@@ -26,10 +27,6 @@ pub passes : (b : Bool) (first : ZoneError) (o : Option ZoneError) → (if b the
 passes false first o e = (refl, e)
 passes true first o e = cc
 
-unless : (b : Bool) → not b ≡ false → b ≡ true
-unless true e = refl
-unless false e = cc
-
 at_then : (o : Option Placement) → placement_refusal o ≡ None → (frame : ℕ) × (o ≡ Some (At frame))
 at_then None e = cc
 at_then (Some (At frame)) e = (frame, refl)
@@ -40,10 +37,8 @@ bulk_accepted : (z : ZoneState) (address : Address) (from count : ℕ) → bulk_
     → (length (out z.records) + count ≤ z.room) × ((frame : ℕ) × (placement_at z address ≡ Some (At frame)))
 bulk_accepted z address from count accepted =
     let room = passes (not (has_room_for z count)) _ _ (passes _ _ _ accepted).1 in
-    let spare : length (out z.records) + count ≤ z.room = elim (leb_tells (length (out z.records) + count) z.room) [
-      | inl within ↦ within.1
-      | inr past ↦ absurd (true≢false (sym (unless (has_room_for z count) room.0) ∙ past.0))
-    ] in
+    let fits : has_room_for z count ≡ true = not-false (has_room_for z count) room.0 in
+    let spare : length (out z.records) + count ≤ z.room = grind (arith, nat_tests) in
     (spare, at_then (placement_at z address) room.1)
 
 -- a read is the loads of its words
@@ -80,9 +75,7 @@ module _ (z z_new : ZoneState) (client : ℕ) (address : Address) (from count : 
       → OnOk result (AreCalls client (records_each (Load client address) from words) z z_new)
   read_calls law (Ok done) accepted values left =
       let known = bulk_accepted z address from count (sym accepted) in
-      subst (λ (w : ZoneState). AreCalls client (records_each (Load client address) from words) z w) (sym left)
-      (subst (λ (l : List ℕ). AreCalls client (records_each (Load client address) from l) z (loaded_all z client address from count)) (sym values)
-      (loads_are_calls z client address known.1.0 from count law known.0 known.1.1))
+      rw (left, values) (loads_are_calls z client address known.1.0 from count law known.0 known.1.1)
   read_calls law (Err error) accepted values left = tt
 
   pub read_count : (result : Result (Unit {0}) ZoneError) → OnOk result (words ≡ values_at z address from count) → OnOk result (length words ≡ count)
@@ -94,8 +87,7 @@ pub write_calls : (z z_new : ZoneState) (client : ℕ) (address : Address) (from
     → result_err result ≡ bulk_refusal z address from (length values) → OnOk result (z_new ≡ stored_all z client address from values)
     → OnOk result (AreCalls client (records_each (Store client address) from values) z z_new)
 write_calls z z_new client address from values law (Ok done) accepted left =
-    subst (λ (w : ZoneState). AreCalls client (records_each (Store client address) from values) z w) (sym left)
-    (stores_are_calls z client address from values law (bulk_accepted z address from (length values) (sym accepted)).0)
+    rw left (stores_are_calls z client address from values law (bulk_accepted z address from (length values) (sym accepted)).0)
 write_calls z z_new client address from values law (Err error) accepted left = tt
 
 -- what a lock keeps at each call, it keeps at all of them, and their records were told

@@ -1,27 +1,20 @@
 -- A client's call that a zone accepts adds one record to the journal, which is of the client.
-use Rattle.std.proofs.Common.{◌≡◌, ℕ, true, refl, sym, ap, ◌∙◌, true≢false, eq-eqb}
+use Rattle.std.proofs.Common.{◌≡◌, ℕ, true, refl, ap, ◌∙◌, eq-eqb}
 use Rattle.std.specs.Prelude.{IsTrue}
 use Rattle.state_core.specs.declared.call.ZoneAnswer.{ZoneAnswer}
 use Rattle.state_core.specs.declared.call.ZoneCall.{ZoneCall}
-use Rattle.state_core.specs.declared.call.ZoneCall.TheVariants.{Map, MapAt, Load, Store, Share, Unmap, Pin, Unpin, TakeOrder, GiveOrder, Mark, Unmark}
+use Rattle.state_core.specs.declared.call.ZoneCall.TheVariants.{TakeOrder, GiveOrder, Mark, Unmark}
 use Rattle.state_core.specs.Calls.{answer_of, after, is_of_client, record_of}
 use Rattle.state_core.specs.ZoneState.{ZoneState}
 use Rattle.state_core.proofs.Calls.{call_recorded}
 use Rattle.round_core.specs.Calls.{is_of, IsCall}
 
 pub own_record : {W : ℕ} (call : ZoneCall W) (client : ℕ) (answer : ZoneAnswer) → IsTrue (is_of_client call) → is_of client (record_of call client answer) ≡ true
-own_record (Map address unmovable) client answer own = eq-eqb client client refl
-own_record (MapAt address unmovable frame) client answer own = eq-eqb client client refl
-own_record (Load address word) client answer own = eq-eqb client client refl
-own_record (Store address word value) client answer own = eq-eqb client client refl
-own_record (Share address alias) client answer own = eq-eqb client client refl
-own_record (Unmap address) client answer own = eq-eqb client client refl
-own_record (Pin address) client answer own = eq-eqb client client refl
-own_record (Unpin address) client answer own = eq-eqb client client refl
-own_record (TakeOrder order) client answer own = absurd (true≢false (sym own))
-own_record (GiveOrder first order) client answer own = absurd (true≢false (sym own))
-own_record (Mark block) client answer own = absurd (true≢false (sym own))
-own_record (Unmark block) client answer own = absurd (true≢false (sym own))
+own_record (TakeOrder order) client answer own = cc
+own_record (GiveOrder first order) client answer own = cc
+own_record (Mark block) client answer own = cc
+own_record (Unmark block) client answer own = cc
+own_record _ client answer own = eq-eqb client client refl
 
 -- what a zone is after such a call
 abbrev pub noted_by : {W : ℕ} (call : ZoneCall W) (client : ℕ) (z z_new : ZoneState) → IsTrue (is_of_client call) → z_new ≡ after call client z → IsCall client z z_new

@@ -1,4 +1,4 @@
-use Rattle.std.proofs.Common.{◌≡◌, ap, ◌∙◌, sym, subst, rules}
+use Rattle.std.proofs.Common.{ap, ◌∙◌, sym, subst, rules}
 use Rattle.std.specs.Prelude.{IsTrue}
 use Rattle.hand_core.specs.Told.{pair_of}
 use Rattle.state_core.specs.declared.call.ZoneAnswer.{ZoneAnswer}

@@ -1,8 +1,6 @@
-use Rattle.std.proofs.Common.{◌≡◌, ℕ, length, subst, rules}
+use Rattle.std.proofs.Common.{◌≡◌, rules}
 use Rattle.frame_core.specs.declared.record.Record.TheVariants.{Store}
-use Rattle.state_core.specs.Bulk.{bulk_refusal, stored_all}
 use Rattle.client_core.specs.Bulk.{records_each}
-use Rattle.client_core.specs.Calls.{IsAccepted, leaving}
 use Rattle.client_core.proofs.ManyCalls.{holds_all}
 use Rattle.client_core.proofs.client.Client.write.Goals as goal
 
@@ -18,5 +16,4 @@ pub returns-clause-accepted : goal.returns-clause-accepted
 returns-clause-accepted g c =
     let is : c.self.inside.number ≡ c.args.self.now.number = search rules in
     let made = c.in_ok-all_once_there.ensures.accepted in
-    subst (λ (number : ℕ). IsAccepted (λ zone. bulk_refusal zone c.args.address c.args.from (length c.args.values.now)) (leaving (λ zone. stored_all zone number c.args.address c.args.from c.args.values.now)) tt) is
-    record { zone = made.zone; valid = made.valid; accepted = made.accepted; zone_new = made.zone_new; left = made.left }
+    rw (← is) record { zone = made.zone; valid = made.valid; accepted = made.accepted; zone_new = made.zone_new; left = made.left }
