@@ -1,12 +1,12 @@
 -- What a world carries stays its own when its zone changes.
 use Rattle.std.proofs.Common.{◌≡◌, ◌≢◌, ℕ, zero, suc, ◌+◌, ◌*◌, ◌<◌, Bool, true, false, cond, not, List, [], ◌∷◌, ◌++◌, length, ◌⊎◌, inl, inr, refl, sym, ap, subst, ◌∙◌, arith}
-use Rattle.std.specs.Prelude.{Option, Some, None, IsSome, is_none, Result, Ok, Err, IfOk, OnOk, OnErr, map as each, replicate, slice_get, slice_set, unwrap_or, nat_eq, nat_lt, is_some, if◌then◌else◌}
+use Rattle.std.specs.Prelude.{Option, Some, None, IsSome, Result, Ok, Err, IfOk, OnOk, OnErr, map as each, slice_get, slice_set, unwrap_or, nat_eq, nat_lt, is_some, if◌then◌else◌}
 use Rattle.std.specs.FinMap as map
 use Rattle.std.specs.List.{list_any}
 use Rattle.std.specs.Option.{option_or}
 use Rattle.std.proofs.lemmas.Bool.{eq-eqb, ltb-true, not-false, or_left, or_right}
 use Rattle.std.proofs.lemmas.Bool.Decides.{eqb_tells}
-use Rattle.std.proofs.lemmas.List.{length-set, map-set, length-map}
+use Rattle.std.proofs.lemmas.List.{length-set, length-map, map-append}
 use Rattle.std.proofs.lemmas.Option.{slice_get_within}
 use Rattle.frame_core.proofs.Lists.{slice_get_set_same, slice_get_set_other}
 use Rattle.frame_core.specs.declared.place.Address.{Address}
@@ -47,13 +47,6 @@ use Rattle.state_core.proofs.Facts.{not_none}
 use Rattle.machine_core.proofs.Orderly.{orderly_with_zone, orderly_round_opened, orderly_noted, orderly_isolated}
 
 -- Lists of what hands hold
-pub each_set : (held : List InHand) (i : ℕ) (x : InHand) → each hand_as (slice_set held i x) ≡ slice_set (each hand_as held) i (hand_as x)
-each_set held i x = map-set hand_as held i x
-
-pub set_twice : (held : List InHand) (i : ℕ) (x y : InHand) → slice_set (slice_set held i x) i y ≡ slice_set held i y
-set_twice [] i x y = refl
-set_twice (h ∷ held) zero x y = refl
-set_twice (h ∷ held) (suc i) x y = ap (λ (t : List InHand). h ∷ t) (set_twice held i x y)
 
 -- what contracts see of a hand is what the hand holds
 pub seen_at : (held : List InHand) (i : ℕ) → unwrap_or (slice_get (each hand_as held) i) hand.Empty ≡ hand_as (unwrap_or (slice_get held i) Nothing)
@@ -75,52 +68,13 @@ held_after held i j x y e = elim (eqb_tells j i) [
 ]
 
 pub is_page_held : (o : Option InHand) (p : IsolatedPage) → page_held (unwrap_or o Nothing) ≡ Some p → o ≡ Some (Page p)
-is_page_held None p e = cc
-is_page_held (Some Nothing) p e = cc
-is_page_held (Some (Page q)) p e = let same : q ≡ p = cc in ap (λ (x : IsolatedPage). Some (Page x)) same
-is_page_held (Some (Copy q)) p e = cc
+is_page_held o p e = grind arith
 
 pub is_copy_held : (o : Option InHand) (p : IsolatedPage) → copy_held (unwrap_or o Nothing) ≡ Some p → o ≡ Some (Copy p)
-is_copy_held None p e = cc
-is_copy_held (Some Nothing) p e = cc
-is_copy_held (Some (Page q)) p e = cc
-is_copy_held (Some (Copy q)) p e = let same : q ≡ p = cc in ap (λ (x : IsolatedPage). Some (Copy x)) same
-
-pub page_same : {p q : IsolatedPage} → ◌≡◌ {A = InHand} (Page p) (Page q) → p ≡ q
-page_same {p} {q} e = cc
-
-pub copy_same : {p q : IsolatedPage} → ◌≡◌ {A = InHand} (Copy p) (Copy q) → p ≡ q
-copy_same {p} {q} e = cc
-
-pub page_no_copy : {p q : IsolatedPage} → ◌≡◌ {A = InHand} (Page p) (Copy q) → ⊥
-page_no_copy {p} {q} e = cc
-
-pub copy_no_page : {p q : IsolatedPage} → ◌≡◌ {A = InHand} (Copy p) (Page q) → ⊥
-copy_no_page {p} {q} e = cc
-
-pub nothing_no_page : {q : IsolatedPage} → ◌≡◌ {A = InHand} Nothing (Page q) → ⊥
-nothing_no_page {q} e = cc
-
-pub nothing_no_copy : {q : IsolatedPage} → ◌≡◌ {A = InHand} Nothing (Copy q) → ⊥
-nothing_no_copy {q} e = cc
-
-pub true_not_false : (b : Bool) → b ≡ true → b ≡ false → ⊥
-true_not_false b t f = let bad : true ≡ false = sym t ∙ f in cc
-
-pub no_page : (n i : ℕ) (p : IsolatedPage) → slice_get {X = InHand} (replicate n Nothing) i ≡ Some (Page p) → ⊥
-no_page zero i p e = cc
-no_page (suc n) zero p e = cc
-no_page (suc n) (suc i) p e = no_page n i p e
-
-pub no_copy : (n i : ℕ) (p : IsolatedPage) → slice_get {X = InHand} (replicate n Nothing) i ≡ Some (Copy p) → ⊥
-no_copy zero i p e = cc
-no_copy (suc n) zero p e = cc
-no_copy (suc n) (suc i) p e = no_copy n i p e
+is_copy_held o p e = grind arith
 
 pub nothing_is : (h : InHand) → is_nothing h ≡ true → h ≡ Nothing
-nothing_is Nothing e = refl
-nothing_is (Page p) e = cc
-nothing_is (Copy p) e = cc
+nothing_is h e = grind arith
 
 pub waits_at : (list : List IsolatedPage) (i : ℕ) (p : IsolatedPage) → slice_get list i ≡ Some p → list_any (nat_eq p.serial) (serials_of list) ≡ true
 waits_at [] i p e = cc
@@ -150,10 +104,6 @@ carried_opened zone scan ends is_open list held capacity was closed =
       orderly : IsOrderly (world_of (round_begun zone) (seat_begun scan) ends true list held)
       orderly = subst (λ (b : Bool). IsOrderly (record { zone = if b then zone else round_begun zone; scan = if b then scan else seat_begun scan; ends = ends; is_open = true; waiting = serials_of list; hands = each hand_as held })) closed
           (orderly_round_opened (world_of zone scan ends is_open list held) was.orderly)
-
-serials_more : (list : List IsolatedPage) (p : IsolatedPage) → serials_of (list ++ p ∷ []) ≡ serials_of list ++ p.serial ∷ []
-serials_more [] p = refl
-serials_more (q ∷ list) p = ap (λ (t : List ℕ). q.serial ∷ t) (serials_more list p)
 
 one_more : (list : List IsolatedPage) (p : IsolatedPage) (i : ℕ) (q : IsolatedPage) → slice_get (list ++ p ∷ []) i ≡ Some q → (slice_get list i ≡ Some q) ⊎ (p ≡ q)
 one_more [] p zero q e = inr cc
@@ -194,7 +144,7 @@ module _ (zone next : ZoneState) (scan : ScanSeat) (ends : EndSeat) (is_open : B
   world_is =
       ap (isolated_by scanning) take.is
       ∙ (λ i. record { zone = sym take.state i; scan = seat_counted; ends = ends; is_open = is_open; waiting = serials_of list ++ sym (ap (λ (q : IsolatedPage). q.serial) take.page) i ∷ []; hands = each hand_as held })
-      ∙ ap (λ (waiting : List ℕ). record { zone = next; scan = seat_counted; ends = ends; is_open = is_open; waiting = waiting; hands = each hand_as held }) (sym (serials_more list p))
+      ∙ ap (λ (waiting : List ℕ). record { zone = next; scan = seat_counted; ends = ends; is_open = is_open; waiting = waiting; hands = each hand_as held }) (sym (map-append (λ (q : IsolatedPage). q.serial) list (p ∷ [])))
 
   own_then : (q : IsolatedPage) → IsOwnCopy zone q → IsOwnCopy next q
   own_then q own = subst (λ (v : ZoneState). IsOwnCopy v q) (sym take.state) (own_isolated zone take.pair scans.source at_source q own)
@@ -227,8 +177,7 @@ module _ (zone next : ZoneState) (scan : ScanSeat) (ends : EndSeat) (is_open : B
 -- Calls of the zone that leave moving pages as they are.
 -- a call that isn't refused passed each test
 passed : (b : Bool) (error : ZoneError) (o : Option ZoneError) → cond b (Some error) o ≡ None → (b ≡ false) × (o ≡ None)
-passed true error o e = cc
-passed false error o e = (refl, e)
+passed b error o e = (grind arith, grind arith)
 
 at_then : (o : Option Placement) → placement_refusal o ≡ None → (frame : ℕ) × (o ≡ Some (At frame))
 at_then None e = cc
@@ -236,12 +185,7 @@ at_then (Some (At frame)) e = (frame, refl)
 at_then (Some (Moving serial source target)) e = cc
 
 option_or_none : {A : Type 0} (o other : Option A) → option_or o other ≡ None → o ≡ None
-option_or_none None other e = refl
-option_or_none (Some x) other e = cc
-
-some_if : (o : Option ℕ) → is_none o ≡ false → IsSome o
-some_if None e = cc
-some_if (Some n) e = not_none (Some n) n refl
+option_or_none o other e = grind arith
 
 -- a page that an accepted access finds is in a frame
 pub accessed_at : (z : ZoneState) (address : Address) → access_refusal z address ≡ None → (frame : ℕ) × (placement_at z address ≡ Some (At frame))
@@ -249,11 +193,7 @@ accessed_at z address accepted = let room = passed (not (has_room z)) JournalFul
 
 -- an accepted map finds a free frame
 pub frame_left : (z : ZoneState) (address : Address) → map_refusal z address ≡ None → IsSome (lowest_free_frame z)
-frame_left z address accepted =
-    let room = passed (not (has_room z)) JournalFull _ accepted in
-    let vacant = passed (is_some (page_at z.records address)) Occupied _ room.1 in
-    let some = passed (is_none (lowest_free_frame z)) NoFrame _ vacant.1 in
-    some_if _ some.0
+frame_left z address accepted = grind arith
 
 pub frame_left_at : (z : ZoneState) (address : Address) (frame : ℕ) → map_at_refusal z address frame ≡ None → IsSome (lowest_free_frame z)
 frame_left_at z address frame accepted =
@@ -278,17 +218,7 @@ by_last P false gone kept last more = more
 pub call_leaves : {W : ℕ} (call : ZoneCall W) (client : ℕ) (z : ZoneState) → LeavesMoves z (after call client z)
 call_leaves (Unmap address) client z =
     by_last (LeavesMoves z) (is_last z address) _ _ (record { same_out = refl; migrate = refl; free = refl; blocks = refl }) (record { same_out = refl; migrate = refl; free = refl; blocks = refl })
-call_leaves (Map address unmovable) client z = record { same_out = refl; migrate = refl; free = refl; blocks = refl }
-call_leaves (MapAt address unmovable frame) client z = record { same_out = refl; migrate = refl; free = refl; blocks = refl }
-call_leaves (Load address word) client z = record { same_out = refl; migrate = refl; free = refl; blocks = refl }
-call_leaves (Store address word value) client z = record { same_out = refl; migrate = refl; free = refl; blocks = refl }
-call_leaves (Share address alias) client z = record { same_out = refl; migrate = refl; free = refl; blocks = refl }
-call_leaves (Pin address) client z = record { same_out = refl; migrate = refl; free = refl; blocks = refl }
-call_leaves (Unpin address) client z = record { same_out = refl; migrate = refl; free = refl; blocks = refl }
-call_leaves (TakeOrder order) client z = record { same_out = refl; migrate = refl; free = refl; blocks = refl }
-call_leaves (GiveOrder first order) client z = record { same_out = refl; migrate = refl; free = refl; blocks = refl }
-call_leaves (Mark block) client z = record { same_out = refl; migrate = refl; free = refl; blocks = refl }
-call_leaves (Unmark block) client z = record { same_out = refl; migrate = refl; free = refl; blocks = refl }
+call_leaves _ client z = record { same_out = refl; migrate = refl; free = refl; blocks = refl }
 
 -- a copy of a moving page stays the zone's own
 own_mapped : (z : ZoneState) (client : ℕ) (address : Address) (unmovable : Bool) (frame : ℕ) → IsValidZone z → IsSome (lowest_free_frame z) → (p : IsolatedPage) → IsOwnCopy z p → IsOwnCopy (mapped z client address unmovable frame) p

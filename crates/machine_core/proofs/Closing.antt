@@ -1,8 +1,8 @@
 -- A round that is closed, and a world that is split and joined.
-use Rattle.std.proofs.Common.{◌≡◌, ◌≢◌, ℕ, zero, suc, ◌+◌, ◌-◌, ◌*◌, ◌/◌, ◌<◌, ◌≤◌, Bool, true, false, not, List, [], ◌∷◌, length, refl, sym, ap, subst, ◌∙◌, arith}
+use Rattle.std.proofs.Common.{◌≡◌, ◌≢◌, ℕ, zero, suc, ◌+◌, ◌*◌, ◌/◌, ◌<◌, ◌≤◌, Bool, true, false, not, List, [], ◌∷◌, length, refl, sym, ap, subst, ◌∙◌, arith}
 use Rattle.std.specs.Prelude.{Option, Some, None, map as each, replicate, slice_get, unwrap_or, nat_eq, nat_lt, if◌then◌else◌}
-use Rattle.std.specs.List.{list_any, list_all}
-use Rattle.std.proofs.lemmas.Bool.{and_parts, eqb-true, ltb-false, or_left}
+use Rattle.std.specs.List.{list_all}
+use Rattle.std.proofs.lemmas.Bool.{and_parts, both_ways, eqb-true, ltb-false}
 use Rattle.std.proofs.lemmas.List.{length-map}
 use Rattle.frame_core.specs.declared.record.Cause.TheVariants.{NotCopied}
 use Rattle.frame_core.specs.Moves.{out, is_out, page_of}
@@ -16,61 +16,43 @@ use Rattle.machine_core.specs.Carried.{InHand, hand_as, is_nothing, AreOwn, worl
 use Rattle.state_core.specs.Valid.{IsValidZone}
 use Rattle.state_core.specs.Ending.{IsOwnCopy, put_back_to_source}
 use Rattle.zone_core.specs.Seats.{ScanSeat, EndSeat, audit_refusal}
-use Rattle.machine_core.specs.World.{WorldState, IsOrderly, IsRising, world_closed, hand_of, serial_in, is_empty, all_put_back, shut, shut_step}
+use Rattle.machine_core.specs.World.{WorldState, IsOrderly, IsRising, is_empty, all_put_back, shut, shut_step}
 use Rattle.state_core.specs.ZoneState.{ZoneState}
 use Rattle.state_core.proofs.Carried.{own_put_back}
 use Rattle.state_core.proofs.Facts.{taken, skipped}
 use Rattle.machine_core.proofs.MovesEnded.{orderly_shut}
-use Rattle.machine_core.proofs.Carrying.{nothing_no_page, nothing_no_copy, true_not_false, no_page, no_copy, nothing_is, waits_at}
+use Rattle.machine_core.proofs.Carrying.{nothing_is, waits_at}
+use Rattle.machine_core.proofs.Orderly.{none_waits, orderly_at_rest}
+use Rattle.machine_core.proofs.Standing.{waits_out}
 
 -- A closed round
-empty_hands : (n i : ℕ) → unwrap_or (slice_get (replicate n hand.Empty) i) hand.Empty ≡ hand.Empty
-empty_hands zero i = refl
-empty_hands (suc n) zero = refl
-empty_hands (suc n) (suc i) = empty_hands n i
+all_empty : (held : List InHand) → list_all is_nothing held ≡ true → (i : ℕ) (h : InHand) → slice_get held i ≡ Some h → h ≡ Nothing
+all_empty [] e i h is = cc
+all_empty (x ∷ held) e zero h is = let same : x ≡ h = cc in sym same ∙ nothing_is x (and_parts (is_nothing x) _ e).0
+all_empty (x ∷ held) e (suc i) h is = all_empty held (and_parts (is_nothing x) _ e).1 i h is
+
+-- a world that carries no page
+carried_none : (zone : ZoneState) (scan : ScanSeat) (ends : EndSeat) (held : List InHand) (capacity : ℕ) → IsOrderly (world_of zone scan ends false [] held) → list_all is_nothing held ≡ true → capacity ≡ 256 * zone.blocks → IsCarried zone scan ends false [] held capacity
+carried_none zone scan ends held capacity orderly empty room = record {
+  orderly = orderly;
+  waiting = λ i p e. cc;
+  pages = λ i p e. let none = all_empty held empty i (Page p) e in cc;
+  copies = λ i p e. let none = all_empty held empty i (Copy p) e in cc;
+  room = room;
+}
 
 module _ (zone : ZoneState) (scan : ScanSeat) (ends : EndSeat) (law : IsValidZone zone) (whole : ends.parts ≡ 64) (none : (serial : ℕ) → is_out zone.records serial ≡ false) where
-  empty_hand : (k serial : ℕ) → serial_in (hand_of (world_closed zone scan ends) k) ≡ Some serial → ⊥
-  empty_hand k serial e =
-      let bad : None ≡ Some serial = ap serial_in (sym (empty_hands 4 (k - 1))) ∙ e in
-      cc
-
-  orderly_closed : IsOrderly (world_closed zone scan ends)
-  orderly_closed = record {
-    valid = law;
-    whole = whole;
-    four = refl;
-    rising = tt;
-    out = λ serial. (λ t. absurd (true_not_false _ t (none serial)), λ t. absurd (true_not_false _ t refl));
-    one_hand = λ j k serial a b low_j low_k. absurd (empty_hand j serial a);
-    one_place = λ k serial low e. absurd (empty_hand k serial e);
-    closed = λ e. none;
-    few = (omega (arith, law.fingers.ordered.0), omega (arith, law.fingers.ordered.1));
-  }
-
   pub carried_closed : (capacity : ℕ) → capacity ≡ 256 * zone.blocks → IsCarried zone scan ends false [] (Nothing ∷ Nothing ∷ Nothing ∷ Nothing ∷ []) capacity
-  carried_closed capacity room = record {
-    orderly = orderly_closed;
-    waiting = λ i p e. cc;
-    pages = λ i p e. absurd (no_page 4 i p e);
-    copies = λ i p e. absurd (no_copy 4 i p e);
-    room = room;
-  }
+  carried_closed capacity room = carried_none zone scan ends _ capacity (orderly_at_rest zone scan ends (replicate 4 hand.Empty) law whole refl refl none) refl room
 
 -- no page waits where no round is open
-no_list : (list : List IsolatedPage) → ((serial : ℕ) → list_any (nat_eq serial) (serials_of list) ≡ false) → list ≡ []
+no_list : (list : List IsolatedPage) → length (serials_of list) ≡ 0 → list ≡ []
 no_list [] none = refl
-no_list (p ∷ list) none =
-    let bad : true ≡ false = sym (waits_at (p ∷ list) zero p refl) ∙ none p.serial in
-    cc
+no_list (p ∷ list) none = absurd (omega arith)
 
 pub closed_waits : (zone : ZoneState) (scan : ScanSeat) (ends : EndSeat) (is_open : Bool) (list : List IsolatedPage) (held : List InHand) → IsOrderly (world_of zone scan ends is_open list held) → is_open ≡ false → list ≡ []
-closed_waits zone scan ends is_open list held orderly closed = no_list list (λ serial. not_waiting_then serial (list_any (nat_eq serial) (serials_of list)) refl) where
-  not_waiting_then : (serial : ℕ) (b : Bool) → list_any (nat_eq serial) (serials_of list) ≡ b → b ≡ false
-  not_waiting_then serial false e = refl
-  not_waiting_then serial true e =
-      let bad : true ≡ false = sym ((orderly.out serial).1 (or_left _ _ e)) ∙ orderly.closed closed serial in
-      cc
+closed_waits zone scan ends is_open list held orderly closed =
+    no_list list (none_waits (serials_of list) (λ serial there. both_ways _ (orderly.closed closed serial) (waits_out (world_of zone scan ends is_open list held) orderly serial there)))
 
 -- Closing a round
 pub record IsClosing (zone : ZoneState) (list : List IsolatedPage) (count : ℕ) (first : ZoneState) (all : List IsolatedPage) : Type 0 where
@@ -103,11 +85,6 @@ closing_next zone p list count first all was page = record {
 
   rises : (i : ℕ) (q : IsolatedPage) → slice_get list i ≡ Some q → p.serial ≢ q.serial
   rises i q e same = let less : p.serial < q.serial = was.rising.0 q.serial (waits_at list i q e) in absurd (omega arith)
-
-all_empty : (held : List InHand) → list_all is_nothing held ≡ true → (i : ℕ) (h : InHand) → slice_get held i ≡ Some h → h ≡ Nothing
-all_empty [] e i h is = cc
-all_empty (x ∷ held) e zero h is = let same : x ≡ h = cc in sym same ∙ nothing_is x (and_parts (is_nothing x) _ e).0
-all_empty (x ∷ held) e (suc i) h is = all_empty held (and_parts (is_nothing x) _ e).1 i h is
 
 empty_seen : (held : List InHand) → list_all is_empty (each hand_as held) ≡ list_all is_nothing held
 empty_seen [] = refl
@@ -142,19 +119,11 @@ module _ (zone next : ZoneState) (scan : ScanSeat) (ends : EndSeat) (is_open : B
         number = length-map list (λ (p : IsolatedPage). p.serial) ∙ sym counted
 
   pub carried_shut : IsCarried next scan ends_shut false [] held capacity
-  carried_shut = record {
-    orderly = orderly_shut open_world count (world_of next scan ends_shut false [] held) was.orderly step_shut;
-    waiting = λ i p e. cc;
-    pages = λ i p e. absurd (nothing_no_page (sym (all_empty held empty i (Page p) e)));
-    copies = λ i p e. absurd (nothing_no_copy (sym (all_empty held empty i (Copy p) e)));
-    room = was.room ∙ ap (λ n. 256 * n) (sym blocks);
-  }
+  carried_shut = carried_none next scan ends_shut held capacity (orderly_shut open_world count (world_of next scan ends_shut false [] held) was.orderly step_shut) empty (was.room ∙ ap (λ n. 256 * n) (sym blocks))
 
 -- A world that is joined
 audit_then : (a b : Bool) → (if not a then Some Missing else if b then Some Out else None) ≡ None → (a ≡ true) × (b ≡ false)
-audit_then false b e = cc
-audit_then true true e = cc
-audit_then true false e = (refl, refl)
+audit_then a b e = (grind arith, grind arith)
 
 pub carried_joined : (zone : ZoneState) (scan : ScanSeat) (ends : EndSeat) (list : List IsolatedPage) (held : List InHand) (capacity : ℕ) → IsValidZone zone → audit_refusal zone ends ≡ None → IsRest list capacity → capacity / 256 ≡ zone.blocks → held ≡ Nothing ∷ Nothing ∷ Nothing ∷ Nothing ∷ [] → IsCarried zone scan ends false list held capacity
 carried_joined zone scan ends list held capacity law audit rest blocks empty =

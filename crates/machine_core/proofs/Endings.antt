@@ -7,9 +7,9 @@ use Rattle.text_core.specs.declared.fault.Fault.{Fault}
 use Rattle.text_core.specs.declared.fault.Fault.TheVariants.{Syntax, LongLine, Read, Write, Memory}
 use Rattle.text_core.specs.declared.fault.RunError.{RunError}
 use Rattle.text_core.specs.declared.totals.Totals.{Totals}
-use Rattle.machine_core.specs.Ends.{EndsIn, FailsAfter, LacksMemory, is_of_script, is_over}
-use Rattle.text_core.specs.Script.{StopsIn, fault_of}
-use Rattle.machine_core.specs.Replies.{answers_of, output_of}
+use Rattle.machine_core.specs.Ends.{EndsIn, is_of_script, is_over}
+use Rattle.text_core.specs.Script.{fault_of}
+use Rattle.machine_core.specs.Replies.{output_of}
 use Rattle.text_core.proofs.Variants.{known_weaker}
 
 module _ (places : ℕ) (left left_new old new : Option (List ℕ)) where
@@ -30,19 +30,7 @@ module _ (places : ℕ) (left left_new old new : Option (List ℕ)) where
   over_written (Err e) ok err is = known_weaker left (λ input. EndsIn e.fault places input e left left_new old new) (λ input. Appends old new (output_of places input)) (λ input known end. (fault_says e.fault input e is end).1) err
 
   -- what is said of a fault holds of the fault that ended the run
-  at_fault : (f : Fault) (P : List ℕ → RunError → Type 0) → ((input : List ℕ) (e : RunError) → EndsIn f places input e left left_new old new → P input e) → (r : Result Totals RunError)
+  pub at_fault : (f : Fault) (P : List ℕ → RunError → Type 0) → ((input : List ℕ) (e : RunError) → EndsIn f places input e left left_new old new → P input e) → (r : Result Totals RunError)
       → IfErr r (λ e. IfSome left (λ input. EndsIn e.fault places input e left left_new old new)) → IfErr r (λ e. e.fault ≡ f → IfSome left (λ input. P input e))
   at_fault f P says r h = MatchResult-weaker r h (λ _ u. u) (λ e ends is. known_weaker left (λ input. EndsIn e.fault places input e left left_new old new) (λ input. P input e)
       (λ input known end. says input e (let E : Fault → Type 0 = λ f. EndsIn f places input e left left_new old new in subst E is end)) ends)
-
-  pub read_failed : (r : Result Totals RunError) → IfErr r (λ e. IfSome left (λ input. EndsIn e.fault places input e left left_new old new))
-      → IfErr r (λ e. e.fault ≡ Read → IfSome left (λ input. FailsAfter places left left_new old new e.line))
-  read_failed r h = at_fault Read (λ input e. FailsAfter places left left_new old new e.line) (λ input e end. end) r h
-
-  pub write_failed : (r : Result Totals RunError) → IfErr r (λ e. IfSome left (λ input. EndsIn e.fault places input e left left_new old new))
-      → IfErr r (λ e. e.fault ≡ Write → IfSome left (λ input. StopsIn (answers_of places input) old new e.line))
-  write_failed r h = at_fault Write (λ input e. StopsIn (answers_of places input) old new e.line) (λ input e end. end) r h
-
-  pub memory_failed : (r : Result Totals RunError) → IfErr r (λ e. IfSome left (λ input. EndsIn e.fault places input e left left_new old new))
-      → IfErr r (λ e. e.fault ≡ Memory → IfSome left (λ input. LacksMemory places input old new e.line))
-  memory_failed r h = at_fault Memory (λ input e. LacksMemory places input old new e.line) (λ input e end. end) r h

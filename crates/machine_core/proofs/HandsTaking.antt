@@ -117,9 +117,7 @@ least_taken w k serial after low high o e =
     first_least w k serial t.0 low high o t.1 t.2
 
 page_serial : (serial : ℕ) (hand : Hand) → page_in hand ≡ Some serial → serial_in hand ≡ Some serial
-page_serial serial Empty e = cc
-page_serial serial (Page s) e = e
-page_serial serial (Copy s) e = cc
+page_serial serial hand e = grind arith
 
 -- hand k copies its page
 module _ (w : WorldState) (k serial : ℕ) (low : 0 < k) (high : k ≤ 4) (o : IsOrderly w) (page : page_in (hand_of w k) ≡ Some serial) where

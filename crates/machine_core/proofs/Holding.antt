@@ -3,6 +3,7 @@ use Rattle.std.proofs.Common.{◌≡◌, ◌≢◌, ℕ, zero, suc, ◌+◌, ◌
 use Rattle.std.specs.Prelude.{Option, Some, map as each, slice_get, slice_set, unwrap_or, nat_eq, if◌then◌else◌}
 use Rattle.std.specs.List.{list_any}
 use Rattle.std.specs.Option.{option_and_then}
+use Rattle.std.proofs.lemmas.List.{map-set}
 use Rattle.frame_core.specs.declared.record.Cause.TheVariants.{Pinned}
 use Rattle.frame_core.specs.History.{pins}
 use Rattle.frame_core.specs.Page.{IsolatedPage}
@@ -18,7 +19,7 @@ use Rattle.state_core.specs.ZoneState.{ZoneState}
 use Rattle.state_core.proofs.Carried.{own_page, own_committed}
 use Rattle.machine_core.proofs.HandsTaking.{orderly_taken, orderly_copied}
 use Rattle.machine_core.proofs.MovesEnded.{orderly_finished}
-use Rattle.machine_core.proofs.Carrying.{each_set, seen_at, seen_some, held_after, is_page_held, is_copy_held, page_same, copy_same, page_no_copy, copy_no_page, nothing_no_page, nothing_no_copy, nothing_is, waits_at}
+use Rattle.machine_core.proofs.Carrying.{seen_at, seen_some, held_after, is_page_held, is_copy_held, nothing_is, waits_at}
 
 -- Taking, copying and finishing
 module _ (zone : ZoneState) (scan : ScanSeat) (ends : EndSeat) (is_open : Bool) (p : IsolatedPage) (list : List IsolatedPage) (held : List InHand) (k capacity : ℕ) (low : 0 < k) (high : k ≤ 4) (nothing : is_nothing (held_at held k) ≡ true) (was : IsCarried zone scan ends is_open (p ∷ list) held capacity) where
@@ -34,18 +35,18 @@ module _ (zone : ZoneState) (scan : ScanSeat) (ends : EndSeat) (is_open : Bool) 
   pub step_taken : take_step before k ≡ Some (p.serial, world_of zone scan ends is_open list hands_taken)
   step_taken =
       ap (λ (h : Hand). taken_by before k h (p.serial ∷ serials_of list)) hand_empty
-      ∙ ap (λ (hs : List Hand). Some (p.serial, record { zone = zone; scan = scan; ends = ends; is_open = is_open; waiting = serials_of list; hands = hs })) (sym (each_set held (k - 1) (Page p)))
+      ∙ ap (λ (hs : List Hand). Some (p.serial, record { zone = zone; scan = scan; ends = ends; is_open = is_open; waiting = serials_of list; hands = hs })) (sym (map-set hand_as held (k - 1) (Page p)))
 
   pub carried_taken : IsCarried zone scan ends is_open list hands_taken capacity
   carried_taken = record {
     orderly = orderly_taken before k p.serial (world_of zone scan ends is_open list hands_taken) low high was.orderly step_taken;
     waiting = λ i q e. was.waiting (suc i) q e;
     pages = λ i q e. elim (held_after held (k - 1) i (Page p) (Page q) e) [
-      | inl here ↦ subst (IsOwnCopy zone) (page_same here.1) (was.waiting zero p refl)
+      | inl here ↦ (let same : p ≡ q = cc in subst (IsOwnCopy zone) same (was.waiting zero p refl))
       | inr there ↦ was.pages i q there.1
     ];
     copies = λ i q e. elim (held_after held (k - 1) i (Page p) (Copy q) e) [
-      | inl here ↦ absurd (page_no_copy here.1)
+      | inl here ↦ cc
       | inr there ↦ was.copies i q there.1
     ];
     room = was.room;
@@ -64,18 +65,18 @@ module _ (zone : ZoneState) (scan : ScanSeat) (ends : EndSeat) (is_open : Bool) 
   pub step_copied : copy_step uncopied k ≡ Some (world_of zone scan ends is_open list hands_copied)
   step_copied =
       ap (λ (h : Hand). option_and_then (λ serial. Some (with_hand uncopied k (hand.Copy serial))) (page_in h)) (seen_some held (k - 1) (Page p) page_at_hand)
-      ∙ ap (λ (hs : List Hand). Some (record { zone = zone; scan = scan; ends = ends; is_open = is_open; waiting = serials_of list; hands = hs })) (sym (each_set held (k - 1) (Copy p)))
+      ∙ ap (λ (hs : List Hand). Some (record { zone = zone; scan = scan; ends = ends; is_open = is_open; waiting = serials_of list; hands = hs })) (sym (map-set hand_as held (k - 1) (Copy p)))
 
   pub carried_copied : IsCarried zone scan ends is_open list hands_copied capacity
   carried_copied = record {
     orderly = orderly_copied uncopied k (world_of zone scan ends is_open list hands_copied) low high was.orderly step_copied;
     waiting = was.waiting;
     pages = λ i q e. elim (held_after held (k - 1) i (Copy p) (Page q) e) [
-      | inl here ↦ absurd (copy_no_page here.1)
+      | inl here ↦ cc
       | inr there ↦ was.pages i q there.1
     ];
     copies = λ i q e. elim (held_after held (k - 1) i (Copy p) (Copy q) e) [
-      | inl here ↦ subst (IsOwnCopy zone) (copy_same here.1) (was.pages (k - 1) p page_at_hand)
+      | inl here ↦ (let same : p ≡ q = cc in subst (IsOwnCopy zone) same (was.pages (k - 1) p page_at_hand))
       | inr there ↦ was.copies i q there.1
     ];
     room = was.room;
@@ -106,7 +107,7 @@ module _ (zone : ZoneState) (scan : ScanSeat) (ends : EndSeat) (is_open : Bool) 
   pub step_finished : finish_step unfinished k ≡ Some (finished_as zone p.serial, world_of zone_finished scan ends_finished is_open list hands_finished)
   step_finished =
       ap (λ (h : Hand). option_and_then (λ serial. Some (finished_as zone serial, finished_by unfinished k serial)) (copy_in h)) hand_copy
-      ∙ ap (λ (hs : List Hand). Some (finished_as zone p.serial, record { zone = zone_finished; scan = scan; ends = ends_finished; is_open = is_open; waiting = serials_of list; hands = hs })) (sym (each_set held (k - 1) Nothing))
+      ∙ ap (λ (hs : List Hand). Some (finished_as zone p.serial, record { zone = zone_finished; scan = scan; ends = ends_finished; is_open = is_open; waiting = serials_of list; hands = hs })) (sym (map-set hand_as held (k - 1) Nothing))
 
   finished_is : zone_finished ≡ committed zone p.serial p.page.number
   finished_is = ap (λ (o : Option ℕ). committed zone p.serial (unwrap_or o 0)) (own_page zone was.orderly.valid p own_in_hand.own)
@@ -142,11 +143,11 @@ module _ (zone : ZoneState) (scan : ScanSeat) (ends : EndSeat) (is_open : Bool) 
     orderly = orderly_finished unfinished k (finished_as zone p.serial) (world_of zone_finished scan ends_finished is_open list hands_finished) low high was.orderly step_finished;
     waiting = λ i q e. own_stays q (not_waiting i q e) (was.waiting i q e);
     pages = λ i q e. elim (held_after held (k - 1) i Nothing (Page q) e) [
-      | inl here ↦ absurd (nothing_no_page here.1)
+      | inl here ↦ cc
       | inr there ↦ own_stays q (in_other_hand i (Page q) q there.0 there.1 refl) (was.pages i q there.1)
     ];
     copies = λ i q e. elim (held_after held (k - 1) i Nothing (Copy q) e) [
-      | inl here ↦ absurd (nothing_no_copy here.1)
+      | inl here ↦ cc
       | inr there ↦ own_stays q (in_other_hand i (Copy q) q there.0 there.1 refl) (was.copies i q there.1)
     ];
     room = was.room ∙ ap (λ n. 256 * n) (sym blocks_same);

@@ -15,19 +15,19 @@ use Rattle.frame_core.specs.declared.record.Record.TheVariants.{Isolate, Moved, 
 use Rattle.frame_core.specs.History.{pins}
 use Rattle.frame_core.specs.Moves.{out, is_out, page_of}
 use Rattle.machine_core.specs.declared.hand.Hand.{Hand}
-use Rattle.machine_core.specs.declared.hand.Hand.TheVariants.{Empty, Page, Copy}
+use Rattle.machine_core.specs.declared.hand.Hand.TheVariants.{Empty}
 use Rattle.machine_core.specs.declared.hand.Finished.{Finished}
 use Rattle.state_core.specs.declared.moves.Ended.{Ended}
-use Rattle.state_core.specs.declared.moves.Ended.TheVariants as ended
 use Rattle.state_core.specs.declared.placement.Placement.{Placement}
 use Rattle.state_core.specs.declared.placement.Placement.TheVariants.{At, Moving}
 use Rattle.state_core.specs.Valid.{IsValidZone, is_under}
 use Rattle.state_core.specs.Ending.{moved_to_target, put_back_to_source}
 use Rattle.machine_core.specs.World.{WorldState, IsOrderly, IsRising, with_hand, hand_of, waits, is_empty, serial_in, copy_in, finished_as, finished_in, finished_by, finish_step, all_put_back, shut, shut_step}
 use Rattle.zone_core.specs.Seats.{EndSeat, seat_ended}
-use Rattle.state_core.specs.ZoneState.{ZoneState, frame_count}
+use Rattle.state_core.specs.ZoneState.{ZoneState}
 use Rattle.state_core.proofs.Settled.{valid_moved, valid_put_back}
-use Rattle.machine_core.proofs.Standing.{held, holds, holds_at, Stands, stands, stands_so, set_cases, stands_out, waits_out, in_hand_out}
+use Rattle.machine_core.proofs.Orderly.{orderly_at_rest}
+use Rattle.machine_core.proofs.Standing.{held, holds_at, none_held, Stands, stands, stands_so, set_cases, stands_out, waits_out, in_hand_out}
 
 -- a serial that is out has the page that was isolated under it
 out_page : (records : List Record) (s : ℕ) → is_out records s ≡ true → (page : ℕ) × (page_of records s ≡ Some page)
@@ -92,9 +92,7 @@ finished_ended z law serial e = by_pins (nat_eq (pins z.records (page_under z se
       }
 
 copy_serial : (serial : ℕ) (hand : Hand) → copy_in hand ≡ Some serial → serial_in hand ≡ Some serial
-copy_serial serial Empty e = cc
-copy_serial serial (Page s) e = cc
-copy_serial serial (Copy s) e = e
+copy_serial serial hand e = grind arith
 
 -- hand k brings its copy to the zone
 module _ (w : WorldState) (k serial : ℕ) (low : 0 < k) (high : k ≤ 4) (o : IsOrderly w) (copy : copy_in (hand_of w k) ≡ Some serial) (zone : ZoneState) (ended : IsEnded w.zone zone serial) (ends : EndSeat) (whole : ends.parts ≡ 64) where
@@ -157,8 +155,7 @@ module _ (w : WorldState) (k serial : ℕ) (low : 0 < k) (high : k ≤ 4) (o : I
   }
 
 parts_ended : (seat : EndSeat) (e : Ended) → (seat_ended seat e).parts ≡ seat.parts
-parts_ended seat ended.Moved = refl
-parts_ended seat ended.Back = refl
+parts_ended seat e = grind arith
 
 pub orderly_finished : (w : WorldState) (k : ℕ) (finished : Finished) (after : WorldState) → 0 < k → k ≤ 4 → IsOrderly w → finish_step w k ≡ Some (finished, after) → IsOrderly after
 orderly_finished w k finished after low high o e = by_copy (copy_in (hand_of w k)) refl e where
@@ -191,12 +188,6 @@ all_ended (serial ∷ more) z law rising are_out =
           (parts.0, or_from (nat_eq s serial) _ (not-true _ parts.1) later.1));
     }
 
-none_held : (hands : List Hand) (s : ℕ) → list_all is_empty hands ≡ true → holds hands s ≡ false
-none_held [] s e = refl
-none_held (Empty ∷ hands) s e = none_held hands s e
-none_held (Page t ∷ hands) s e = cc
-none_held (Copy t ∷ hands) s e = cc
-
 module _ (w : WorldState) (o : IsOrderly w) (empty : list_all is_empty w.hands ≡ true) where
   abbrev zone_shut : ZoneState
   zone_shut = all_put_back w.zone w.waiting
@@ -204,28 +195,13 @@ module _ (w : WorldState) (o : IsOrderly w) (empty : list_all is_empty w.hands �
   shut_ended : AreEnded w.zone zone_shut w.waiting
   shut_ended = all_ended w.waiting w.zone o.valid o.rising (waits_out w o)
 
-  empty_hand : (k s : ℕ) → serial_in (hand_of w k) ≡ Some s → ⊥
-  empty_hand k s e = both_ways _ (none_held w.hands s empty) (holds_at w.hands (k - 1) s e)
-
   none_left_out : (s : ℕ) → is_out zone_shut.records s ≡ true → ⊥
   none_left_out s e =
       let gone = shut_ended.gone s e in
-      elim (stands_out w o s gone.0) [ inl there ↦ both_ways _ gone.1 there | inr there ↦ empty_hand there.0 s there.2 ]
+      elim (stands_out w o s gone.0) [ inl there ↦ both_ways _ gone.1 there | inr there ↦ both_ways _ (none_held w.hands s empty) (holds_at w.hands (there.0 - 1) s there.2) ]
 
   orderly_with_shut : IsOrderly (shut w)
-  orderly_with_shut =
-      let within : zone_shut.free ≤ frame_count zone_shut = shut_ended.valid.fingers.ordered.1 in
-      record {
-        valid = shut_ended.valid;
-        whole = o.whole;
-        four = o.four;
-        rising = tt;
-        out = λ s. (λ h. absurd (none_left_out s h), λ h. absurd (both_ways _ (none_held w.hands s empty) h));
-        one_hand = o.one_hand;
-        one_place = λ k s some e. refl;
-        closed = λ e s. false_from_ne_true _ (none_left_out s);
-        few = (omega arith, omega arith);
-      }
+  orderly_with_shut = orderly_at_rest zone_shut w.scan _ w.hands shut_ended.valid o.whole o.four empty (λ s. false_from_ne_true _ (none_left_out s))
 
 pub orderly_shut : (w : WorldState) (n : ℕ) (after : WorldState) → IsOrderly w → shut_step w ≡ Some (n, after) → IsOrderly after
 orderly_shut w n after o e = by_empty (list_all is_empty w.hands) refl e where

@@ -1,27 +1,31 @@
 -- Calls of the zone, rounds and scans keep a world orderly.
-use Rattle.std.proofs.Common.{◌≡◌, ℕ, ◌+◌, ◌<◌, ◌≤◌, Bool, true, false, List, [], ◌∷◌, ◌++◌, length, ◌⊎◌, inl, inr, refl, sym, subst, ◌∙◌, arith}
+use Rattle.std.proofs.Common.{◌≡◌, ℕ, ◌+◌, ◌-◌, ◌<◌, ◌≤◌, Bool, true, false, List, [], ◌∷◌, ◌++◌, length, ◌⊎◌, inl, inr, refl, sym, ◌∙◌, arith}
 use Rattle.std.specs.Prelude.{Option, Some, None, nat_eq, ◌||◌, if◌then◌else◌}
-use Rattle.std.specs.List.{list_any}
+use Rattle.std.specs.List.{list_all, list_any}
 use Rattle.std.proofs.lemmas.Bool.{eq-eqb, eqb-true, or_cases, or_left, or_right, false_from_ne_true, both_ways}
 use Rattle.std.proofs.lemmas.List.{length-append}
+use Rattle.std.proofs.lemmas.List.Folds.{list_any-append}
 use Rattle.frame_core.proofs.OnTheWay.{out_below}
 use Rattle.frame_core.specs.Moves.{isolated, is_out}
+use Rattle.machine_core.specs.declared.hand.Hand.{Hand}
 use Rattle.state_core.specs.declared.moves.Next.TheVariants as next
 use Rattle.state_core.specs.declared.round.Pair.{Pair}
 use Rattle.state_core.specs.Valid.{IsValidZone}
 use Rattle.state_core.specs.Rounds.{round_begun}
 use Rattle.state_core.specs.Isolating.{isolate_refusal, isolated_next}
 use Rattle.state_core.specs.Pairs.{IsPair, next_pair}
-use Rattle.machine_core.specs.World.{WorldState, IsOrderly, IsRising, with_zone, hand_of, serial_in, round_opened, isolated_by}
-use Rattle.zone_core.specs.Seats.{ScanSeat, seat_begun, seat_noted}
-use Rattle.state_core.specs.ZoneState.{ZoneState}
+use Rattle.machine_core.specs.World.{WorldState, IsOrderly, IsRising, with_zone, hand_of, is_empty, serial_in, round_opened, isolated_by}
+use Rattle.zone_core.specs.Seats.{ScanSeat, EndSeat, seat_begun, seat_noted}
+use Rattle.state_core.specs.ZoneState.{ZoneState, frame_count}
 use Rattle.state_core.proofs.Pairing.{pair_found}
 use Rattle.state_core.proofs.Rounds.{valid_begun}
 use Rattle.state_core.proofs.Settled.{valid_isolated}
-use Rattle.machine_core.proofs.Standing.{Stands, stands, stands_so, stands_out, waits_out, in_hand_out}
+use Rattle.machine_core.proofs.Standing.{Stands, holds_at, none_held, stands, stands_so, stands_out, waits_out, in_hand_out}
 
-pub orderly_with_zone : (w : WorldState) (zone : ZoneState) → IsOrderly w → IsValidZone zone → ((serial : ℕ) → is_out zone.records serial ≡ is_out w.zone.records serial) → zone.migrate ≡ w.zone.migrate → zone.free ≡ w.zone.free → zone.blocks ≡ w.zone.blocks → IsOrderly (with_zone w zone)
-orderly_with_zone w zone o law same migrate free blocks = record {
+-- a world whose zone has the same moving pages as that of an orderly one
+orderly_like : (w : WorldState) (zone : ZoneState) (scan : ScanSeat) (is_open : Bool) → IsOrderly w → IsValidZone zone → ((serial : ℕ) → is_out zone.records serial ≡ is_out w.zone.records serial) → (is_open ≡ false → w.is_open ≡ false)
+    → (length w.waiting ≤ zone.migrate) × (length w.waiting + zone.free ≤ frame_count zone) → IsOrderly (record w { zone = zone; scan = scan; is_open = is_open })
+orderly_like w zone scan is_open o law same closed few = record {
   valid = law;
   whole = o.whole;
   four = o.four;
@@ -29,81 +33,56 @@ orderly_with_zone w zone o law same migrate free blocks = record {
   out = λ s. (λ h. (o.out s).0 (sym (same s) ∙ h), λ h. same s ∙ (o.out s).1 h);
   one_hand = o.one_hand;
   one_place = o.one_place;
-  closed = λ e s. same s ∙ o.closed e s;
-  few = (omega (arith, o.few.0, migrate), omega (arith, o.few.1, free, blocks));
+  closed = λ e s. same s ∙ o.closed (closed e) s;
+  few = few;
 }
 
-none_waits : (serials : List ℕ) → ((s : ℕ) → list_any (nat_eq s) serials ≡ true → ⊥) → length serials ≡ 0
+pub orderly_with_zone : (w : WorldState) (zone : ZoneState) → IsOrderly w → IsValidZone zone → ((serial : ℕ) → is_out zone.records serial ≡ is_out w.zone.records serial) → zone.migrate ≡ w.zone.migrate → zone.free ≡ w.zone.free → zone.blocks ≡ w.zone.blocks → IsOrderly (with_zone w zone)
+orderly_with_zone w zone o law same migrate free blocks = orderly_like w zone w.scan w.is_open o law same (λ e. e) (omega (arith, o.few.0, migrate), omega (arith, o.few.1, free, blocks))
+
+-- a world in which no page is moving, where its hands are empty
+pub orderly_at_rest : (zone : ZoneState) (scan : ScanSeat) (ends : EndSeat) (hands : List Hand) → IsValidZone zone → ends.parts ≡ 64 → length hands ≡ 4 → list_all is_empty hands ≡ true → ((serial : ℕ) → is_out zone.records serial ≡ false)
+    → IsOrderly (record { zone = zone; scan = scan; ends = ends; is_open = false; waiting = []; hands = hands })
+orderly_at_rest zone scan ends hands law whole four empty none = record {
+  valid = law;
+  whole = whole;
+  four = four;
+  rising = tt;
+  out = λ s. (λ h. absurd (both_ways _ (none s) h), λ h. absurd (both_ways _ (none_held hands s empty) h));
+  one_hand = λ j k s a b low_j low_k. absurd (both_ways _ (none_held hands s empty) (holds_at hands (j - 1) s a));
+  one_place = λ k s low e. refl;
+  closed = λ e. none;
+  few = (omega (arith, law.fingers.ordered.0), omega (arith, law.fingers.ordered.1));
+}
+
+pub none_waits : (serials : List ℕ) → ((s : ℕ) → list_any (nat_eq s) serials ≡ true → ⊥) → length serials ≡ 0
 none_waits [] none = refl
 none_waits (x ∷ serials) none = absurd (none x (or_left (nat_eq x x) _ (eq-eqb x x refl)))
 
 -- the seat of the scanner notes something
 pub orderly_noted : (w : WorldState) (seat : ScanSeat) → IsOrderly w → IsOrderly (record w { scan = seat })
-orderly_noted w seat o = record {
-  valid = o.valid;
-  whole = o.whole;
-  four = o.four;
-  rising = o.rising;
-  out = o.out;
-  one_hand = o.one_hand;
-  one_place = o.one_place;
-  closed = o.closed;
-  few = o.few;
-}
+orderly_noted w seat o = orderly_like w w.zone seat w.is_open o o.valid (λ s. refl) (λ e. e) o.few
 
 pub orderly_round_opened : (w : WorldState) → IsOrderly w → IsOrderly (round_opened w)
 orderly_round_opened w o = by_open w.is_open refl where
-  begun : w.is_open ≡ false → (seat : ScanSeat) → IsOrderly (record w { zone = round_begun w.zone; scan = seat; is_open = true })
-  begun closed seat =
-      let none : length w.waiting ≡ 0 = none_waits w.waiting (λ s h. both_ways _ (o.closed closed s) (waits_out w o s h)) in
-      record {
-        valid = valid_begun w.zone o.valid;
-        whole = o.whole;
-        four = o.four;
-        rising = o.rising;
-        out = o.out;
-        one_hand = o.one_hand;
-        one_place = o.one_place;
-        closed = λ e. cc;
-        few = (omega arith, omega arith);
-      }
-
-  by_open : (b : Bool) → w.is_open ≡ b → IsOrderly (round_opened w)
-  by_open true e =
-      subst (λ (b : Bool). IsOrderly (record w { zone = if b then w.zone else round_begun w.zone; scan = if b then w.scan else seat_begun w.scan; is_open = true })) (sym e)
-      (record {
-        valid = o.valid;
-        whole = o.whole;
-        four = o.four;
-        rising = o.rising;
-        out = o.out;
-        one_hand = o.one_hand;
-        one_place = o.one_place;
-        closed = λ e. cc;
-        few = o.few;
-      })
+  by_open : (b : Bool) → w.is_open ≡ b → IsOrderly (record w { zone = if b then w.zone else round_begun w.zone; scan = if b then w.scan else seat_begun w.scan; is_open = true })
+  by_open true e = orderly_like w w.zone w.scan true o o.valid (λ s. refl) (λ bad. cc) o.few
   by_open false e =
-      subst (λ (b : Bool). IsOrderly (record w { zone = if b then w.zone else round_begun w.zone; scan = if b then w.scan else seat_begun w.scan; is_open = true })) (sym e)
-      (begun e (seat_begun w.scan))
+      let none : length w.waiting ≡ 0 = none_waits w.waiting (λ s h. both_ways _ (o.closed e s) (waits_out w o s h)) in
+      orderly_like w (round_begun w.zone) (seat_begun w.scan) true o (valid_begun w.zone o.valid) (λ s. refl) (λ bad. cc) (omega arith, omega arith)
 
 -- a serial that waits after one more was appended waited before, or is that one
 waited : (waiting : List ℕ) (n s : ℕ) → list_any (nat_eq s) (waiting ++ n ∷ []) ≡ true → (list_any (nat_eq s) waiting ≡ true) ⊎ (s ≡ n)
-waited [] n s e = elim (or_cases (nat_eq s n) false e) [ inl here ↦ inr (eqb-true s n here) | inr bad ↦ cc ]
-waited (x ∷ waiting) n s e = elim (or_cases (nat_eq s x) _ e) [
-  | inl here ↦ inl (or_left (nat_eq s x) _ here)
-  | inr later ↦ elim (waited waiting n s later) [ inl there ↦ inl (or_right (nat_eq s x) _ there) | inr same ↦ inr same ]
+waited waiting n s e = elim (or_cases (list_any (nat_eq s) waiting) _ (sym (list_any-append (nat_eq s) waiting (n ∷ [])) ∙ e)) [
+  | inl there ↦ inl there
+  | inr last ↦ elim (or_cases (nat_eq s n) false last) [ inl here ↦ inr (eqb-true s n here) | inr bad ↦ cc ]
 ]
 
 waits_on : (waiting : List ℕ) (n s : ℕ) → list_any (nat_eq s) waiting ≡ true → list_any (nat_eq s) (waiting ++ n ∷ []) ≡ true
-waits_on [] n s e = cc
-waits_on (x ∷ waiting) n s e = elim (or_cases (nat_eq s x) _ e) [
-  | inl here ↦ or_left (nat_eq s x) _ here
-  | inr later ↦ or_right (nat_eq s x) _ (waits_on waiting n s later)
-]
+waits_on waiting n s e = list_any-append (nat_eq s) waiting (n ∷ []) ∙ or_left _ _ e
 
 waits_last : (waiting : List ℕ) (n s : ℕ) → s ≡ n → list_any (nat_eq s) (waiting ++ n ∷ []) ≡ true
-waits_last [] n s e = or_left (nat_eq s n) false (eq-eqb s n e)
-waits_last (x ∷ waiting) n s e = or_right (nat_eq s x) _ (waits_last waiting n s e)
+waits_last waiting n s e = list_any-append (nat_eq s) waiting (n ∷ []) ∙ or_right (list_any (nat_eq s) waiting) _ (or_left (nat_eq s n) false (eq-eqb s n e))
 
 rising_more : (waiting : List ℕ) (n : ℕ) → IsRising waiting → ((s : ℕ) → list_any (nat_eq s) waiting ≡ true → s < n) → IsRising (waiting ++ n ∷ [])
 rising_more [] n rising below = (λ m h. absurd (both_ways false refl h), tt)

@@ -8,23 +8,8 @@ use Rattle.text_core.specs.Grammar.{address_of}
 use Rattle.machine_core.specs.Machine.{Answered, page_step, says, series_from, unless_refused}
 
 goes_on : (r : Reply) (done : ℕ) (w : WorldState) (rest : Answered) → ((number : ℕ) → r ≡ reply.Refused number → ⊥) → unless_refused done r w rest ≡ rest
-goes_on reply.Done done w rest accepted = refl
-goes_on (reply.Value x) done w rest accepted = refl
-goes_on (reply.Info i) done w rest accepted = refl
-goes_on (reply.InfoWithHeld i) done w rest accepted = refl
-goes_on (reply.Serial n) done w rest accepted = refl
-goes_on reply.Met done w rest accepted = refl
-goes_on (reply.Moved n) done w rest accepted = refl
-goes_on (reply.PutBack n) done w rest accepted = refl
-goes_on (reply.Shut n) done w rest accepted = refl
-goes_on (reply.Looked l) done w rest accepted = refl
-goes_on (reply.Block b) done w rest accepted = refl
-goes_on (reply.HandedOut f k) done w rest accepted = refl
-goes_on (reply.AllDone m) done w rest accepted = refl
-goes_on (reply.DoneUntil m k) done w rest accepted = refl
-goes_on (reply.Round i m b s) done w rest accepted = refl
-goes_on (reply.Pool blocks got rounds s) done w rest accepted = refl
 goes_on (reply.Refused k) done w rest accepted = absurd (accepted k refl)
+goes_on _ done w rest accepted = refl
 
 module _ (c : Repeated) (s v further done n m : ℕ) (w after : WorldState) (left : n ≡ suc m) where
   first_call : series_from c s v further done n w

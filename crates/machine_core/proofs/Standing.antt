@@ -1,15 +1,15 @@
 -- Where a moving page is in a world: it waits, or a hand has it.
-use Rattle.std.proofs.Common.{◌≡◌, ◌≢◌, ℕ, zero, suc, ◌+◌, ◌-◌, ◌<◌, ◌≤◌, Bool, true, List, [], ◌∷◌, length, ◌⊎◌, inl, inr, refl, sym, ap, ◌∙◌, arith}
+use Rattle.std.proofs.Common.{◌≡◌, ◌≢◌, ℕ, zero, suc, ◌+◌, ◌-◌, ◌<◌, ◌≤◌, Bool, true, false, List, [], ◌∷◌, length, ◌⊎◌, inl, inr, refl, sym, ap, ◌∙◌, arith}
 use Rattle.std.specs.Prelude.{Option, Some, None, slice_get, slice_set, unwrap_or, nat_eq, ◌||◌}
-use Rattle.std.specs.List.{list_any}
+use Rattle.std.specs.List.{list_all, list_any}
 use Rattle.std.proofs.lemmas.Bool.{eq-eqb, eqb-true, or_cases, or_left, or_right}
 use Rattle.std.proofs.lemmas.Bool.Decides.{eqb_tells}
 use Rattle.std.proofs.lemmas.List.{get_or-set_same, get_or-set_other}
 use Rattle.std.proofs.lemmas.Option.{unwrap_or-slice_get}
 use Rattle.frame_core.specs.Moves.{is_out}
 use Rattle.machine_core.specs.declared.hand.Hand.{Hand}
-use Rattle.machine_core.specs.declared.hand.Hand.TheVariants.{Empty}
-use Rattle.machine_core.specs.World.{WorldState, IsOrderly, hand_of, waits, is_in, serial_in}
+use Rattle.machine_core.specs.declared.hand.Hand.TheVariants.{Empty, Page, Copy}
+use Rattle.machine_core.specs.World.{WorldState, IsOrderly, hand_of, waits, is_empty, is_in, serial_in}
 
 -- what hand k of four holds
 abbrev pub held : List Hand → ℕ → Hand
@@ -36,6 +36,12 @@ pub holds_at : (hands : List Hand) (i s : ℕ) → serial_in (unwrap_or (slice_g
 holds_at [] i s e = cc
 holds_at (hand ∷ hands) zero s e = or_left (is_in s (serial_in hand)) _ (some_is_in s (serial_in hand) e)
 holds_at (hand ∷ hands) (suc i) s e = or_right (is_in s (serial_in hand)) _ (holds_at hands i s e)
+
+pub none_held : (hands : List Hand) (s : ℕ) → list_all is_empty hands ≡ true → holds hands s ≡ false
+none_held [] s e = refl
+none_held (Empty ∷ hands) s e = none_held hands s e
+none_held (Page t ∷ hands) s e = cc
+none_held (Copy t ∷ hands) s e = cc
 
 -- a serial waits, or a hand has it
 abbrev pub Stands : List ℕ → List Hand → ℕ → Type 0

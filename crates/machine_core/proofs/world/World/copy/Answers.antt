@@ -1,11 +1,11 @@
 use Rattle.std.proofs.Common.{◌≡◌, ◌-◌, List, sym, ap, ◌∙◌}
 use Rattle.std.specs.Prelude.{Some, slice_set}
 use Rattle.std.specs.VecDeque.{deque_capacity}
+use Rattle.std.proofs.lemmas.List.{set-set}
 use Rattle.frame_core.specs.Page.{IsolatedPage}
 use Rattle.machine_core.specs.declared.hands.Held.TheVariants.{Copy}
 use Rattle.machine_core.specs.Carried.{InHand, world_of}
 use Rattle.machine_core.specs.World.{WorldState, copy_step}
-use Rattle.machine_core.proofs.Carrying.{set_twice}
 use Rattle.machine_core.proofs.Holding.{step_copied, carried_copied}
 use Rattle.machine_core.proofs.world.World.copy.Given.{Over}
 use Rattle.machine_core.proofs.world.World.copy.Goals as goal
@@ -16,7 +16,7 @@ hands_are g c =
     let i = c.args.hand - 1 in
     c.put.ensures
     ∙ ap (λ (held : List InHand). slice_set held i (Copy c.copy_into_new.result)) c.in-Some.ensures.some
-    ∙ set_twice c.self.inside.hands.held i _ (Copy c.copy_into_new.result)
+    ∙ set-set c.self.inside.hands.held i _ (Copy c.copy_into_new.result)
     ∙ ap (λ (p : IsolatedPage). slice_set c.self.inside.hands.held i (Copy p)) c.copy_into_new.ensures
 
 pub invariant_of-self-2 : goal.invariant_of-self-2
