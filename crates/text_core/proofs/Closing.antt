@@ -5,16 +5,16 @@ use Rattle.std.proofs.KnownBytes.{Appends-nil}
 use Rattle.text_core.specs.declared.fault.RunError.{RunError}
 use Rattle.text_core.specs.declared.fault.Fault.{Fault}
 use Rattle.text_core.specs.declared.fault.Fault.TheVariants.{Syntax, LongLine, Read, Write, Memory}
-use Rattle.text_core.specs.Script.{StopsIn, Answer, IsBeginning, Numbered, commands_from, commands_of, parts_of, texts}
-use Rattle.text_core.specs.Runs.{Rule, Asking, IsAsking, IsEnded, IsStopped, IsUnread}
+use Rattle.text_core.specs.Script.{StopsIn, Answer, IsBeginning, Numbered, commands_from, commands_of, fault_of, parts_of, texts}
+use Rattle.text_core.specs.Runs.{Rule, Asking, IsAnswered, IsAsking, IsEnded, IsStopped}
 use Rattle.text_core.specs.ReplyBuffer.{ReplyBuffer, Owes, empty}
 use Rattle.text_core.specs.Reply.{newlines}
-use Rattle.text_core.specs.ScriptRunner.{ScriptRunner, BreaksOff, EndsBy, Finishes, HasClosed, HasEnded, StopsBy, HasFault, HasRead, PlaysOn, ReadsOn, begun}
+use Rattle.text_core.specs.ScriptRunner.{ScriptRunner, EndsBy, Finishes, HasClosed, HasEnded, HasFault, HasRead, PlaysOn, ReadsOn, begun}
 use Rattle.text_core.proofs.Waiting.{owes_empty, owes_none}
 use Rattle.text_core.proofs.Newlines.{newlines-append}
 use Rattle.text_core.proofs.Beginnings.{commands_begin}
-use Rattle.text_core.proofs.Reading.{begins_of, ended, well}
-use Rattle.text_core.proofs.Inputs.{begins_end, ends_stop, read_clean}
+use Rattle.text_core.proofs.Reading.{begins_of, ended, read_with, well}
+use Rattle.text_core.proofs.Inputs.{begins_end, begins_same, read_clean}
 
 pub begun_read : {S : Type 0} (may : Rule S) (start : S) (s : ScriptRunner S) (first : Option (List ℕ)) → s ≡ begun start → HasRead may start s [] first first
 begun_read {S} may start s first is =
@@ -43,23 +43,10 @@ Flushes s mid after = (answers : List Answer) (first : Option (List ℕ)) → Ow
 abbrev pub FlushStops : {S : Type 0} → ScriptRunner S → Option (List ℕ) → Option (List ℕ) → ℕ → Type 0
 FlushStops s mid after at = (answers : List Answer) (first : Option (List ℕ)) → Owes s.box answers first mid → StopsIn answers first after at
 
-breaks_off : {S : Type 0} (may : Rule S) (start : S) (s : ScriptRunner S) (left left_new first mid after : Option (List ℕ)) (line : ℕ) → BreaksOff may start s left left_new line first mid → Flushes s mid after → IsUnread may start left left_new first after line
-breaks_off may start s left left_new first mid after line h flushes =
-    let r = h.has_read in
-    record {
-      past = h.past;
-      read = h.read;
-      clean = read_clean may start s h.past first mid r;
-      answered = record { begins = begins_end may start s h.past first mid r; written = flushes r.answers first r.owes };
-      at = h.at ∙ r.line ∙ (let n : newlines r.whole + 1 ≡ newlines h.past + 1 = omega (arith, ap newlines r.split, newlines-append r.whole s.held, r.unbroken) in n);
-    }
-
-pub flushed : {S : Type 0} (may : Rule S) (asks : Asking S) (start : S) (f : Fault) (s : ScriptRunner S) (input : List ℕ) (e : RunError) (left left_new first mid after : Option (List ℕ)) → f ≢ Write → StopsBy may asks start f s input e left left_new first mid → Flushes s mid after → IsEnded may asks start f input e left left_new first after
-flushed may asks start Syntax s input e left left_new first mid after other h flushes = (h.fault, record { begins = h.begins; written = flushes h.begins.answers first h.owes })
-flushed may asks start LongLine s input e left left_new first mid after other h flushes = (h.fault, record { begins = h.begins; written = flushes h.begins.answers first h.owes })
-flushed may asks start Read s input e left left_new first mid after other h flushes = breaks_off may start s left left_new first mid after e.line h flushes
-flushed may asks start Write s input e left left_new first mid after other h flushes = absurd (other refl)
-flushed may asks start Memory s input e left left_new first mid after other h flushes = record { before = h.before; begins = h.begins; asking = h.asking; written = flushes h.begins.answers first h.owes }
+-- a fault after which the replies that wait were written
+fault_written : {S : Type 0} (may : Rule S) (start : S) (s : ScriptRunner S) (past : List ℕ) (e : RunError) (first mid after : Option (List ℕ)) → HasFault may start s past e first mid → Flushes s mid after → (rest : List ℕ) → (fault_of (past ++ rest) ≡ Some e) × IsAnswered may start (past ++ rest) first after
+fault_written may start s past e first mid after h flushes rest =
+    (h.fault rest, record { begins = begins_same may start h.before (commands_of (past ++ rest)) (sym (h.commands rest)) h.begins; written = flushes h.begins.answers first h.owes })
 
 fault_stopped : {S : Type 0} (may : Rule S) (start : S) (s : ScriptRunner S) (past : List ℕ) (e : RunError) (first mid after : Option (List ℕ)) (at : ℕ) → HasFault may start s past e first mid → FlushStops s mid after at → (rest : List ℕ) → IsStopped may start (past ++ rest) first after at
 fault_stopped may start s past e first mid after at h stops rest = record {
@@ -95,16 +82,15 @@ written_out s now none = λ answers first owes.
 module _ {S : Type 0} (may : Rule S) (asks : Asking S) (start : S) (s : ScriptRunner S) (past : List ℕ) (first mid after : Option (List ℕ)) where
   -- reading a piece never ends with the fault of a read
   no_read : (f : Fault) (e : RunError) → EndsBy may asks start f s past e first mid → f ≢ Read
-  no_read Read e h is = h
-  no_read Syntax e h is = cc
-  no_read LongLine e h is = cc
-  no_read Write e h is = cc
-  no_read Memory e h is = cc
+  no_read f e h is = let E : Fault → Type 0 = λ g. EndsBy may asks start g s past e first mid in subst E is h
 
   closed_by : (f : Fault) (e : RunError) → f ≢ Write → EndsBy may asks start f s past e first mid → Flushes s mid after
       → (rest : List ℕ) (left left_new : Option (List ℕ)) → IsEnded may asks start f (past ++ rest) e left left_new first after
-  closed_by f e other h flushes rest left left_new =
-      flushed may asks start f s (past ++ rest) e left left_new first mid after other (ends_stop may asks start f s past rest (past ++ rest) e left left_new first mid refl h) flushes
+  closed_by Syntax e other h flushes rest left left_new = fault_written may start s past e first mid after h flushes rest
+  closed_by LongLine e other h flushes rest left left_new = fault_written may start s past e first mid after h flushes rest
+  closed_by Read e other h flushes rest left left_new = absurd h
+  closed_by Write e other h flushes rest left left_new = absurd (other refl)
+  closed_by Memory e other h flushes rest left left_new = record { before = h.before; begins = h.begins; asking = h.asking rest; written = flushes h.begins.answers first h.owes }
 
   -- a fault ended the run, and all replies before it were written
   closed : (e : RunError) → e.fault ≢ Write → HasEnded may asks start s past e first mid → Flushes s mid after → HasClosed may asks start past e first after
@@ -113,11 +99,9 @@ module _ {S : Type 0} (may : Rule S) (asks : Asking S) (start : S) (s : ScriptRu
 -- a reply wasn't taken whole
 closed_in : {S : Type 0} (may : Rule S) (asks : Asking S) (start : S) (past : List ℕ) (e : RunError) (first now : Option (List ℕ)) → e.fault ≡ Write → ((rest : List ℕ) → IsStopped may start (past ++ rest) first now e.line) → HasClosed may asks start past e first now
 closed_in may asks start past e first now is stops = record {
-  heard = λ read. not_write e.fault read is;
+  heard = λ read. let bad : Read ≡ Write = sym read ∙ is in cc;
   ends = λ rest left left_new. let E : Fault → Type 0 = λ f. IsEnded may asks start f (past ++ rest) e left left_new first now in subst E (sym is) (stops rest);
-} where
-  not_write : (f : Fault) → f ≡ Read → f ≡ Write → ⊥
-  not_write f read write = cc
+}
 
 -- some bytes were read, up to the replies that wait
 module _ {S : Type 0} (may : Rule S) (asks : Asking S) (s mid : ScriptRunner S) (bytes : List ℕ) (now between after : Option (List ℕ)) where
@@ -125,21 +109,8 @@ module _ {S : Type 0} (may : Rule S) (asks : Asking S) (s mid : ScriptRunner S) 
   pub plays_flushed : ReadsOn may asks s mid bytes now between well → Flushes mid between after → PlaysOn may asks s (record mid { box = empty }) bytes now after well
   plays_flushed reads flushes start past first before =
       let r = reads start past first before in
-      record {
-        whole = r.whole;
-        split = r.split;
-        unbroken = r.unbroken;
-        short = r.short;
-        line = r.line;
-        before = r.before;
-        commands = r.commands;
-        fault = r.fault;
-        reading = r.reading;
-        answers = r.answers;
-        replied = r.replied;
-        replies = r.replies;
-        owes = owes_empty r.answers first after (flushes r.answers first r.owes);
-      }
+      let R : List ℕ → Type 0 = λ p. HasRead may start (record mid { box = empty }) p first after in
+      subst R (sym r.split) (read_with may start mid (past ++ bytes) mid.held empty first between after r r.unbroken r.short (owes_empty r.answers first after (flushes r.answers first r.owes)))
 
   module _ (t : ScriptRunner S) (e : RunError) where
     -- a reply wasn't taken whole
@@ -173,7 +144,13 @@ module _ {S : Type 0} (may : Rule S) (asks : Asking S) (s mid : ScriptRunner S) 
 pub breaks_off_written : {S : Type 0} (may : Rule S) (asks : Asking S) (start : S) (s : ScriptRunner S) (past input : List ℕ) (e : RunError) (left left_new first now : Option (List ℕ)) → s.box ≡ empty → e ≡ record { fault = Read; line = s.line } → Consumes left left_new past → HasRead may start s past first now → IsEnded may asks start e.fault input e left left_new first now
 breaks_off_written may asks start s past input e left left_new first now none is took r =
     let E : RunError → Type 0 = λ e. IsEnded may asks start e.fault input e left left_new first now in
-    subst E (sym is) (breaks_off may start s left left_new first now now s.line (record { past = past; read = took; has_read = r; at = refl }) (written_out s now none))
+    subst E (sym is) (record {
+      past = past;
+      read = took;
+      clean = read_clean may start s past first now r;
+      answered = record { begins = begins_end may start s past first now r; written = written_out s now none r.answers first r.owes };
+      at = (let n : s.line ≡ newlines past + 1 = omega (arith, r.line, ap newlines r.split, newlines-append r.whole s.held, r.unbroken) in n);
+    })
 
 -- the end of the input cuts a line off, and no reply waits
 pub cut_written : {S : Type 0} (may : Rule S) (asks : Asking S) (start : S) (s : ScriptRunner S) (input : List ℕ) (e : RunError) (left left_new first now : Option (List ℕ)) → s.box ≡ empty → e.fault ≡ Syntax → Finishes may start s input (Some e) first now → IsEnded may asks start e.fault input e left left_new first now

@@ -1,17 +1,16 @@
 -- What was read so far, and the whole input.
-use Rattle.std.proofs.Common.{◌≡◌, ℕ, ◌-◌, ◌<◌, ◌≤◌, Bool, false, List, [], ◌∷◌, ◌++◌, length, take, refl, sym, ap, subst, inl, inr, ◌∙◌, ◌+◌, ◌⊎◌, append-nil, arith, Option, Some, None}
+use Rattle.std.proofs.Common.{◌≡◌, ℕ, ◌-◌, ◌<◌, ◌≤◌, Bool, false, List, [], ◌∷◌, ◌++◌, length, take, refl, sym, ap, subst, inl, inr, ◌∙◌, ◌+◌, append-nil, arith, Option, Some, None}
 use Rattle.std.specs.Prelude.{IfSome, nat_lt, if◌then◌else◌}
 use Rattle.std.proofs.lemmas.Bool.Decides.{nat_tests}
 use Rattle.std.specs.Io.KnownBytes.{Consumes, IsAtEnd}
 use Rattle.std.proofs.KnownBytes.{Consumes-trans}
 use Rattle.text_core.specs.declared.fault.RunError.{RunError}
-use Rattle.text_core.specs.declared.fault.Fault.{Fault}
-use Rattle.text_core.specs.declared.fault.Fault.TheVariants.{Syntax, LongLine, Read, Write, Memory}
+use Rattle.text_core.specs.declared.fault.Fault.TheVariants.{Syntax, LongLine}
 use Rattle.text_core.specs.declared.totals.Totals.{Totals}
-use Rattle.text_core.specs.Runs.{Rule, Asking, Begins, IsAsking, IsStopped, Replied}
+use Rattle.text_core.specs.Runs.{Rule, Begins, Replied}
 use Rattle.text_core.specs.Reply.{newlines}
-use Rattle.text_core.specs.Script.{Block, IsBeginning, IsOfEnd, Numbered, Reading, commands_from, commands_of, cut_fault, fault_from, fault_of, open_fault, reading_of}
-use Rattle.text_core.specs.ScriptRunner.{ScriptRunner, EndsBy, Finishes, StopsBy, HasRead, HasFault}
+use Rattle.text_core.specs.Script.{IsOfEnd, Numbered, Reading, commands_from, commands_of, cut_fault, fault_from, fault_of, open_fault, reading_of}
+use Rattle.text_core.specs.ScriptRunner.{ScriptRunner, Finishes, HasRead}
 use Rattle.text_core.proofs.Lines.{parts-end, reading-end}
 use Rattle.text_core.proofs.Newlines.{newlines-append}
 use Rattle.std.specs.Option.{option_or}
@@ -29,7 +28,7 @@ pub reading_end : {S : Type 0} (may : Rule S) (start : S) (s : ScriptRunner S) (
 reading_end may start s input first now r = ap reading_of r.split ∙ r.reading s.held ∙ reading-end s.reading s.line s.held r.unbroken
 
 -- replies to commands are replies to the same commands under another name
-abbrev begins_same : {S : Type 0} (may : Rule S) (start : S) (commands same : List Numbered) → commands ≡ same → Begins may start commands → Begins may start same
+abbrev pub begins_same : {S : Type 0} (may : Rule S) (start : S) (commands same : List Numbered) → commands ≡ same → Begins may start commands → Begins may start same
 begins_same may start commands same is b = record {
   answers = b.answers;
   after = b.after;
@@ -41,10 +40,10 @@ abbrev pub begins_end : {S : Type 0} (may : Rule S) (start : S) (s : ScriptRunne
 begins_end may start s input first now r =
     begins_same may start r.before (commands_of input) (sym (commands_end may start s input first now r)) (begins_of may start s input first now r)
 
--- an input that ends where no line and no block has begun
-abbrev pub read_end : {S : Type 0} (may : Rule S) (start : S) (s : ScriptRunner S) (input : List ℕ) (first now : Option (List ℕ)) → HasRead may start s input first now → s.held ≡ [] → s.reading.block ≡ None → Finishes may start s input None first now
-read_end may start s input first now r none outside = record {
-  fault = fault_end may start s input first now r ∙ ap (λ h. option_or (cut_fault s.line h) (open_fault s.reading.block)) none ∙ ap open_fault outside;
+-- an input that ends with this fault, or with none
+abbrev pub read_ends : {S : Type 0} (may : Rule S) (start : S) (s : ScriptRunner S) (input : List ℕ) (found : Option RunError) (first now : Option (List ℕ)) → HasRead may start s input first now → option_or (cut_fault s.line s.held) (open_fault s.reading.block) ≡ found → Finishes may start s input found first now
+read_ends may start s input found first now r is = record {
+  fault = fault_end may start s input first now r ∙ is;
   begins = begins_end may start s input first now r;
   owes = r.owes;
 }
@@ -52,27 +51,11 @@ read_end may start s input first now r none outside = record {
 pub lines_end : {S : Type 0} (may : Rule S) (start : S) (s : ScriptRunner S) (input : List ℕ) (first now : Option (List ℕ)) → HasRead may start s input first now → s.held ≡ [] → s.line - 1 ≡ newlines input
 lines_end may start s input first now r none = omega (arith, r.line, ap newlines (whole_is may start s input first now r none))
 
-cut_is : (line : ℕ) (cut : List ℕ) → 0 < length cut → length cut ≤ 200 → cut_fault line cut ≡ Some (record { fault = Syntax; line = line })
+pub cut_is : (line : ℕ) (cut : List ℕ) → 0 < length cut → length cut ≤ 200 → cut_fault line cut ≡ Some (record { fault = Syntax; line = line })
 cut_is line [] some short = absurd (omega arith)
 cut_is line (b ∷ bytes) some short =
     let few : nat_lt 200 (length (b ∷ bytes)) ≡ false = grind (arith, nat_tests) in
     ap (λ (t : Bool). Some (record { fault = if t then LongLine else Syntax; line = line })) few
-
--- an input that ends within a line
-pub read_cut : {S : Type 0} (may : Rule S) (start : S) (s : ScriptRunner S) (input : List ℕ) (first now : Option (List ℕ)) → HasRead may start s input first now → 0 < length s.held → Finishes may start s input (Some (record { fault = Syntax; line = s.line })) first now
-read_cut may start s input first now r some = record {
-  fault = fault_end may start s input first now r ∙ ap (λ o. option_or o (open_fault s.reading.block)) (cut_is s.line s.held some r.short);
-  begins = begins_end may start s input first now r;
-  owes = r.owes;
-}
-
--- an input that ends in a block
-pub read_unended : {S : Type 0} (may : Rule S) (start : S) (s : ScriptRunner S) (input : List ℕ) (block : Block) (first now : Option (List ℕ)) → HasRead may start s input first now → s.held ≡ [] → s.reading.block ≡ Some block → Finishes may start s input (Some (record { fault = Syntax; line = block.line })) first now
-read_unended may start s input block first now r none inside = record {
-  fault = fault_end may start s input first now r ∙ ap (λ h. option_or (cut_fault s.line h) (open_fault s.reading.block)) none ∙ ap open_fault inside;
-  begins = begins_end may start s input first now r;
-  owes = r.owes;
-}
 
 -- what was read has no fault except those that an end there would make
 pub read_clean : {S : Type 0} (may : Rule S) (start : S) (s : ScriptRunner S) (past : List ℕ) (first now : Option (List ℕ)) → HasRead may start s past first now → IfSome (fault_of past) (IsOfEnd past)
@@ -101,25 +84,6 @@ consumed_all : (left left_new : Option (List ℕ)) (input past : List ℕ) → l
 consumed_all None left_new input past e took end = cc
 consumed_all (Some xs) None input past e took end = absurd took
 consumed_all (Some xs) (Some ys) input past e took end = let same : input ≡ xs = cc in sym (append-nil past) ∙ ap (λ (r : List ℕ). past ++ r) (sym end) ∙ sym took ∙ sym same
-
-fault_stops : {S : Type 0} (may : Rule S) (start : S) (s : ScriptRunner S) (past rest input : List ℕ) (e : RunError) (first now : Option (List ℕ)) → input ≡ past ++ rest → HasFault may start s past e first now → Finishes may start s input (Some e) first now
-fault_stops may start s past rest input e first now split h = record {
-  fault = ap fault_of split ∙ h.fault rest;
-  begins = begins_same may start h.before (commands_of input) (sym (ap commands_of split ∙ h.commands rest)) h.begins;
-  owes = h.owes;
-}
-
-pub ends_stop : {S : Type 0} (may : Rule S) (asks : Asking S) (start : S) (f : Fault) (s : ScriptRunner S) (past rest input : List ℕ) (e : RunError) (left left_new first now : Option (List ℕ)) → input ≡ past ++ rest → EndsBy may asks start f s past e first now → StopsBy may asks start f s input e left left_new first now
-ends_stop may asks start Syntax s past rest input e left left_new first now split h = fault_stops may start s past rest input e first now split h
-ends_stop may asks start LongLine s past rest input e left left_new first now split h = fault_stops may start s past rest input e first now split h
-ends_stop may asks start Read s past rest input e left left_new first now split h = absurd h
-ends_stop may asks start Write s past rest input e left left_new first now split h = let W : List ℕ → Type 0 = λ i. IsStopped may start i first now e.line in subst W (sym split) (h rest)
-ends_stop may asks start Memory s past rest input e left left_new first now split h = record {
-  before = h.before;
-  begins = h.begins;
-  asking = (let O : List ℕ → Type 0 = λ i. IsAsking asks i h.before h.begins.after e.line ⊎ IsBeginning i h.before e.line in subst O (sym split) (h.asking rest));
-  owes = h.owes;
-}
 
 -- an input that was read to its end
 pub end_finishes : {S : Type 0} (may : Rule S) (start : S) (s : ScriptRunner S) (past input : List ℕ) (left mid left_new first now : Option (List ℕ)) → left ≡ Some input → Consumes left mid past → Consumes mid left_new [] → IsAtEnd left_new → HasRead may start s past first now → HasRead may start s input first now

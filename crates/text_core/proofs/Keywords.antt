@@ -1,9 +1,9 @@
 -- Keywords at the front of a text.
-use Rattle.std.proofs.Common.{◌≡◌, ◌∙◌, ◌⊎◌, inl, inr, ℕ, Bool, true, false, List, [], ◌∷◌, ◌++◌, ap, refl, arith, append-nil}
-use Rattle.std.specs.Prelude.{bytes_eq, codes, if◌then◌else◌}
+use Rattle.std.proofs.Common.{◌≡◌, ◌∙◌, ◌⊎◌, inl, inr, ℕ, Bool, true, false, List, [], ◌∷◌, ◌++◌, ap, refl, arith, rules, append-nil}
+use Rattle.std.specs.Prelude.{bytes_eq, if◌then◌else◌}
 use Rattle.std.proofs.lemmas.Slice.Eq.{bytes_eq-Decides}
 use Rattle.text_core.specs.declared.token.Token.{Token}
-use Rattle.text_core.specs.declared.token.Token.TheVariants.{Zone, Map, MapAt, Store, Load, Info, Unmovable, Scan, Take, Copy, Finish, Shut, Look, Share, Unmap, Pin, Unpin, Huge, Give, Fill, Thin, Mark, Unmark, Compact, Pool, During, End, Other}
+use Rattle.text_core.specs.declared.token.Token.TheVariants.{Other}
 use Rattle.text_core.specs.Token.{first_word, after_word, keyword_of, number_or_keyword, token_of, tokens}
 use Rattle.text_core.proofs.Lexemes.{bare_apart, after_word-append, first_word-append, is_bare}
 use Rattle.text_core.proofs.Numbers.{one_of_both}
@@ -18,35 +18,7 @@ or_bare word literal t other bare more = by_test (bytes_eq word literal) refl wh
   by_test false e = more
 
 keyword_bare : (word : List ℕ) → (keyword_of word ≡ Other) ⊎ (is_bare word ≡ true)
-keyword_bare word =
-    or_bare word (codes "zone") Zone _ refl (
-    or_bare word (codes "map") Map _ refl (
-    or_bare word (codes "mapat") MapAt _ refl (
-    or_bare word (codes "store") Store _ refl (
-    or_bare word (codes "load") Load _ refl (
-    or_bare word (codes "info") Info _ refl (
-    or_bare word (codes "unmovable") Unmovable _ refl (
-    or_bare word (codes "scan") Scan _ refl (
-    or_bare word (codes "take") Take _ refl (
-    or_bare word (codes "copy") Copy _ refl (
-    or_bare word (codes "finish") Finish _ refl (
-    or_bare word (codes "shut") Shut _ refl (
-    or_bare word (codes "look") Look _ refl (
-    or_bare word (codes "share") Share _ refl (
-    or_bare word (codes "unmap") Unmap _ refl (
-    or_bare word (codes "pin") Pin _ refl (
-    or_bare word (codes "unpin") Unpin _ refl (
-    or_bare word (codes "huge") Huge _ refl (
-    or_bare word (codes "give") Give _ refl (
-    or_bare word (codes "fill") Fill _ refl (
-    or_bare word (codes "thin") Thin _ refl (
-    or_bare word (codes "mark") Mark _ refl (
-    or_bare word (codes "unmark") Unmark _ refl (
-    or_bare word (codes "compact") Compact _ refl (
-    or_bare word (codes "pool") Pool _ refl (
-    or_bare word (codes "during") During _ refl (
-    or_bare word (codes "end") End _ refl (
-    inl refl)))))))))))))))))))))))))))
+keyword_bare word = search (or_bare, rules)
 
 token_of_keyword : (word : List ℕ) → (keyword_of word ≡ Other → ⊥) → token_of word ≡ keyword_of word
 token_of_keyword word known = elim (one_of_both word) [

@@ -1,12 +1,12 @@
 -- The words of a text.
-use Rattle.std.proofs.Common.{◌≡◌, ℕ, suc, ◌+◌, ◌<◌, ◌≤◌, Bool, true, false, not, ◌&&◌, List, [], ◌∷◌, ◌++◌, length, take, drop, get_or, refl, sym, ap, ◌∙◌, arith, Some, None, add-one, drop-cons, cond}
+use Rattle.std.proofs.Common.{inl, inr, ◌≡◌, ℕ, suc, ◌+◌, ◌<◌, ◌≤◌, Bool, true, false, not, ◌&&◌, List, [], ◌∷◌, ◌++◌, length, take, drop, get_or, refl, sym, ap, ◌∙◌, arith, cond}
 use Rattle.std.specs.Prelude.{nat_eq, nat_lt, filter, codes, position, unwrap_or}
 use Rattle.std.specs.List.{slice_split, onto_first, starts_with, position_or_len, after_first}
-use Rattle.std.proofs.lemmas.List.{drop_all, take_all}
-use Rattle.std.proofs.lemmas.List.Sums.{prefix_len-le-length, passes_at_first, fails_before_first}
+use Rattle.std.proofs.lemmas.List.{at_drop_more, drop_all, take_all}
+use Rattle.std.proofs.lemmas.List.Sums.{prefix_len-le-length, passes_at_first, fails_before_first, take_while-cons}
 use Rattle.std.proofs.lemmas.List.Folds.{length-prefix_len}
 use Rattle.std.proofs.lemmas.List.Splits.{slice_split_first, slice_split_none}
-use Rattle.std.proofs.lemmas.Bool.{and_parts, not-true}
+use Rattle.std.proofs.lemmas.Bool.{and_parts, cases_lt, not-true}
 use Rattle.std.proofs.lemmas.Bool.Decides.{nat_tests}
 use Rattle.text_core.specs.Token.{lexemes, first_word, after_word}
 
@@ -20,32 +20,24 @@ abbrev pub lexeme_len : List ℕ → ℕ
 lexeme_len xs = position_or_len is_space xs
 
 pub lexeme_len_is : (xs : List ℕ) → unwrap_or (position is_space xs) (length xs) ≡ lexeme_len xs
-lexeme_len_is xs = at_test (nat_lt (lexeme_len xs) (length xs)) refl where
-  at_test : (t : Bool) → nat_lt (lexeme_len xs) (length xs) ≡ t → unwrap_or (cond t (Some (lexeme_len xs)) None) (length xs) ≡ lexeme_len xs
-  at_test true e = refl
-  at_test false e = (let most = prefix_len-le-length (λ b. not (is_space b)) xs in grind (arith, nat_tests, most))
+lexeme_len_is xs = (let most = prefix_len-le-length (λ b. not (is_space b)) xs in grind (arith, nat_tests, most))
 
 -- a text that begins with a space has the words of the rest
 pub lexemes_space : (b : ℕ) (xs : List ℕ) → is_space b ≡ true → lexemes (b ∷ xs) ≡ lexemes xs
 lexemes_space b xs e = ap (λ (t : Bool). filter is_lexeme (cond t ([] ∷ slice_split is_space xs) (onto_first b (slice_split is_space xs)))) e
 
 first_kept : (part : List ℕ) (parts : List (List ℕ)) → 0 < length part → filter is_lexeme (part ∷ parts) ≡ part ∷ filter is_lexeme parts
-first_kept part parts h =
-    let some : is_lexeme part ≡ true = grind (arith, nat_tests) in
-    ap (λ (t : Bool). cond t (part ∷ filter is_lexeme parts) (filter is_lexeme parts)) some
+first_kept part parts h = grind (arith, nat_tests)
 
 lexeme_len_pos : (x : ℕ) (xs : List ℕ) → is_space x ≡ false → 0 < lexeme_len (x ∷ xs)
-lexeme_len_pos x xs e =
-    let is : lexeme_len (x ∷ xs) ≡ 1 + lexeme_len xs = ap (λ (t : Bool). cond (not t) (1 + lexeme_len xs) 0) e in
-    omega arith
+lexeme_len_pos x xs e = grind arith
 
 lexeme_then_space : (xs : List ℕ) → 0 < lexeme_len xs → lexeme_len xs < length xs → lexemes xs ≡ first_word xs ∷ lexemes (after_word xs)
 lexeme_then_space xs some h =
     let n = lexeme_len xs in
     let len : length (take n xs) ≡ n = length-prefix_len (λ b. not (is_space b)) xs in
-    let ahead : drop n xs ≡ get_or xs n 0 ∷ drop (n + 1) xs = rw (add-one, drop-cons xs n 0) refl in
     let after : lexemes (drop n xs) ≡ lexemes (drop (n + 1) xs) =
-    ap lexemes ahead ∙ lexemes_space (get_or xs n 0) (drop (n + 1) xs) (passes_at_first is_space xs 0 h) in
+    at_drop_more lexemes xs n 0 h ∙ lexemes_space (get_or xs n 0) (drop (n + 1) xs) (passes_at_first is_space xs 0 h) in
     ap (filter is_lexeme) (slice_split_first is_space xs 0 h) ∙ first_kept (take n xs) (slice_split is_space (after_first is_space xs)) (omega arith) ∙ ap (λ (r : List (List ℕ)). take n xs ∷ r) (sym after)
 
 lexeme_to_end : (xs : List ℕ) → 0 < length xs → length xs ≤ lexeme_len xs → lexemes xs ≡ first_word xs ∷ lexemes (after_word xs)
@@ -61,22 +53,19 @@ apart a ys e = grind (arith, nat_tests)
 -- where a text doesn't begin with a space, its first word is what stands before the first space
 pub lexemes_first : (xs : List ℕ) → 0 < length xs → starts_with nat_eq xs (codes " ") ≡ false → lexemes xs ≡ first_word xs ∷ lexemes (after_word xs)
 lexemes_first [] h e = absurd (omega arith)
-lexemes_first (x ∷ xs) h e = at_test (nat_lt (lexeme_len (x ∷ xs)) (length (x ∷ xs))) refl where
-  at_test : (t : Bool) → nat_lt (lexeme_len (x ∷ xs)) (length (x ∷ xs)) ≡ t → lexemes (x ∷ xs) ≡ first_word (x ∷ xs) ∷ lexemes (after_word (x ∷ xs))
-  at_test true below = lexeme_then_space (x ∷ xs) (lexeme_len_pos x xs (apart x xs e)) (let h : lexeme_len (x ∷ xs) < length (x ∷ xs) = grind (arith, nat_tests) in h)
-  at_test false below = lexeme_to_end (x ∷ xs) h (let h : length (x ∷ xs) ≤ lexeme_len (x ∷ xs) = grind (arith, nat_tests) in h)
-
-one_more : (n : ℕ) → 1 + n ≡ suc n
-one_more n = omega arith
+lexemes_first (x ∷ xs) h e = elim (cases_lt (lexeme_len (x ∷ xs)) (length (x ∷ xs))) [
+  | inl below ↦ lexeme_then_space (x ∷ xs) (lexeme_len_pos x xs (apart x xs e)) below
+  | inr past ↦ lexeme_to_end (x ∷ xs) h past
+]
 
 -- the first word of a text that begins with another byte than a space
 pub first_word_step : (b : ℕ) (xs : List ℕ) → is_space b ≡ false → first_word (b ∷ xs) ≡ b ∷ first_word xs
-first_word_step b xs e =
-    ap (λ (t : Bool). take (cond (not t) (1 + lexeme_len xs) 0) (b ∷ xs)) e ∙ ap (λ (n : ℕ). take n (b ∷ xs)) (one_more (lexeme_len xs))
+first_word_step b xs e = take_while-cons (λ c. not (is_space c)) b xs ∙ ap (λ (t : Bool). cond (not t) (b ∷ first_word xs) []) e
 
 pub after_word_step : (b : ℕ) (xs : List ℕ) → is_space b ≡ false → after_word (b ∷ xs) ≡ after_word xs
 after_word_step b xs e =
-    ap (λ (t : Bool). drop (cond (not t) (1 + lexeme_len xs) 0) (b ∷ xs)) e ∙ ap (λ (n : ℕ). drop n (b ∷ xs)) (one_more (lexeme_len xs))
+    let more : 1 + lexeme_len xs ≡ suc (lexeme_len xs) = omega arith in
+    ap (λ (t : Bool). drop (cond (not t) (1 + lexeme_len xs) 0) (b ∷ xs)) e ∙ ap (λ (n : ℕ). drop n (b ∷ xs)) more
 
 space_first : (b : ℕ) (xs : List ℕ) → starts_with nat_eq (b ∷ xs) (codes " ") ≡ true → is_space b ≡ true
 space_first b xs e = grind (arith, nat_tests)
@@ -85,10 +74,6 @@ space_first b xs e = grind (arith, nat_tests)
 pub first_word_none : (xs : List ℕ) → starts_with nat_eq xs (codes " ") ≡ true → first_word xs ≡ []
 first_word_none [] e = refl
 first_word_none (b ∷ xs) e = ap (λ (t : Bool). take (cond (not t) (1 + lexeme_len xs) 0) (b ∷ xs)) (space_first b xs e)
-
-pub after_word_none : (xs : List ℕ) → starts_with nat_eq xs (codes " ") ≡ true → after_word xs ≡ xs
-after_word_none [] e = refl
-after_word_none (b ∷ xs) e = ap (λ (t : Bool). drop (cond (not t) (1 + lexeme_len xs) 0) (b ∷ xs)) (space_first b xs e)
 
 -- a digit isn't a space
 pub is_apart : (d : ℕ) → nat_eq (48 + d) 32 ≡ false

@@ -15,3 +15,4 @@ pub mod Rows
 pub mod Tokens
 pub mod Variants
 pub mod Waiting
+pub mod Words

@@ -1,21 +1,20 @@
 -- The lines of an input, from one to the next.
-use Rattle.std.proofs.Common.{◌≡◌, ℕ, suc, ◌+◌, ◌<◌, Bool, true, false, cond, List, [], ◌∷◌, ◌++◌, length, length-append, get_or, take, drop, length-take, add-one, drop-cons, refl, sym, ap, ◌∙◌, arith, Option, Some, None, Result, Err}
+use Rattle.std.proofs.Common.{◌≡◌, ℕ, suc, ◌+◌, ◌<◌, Bool, true, false, cond, List, [], ◌∷◌, ◌++◌, length, length-append, get_or, take, drop, length-take, refl, sym, ap, ◌∙◌, arith, Option, Some, None, Result, Err}
 use Rattle.std.specs.Prelude.{nat_eq, nat_lt, if◌then◌else◌}
-use Rattle.std.specs.List.{All, AllByRecursion, onto_first}
+use Rattle.std.specs.List.{All, onto_first}
 use Rattle.std.specs.Option.{option_or}
 use Rattle.std.proofs.lemmas.Bool.Decides.{nat_tests}
-use Rattle.std.proofs.lemmas.List.{get_or-take, take-append-drop}
-use Rattle.std.proofs.lemmas.List.Elements.{All-from_recursion}
+use Rattle.std.proofs.lemmas.Bool.{false_from_ne_true}
+use Rattle.std.proofs.lemmas.List.{drop_more, get_or-take, take-append-drop}
+use Rattle.std.proofs.lemmas.List.Sums.{get_or-le-sum_by}
 use Rattle.std.proofs.lemmas.List.Splits.{slice_split_at, slice_split_none}
 use Rattle.memchr.specs.Find.{IsFirstByte, is_byte}
-use Rattle.text_core.specs.declared.error.ScriptError.TheVariants as of_line
 use Rattle.text_core.specs.declared.fault.RunError.{RunError}
 use Rattle.text_core.specs.declared.fault.Fault.{Fault}
 use Rattle.text_core.specs.declared.fault.Fault.TheVariants.{Syntax, LongLine}
-use Rattle.text_core.specs.Line.{block_lexemes_say, line_within, lexemes_say, line_of}
-use Rattle.text_core.specs.Token.{lexemes}
+use Rattle.text_core.specs.Line.{line_of}
 use Rattle.text_core.specs.Reply.{newlines}
-use Rattle.text_core.specs.Script.{Block, Came, Numbered, Reading, comes_in, comes_outside, comes_within, commands_from, fault_from, line_comes, line_fault, onto_commands, open_fault, parts_of, reading_after, reading_from}
+use Rattle.text_core.specs.Script.{Came, Numbered, Reading, comes_in, comes_outside, commands_from, fault_from, line_comes, line_fault, onto_commands, open_fault, parts_of, reading_after, reading_from}
 use Rattle.text_core.proofs.Newlines.{newlines-append}
 
 newline_first : (b : ℕ) (bytes : List ℕ) → newlines (b ∷ bytes) ≡ 0 → (nat_eq b 10 ≡ false) × (newlines bytes ≡ 0)
@@ -23,12 +22,8 @@ newline_first b bytes e =
     let parts = newlines-append (b ∷ []) bytes in
     (grind (arith, nat_tests, parts), omega (arith, parts))
 
-unbroken_by_recursion : (bytes : List ℕ) → newlines bytes ≡ 0 → AllByRecursion (λ b. nat_eq b 10 ≡ false) bytes
-unbroken_by_recursion [] e = tt
-unbroken_by_recursion (b ∷ bytes) e = let first = newline_first b bytes e in (first.0, unbroken_by_recursion bytes first.1)
-
 unbroken : (bytes : List ℕ) → newlines bytes ≡ 0 → All (λ b. nat_eq b 10 ≡ false) bytes
-unbroken bytes e = All-from_recursion (λ b. nat_eq b 10 ≡ false) bytes (unbroken_by_recursion bytes e)
+unbroken bytes e = λ k d within. let most = get_or-le-sum_by (λ b. cond (nat_eq b 10) 1 0) bytes k d within in grind (arith, nat_tests, most)
 
 -- the parts of an input with one more line in front
 pub parts-line : (text rest : List ℕ) → newlines text ≡ 0 → parts_of (text ++ 10 ∷ rest) ≡ text ∷ parts_of rest
@@ -62,12 +57,9 @@ parts-more (b ∷ text) rest p e =
     ap (λ (t : Bool). cond t ([] ∷ parts_of (text ++ rest)) (onto_first b (parts_of (text ++ rest)))) first.0
     ∙ onto_first_is b (parts_of (text ++ rest)) (text ++ p.first) p.others (parts-more text rest p first.1)
 
--- a line outside a block, and one in a block
+-- a line outside a block
 pub outside-line : (q : Reading) (n : ℕ) (text : List ℕ) → q.block ≡ None → line_comes q n text ≡ comes_outside q.profile n (line_of q.profile text)
 outside-line q n text outside = ap (λ o. comes_in o q.profile n text) outside
-
-pub within-line : (q : Reading) (block : Block) (n : ℕ) (text : List ℕ) → q.block ≡ Some block → line_comes q n text ≡ comes_within q.profile block n (line_within block.zone text)
-within-line q block n text inside = ap (λ o. comes_in o q.profile n text) inside
 
 -- the commands from a line on, given what the line makes
 abbrev pub commands_by : Reading → ℕ → Result Came Fault → List (List ℕ) → List Numbered
@@ -81,26 +73,19 @@ fault_by q n came parts = option_or (line_fault n came) (fault_from (reading_aft
 abbrev pub reading_by : Reading → ℕ → Result Came Fault → List (List ℕ) → Reading
 reading_by q n came parts = reading_from (reading_after q came) (n + 1) parts
 
-commands_at : (q : Reading) (n : ℕ) (text : List ℕ) (parts : List (List ℕ)) (first : List ℕ) (others : List (List ℕ)) → parts ≡ first ∷ others → commands_from q n (text ∷ parts) ≡ commands_by q n (line_comes q n text) parts
-commands_at q n text parts first others e =
-    ap (λ (ps : List (List ℕ)). commands_from q n (text ∷ ps)) e ∙ ap (λ (ps : List (List ℕ)). commands_by q n (line_comes q n text) ps) (sym e)
+-- what is the same of any first part and the others is the same of the parts of an input
+by_parts : {A : Type 0} (F G : List (List ℕ) → A) → ((first : List ℕ) (others : List (List ℕ)) → F (first ∷ others) ≡ G (first ∷ others)) → (input : List ℕ) → F (parts_of input) ≡ G (parts_of input)
+by_parts F G same input = let p = parts_are input in ap F p.are ∙ same p.first p.others ∙ ap G (sym p.are)
 
-fault_at : (q : Reading) (n : ℕ) (text : List ℕ) (parts : List (List ℕ)) (first : List ℕ) (others : List (List ℕ)) → parts ≡ first ∷ others → fault_from q n (text ∷ parts) ≡ fault_by q n (line_comes q n text) parts
-fault_at q n text parts first others e =
-    ap (λ (ps : List (List ℕ)). fault_from q n (text ∷ ps)) e ∙ ap (λ (ps : List (List ℕ)). fault_by q n (line_comes q n text) ps) (sym e)
+module _ (q : Reading) (n : ℕ) (text rest : List ℕ) (e : newlines text ≡ 0) where
+  pub commands-line : commands_from q n (parts_of (text ++ 10 ∷ rest)) ≡ commands_by q n (line_comes q n text) (parts_of rest)
+  commands-line = ap (commands_from q n) (parts-line text rest e) ∙ by_parts (λ ps. commands_from q n (text ∷ ps)) (commands_by q n (line_comes q n text)) (λ first others. refl) rest
 
-pub commands-line : (q : Reading) (n : ℕ) (text rest : List ℕ) → newlines text ≡ 0 → commands_from q n (parts_of (text ++ 10 ∷ rest)) ≡ commands_by q n (line_comes q n text) (parts_of rest)
-commands-line q n text rest e = let p = parts_are rest in ap (commands_from q n) (parts-line text rest e) ∙ commands_at q n text (parts_of rest) p.first p.others p.are
+  pub fault-line : fault_from q n (parts_of (text ++ 10 ∷ rest)) ≡ fault_by q n (line_comes q n text) (parts_of rest)
+  fault-line = ap (fault_from q n) (parts-line text rest e) ∙ by_parts (λ ps. fault_from q n (text ∷ ps)) (fault_by q n (line_comes q n text)) (λ first others. refl) rest
 
-pub fault-line : (q : Reading) (n : ℕ) (text rest : List ℕ) → newlines text ≡ 0 → fault_from q n (parts_of (text ++ 10 ∷ rest)) ≡ fault_by q n (line_comes q n text) (parts_of rest)
-fault-line q n text rest e = let p = parts_are rest in ap (fault_from q n) (parts-line text rest e) ∙ fault_at q n text (parts_of rest) p.first p.others p.are
-
-reading_at : (q : Reading) (n : ℕ) (text : List ℕ) (parts : List (List ℕ)) (first : List ℕ) (others : List (List ℕ)) → parts ≡ first ∷ others → reading_from q n (text ∷ parts) ≡ reading_by q n (line_comes q n text) parts
-reading_at q n text parts first others e =
-    ap (λ (ps : List (List ℕ)). reading_from q n (text ∷ ps)) e ∙ ap (λ (ps : List (List ℕ)). reading_by q n (line_comes q n text) ps) (sym e)
-
-pub reading-line : (q : Reading) (n : ℕ) (text rest : List ℕ) → newlines text ≡ 0 → reading_from q n (parts_of (text ++ 10 ∷ rest)) ≡ reading_by q n (line_comes q n text) (parts_of rest)
-reading-line q n text rest e = let p = parts_are rest in ap (reading_from q n) (parts-line text rest e) ∙ reading_at q n text (parts_of rest) p.first p.others p.are
+  pub reading-line : reading_from q n (parts_of (text ++ 10 ∷ rest)) ≡ reading_by q n (line_comes q n text) (parts_of rest)
+  reading-line = ap (reading_from q n) (parts-line text rest e) ∙ by_parts (λ ps. reading_from q n (text ∷ ps)) (reading_by q n (line_comes q n text)) (λ first others. refl) rest
 
 -- how a line is read isn't changed by bytes without a newline
 pub reading-end : (q : Reading) (n : ℕ) (cut : List ℕ) → newlines cut ≡ 0 → reading_from q n (parts_of cut) ≡ q
@@ -108,13 +93,7 @@ reading-end q n cut e = ap (reading_from q n) (parts-end cut e)
 
 -- a line of more than 200 bytes is a fault
 line_comes-long : (q : Reading) (n : ℕ) (text : List ℕ) → 200 < length text → line_comes q n text ≡ Err LongLine
-line_comes-long q n text h = in_block q.block where
-  long : nat_lt 200 (length text) ≡ true
-  long = grind (arith, nat_tests)
-
-  in_block : (o : Option Block) → comes_in o q.profile n text ≡ Err LongLine
-  in_block None = ap (λ (t : Bool). comes_outside q.profile n (if t then Err of_line.LongLine else lexemes_say q.profile (lexemes text))) long
-  in_block (Some block) = ap (λ (t : Bool). comes_within q.profile block n (if t then Err of_line.LongLine else block_lexemes_say block.zone (lexemes text))) long
+line_comes-long q n text h = grind (arith, nat_tests)
 
 commands_long : (q : Reading) (n : ℕ) (text : List ℕ) (others : List (List ℕ)) → 200 < length text → commands_from q n (text ∷ others) ≡ []
 commands_long q n text [] h = refl
@@ -143,15 +122,6 @@ newlines-none (x ∷ xs) h =
     let one : newlines (x ∷ []) ≡ 0 = grind (arith, nat_tests) in
     omega (arith, newlines-append (x ∷ []) xs, one, newlines-none xs (λ k below. h (suc k) (omega (arith, below))))
 
-other_byte : (x : ℕ) → ¬ (is_byte 10 x ≡ true) → nat_eq x 10 ≡ false
-other_byte x h = by_test (nat_eq x 10) refl where
-  by_test : (t : Bool) → nat_eq x 10 ≡ t → t ≡ false
-  by_test false e = refl
-  by_test true e = absurd (h e)
-
-drop-at : (xs : List ℕ) (i : ℕ) → i < length xs → drop i xs ≡ get_or xs i 0 ∷ drop (i + 1) xs
-drop-at xs i h = rw (add-one, drop-cons xs i 0) refl
-
 -- what is known of the first newline of a text
 pub record FirstNewline (xs : List ℕ) (end : ℕ) : Type 0 where
   pub within : end < length xs
@@ -166,9 +136,9 @@ newline_found xs end found =
     record {
       within = place.high;
       unbroken = newlines-none (take end xs) (λ k below. let near : k < end = (let some = place.high in omega (arith, below, length-take end xs)) in
-          ap (λ (b : ℕ). nat_eq b 10) (get_or-take end xs k 0 near) ∙ other_byte (get_or xs k 0) (place.before k (omega arith) near));
-      split = sym (take-append-drop end xs) ∙ ap (λ (r : List ℕ). take end xs ++ r) (drop-at xs end place.high ∙ ap (λ (b : ℕ). b ∷ drop (end + 1) xs) byte);
+          ap (λ (b : ℕ). nat_eq b 10) (get_or-take end xs k 0 near) ∙ false_from_ne_true _ (place.before k (omega arith) near));
+      split = sym (take-append-drop end xs) ∙ ap (λ (r : List ℕ). take end xs ++ r) (drop_more xs end 0 place.high ∙ ap (λ (b : ℕ). b ∷ drop (end + 1) xs) byte);
     }
 
 pub newline_missing : (xs : List ℕ) → IsFirstByte (is_byte 10) xs None → newlines xs ≡ 0
-newline_missing xs none = newlines-none xs (λ k within. other_byte (get_or xs k 0) (none k (omega arith) within))
+newline_missing xs none = newlines-none xs (λ k within. false_from_ne_true _ (none k (omega arith) within))

@@ -1,16 +1,12 @@
 -- Numbers that are read digit by digit.
-use Rattle.std.proofs.Common.{◌≡◌, ◌⊎◌, inl, inr, ℕ, ◌+◌, ◌*◌, ◌-◌, ◌^◌, ◌<◌, ◌≤◌, Bool, true, false, ◌&&◌, List, [], ◌∷◌, length, drop, get_or, refl, sym, ap, ◌∙◌, add-one, drop-cons, arith, None, Some}
-use Rattle.std.specs.Prelude.{nat_le, nat_lt, if◌then◌else◌}
+use Rattle.std.proofs.Common.{◌≡◌, ◌⊎◌, inl, inr, ℕ, ◌+◌, ◌*◌, ◌-◌, ◌^◌, ◌<◌, ◌≤◌, Bool, true, false, ◌&&◌, List, [], ◌∷◌, length, refl, sym, ap, ◌∙◌, arith, None, Some}
 use Rattle.std.specs.Char.{digit_value, is_ascii_digit}
 use Rattle.std.specs.Str.{all_ascii_digits}
 use Rattle.std.specs.Str.Parse.{digits_value, digits_value_after}
 use Rattle.std.proofs.lemmas.Bool.Decides.{nat_tests}
 use Rattle.std.proofs.lemmas.Bool.{ne_eqb}
 use Rattle.text_core.specs.declared.token.Token.TheVariants.{Other}
-use Rattle.text_core.specs.Token.{is_number, keyword_of, number_of}
-
-pub drop-ahead : (xs : List ℕ) (i : ℕ) → i < length xs → drop i xs ≡ get_or xs i 0 ∷ drop (i + 1) xs
-drop-ahead xs i h = rw (add-one, drop-cons xs i 0) refl
+use Rattle.text_core.specs.Token.{keyword_of, number_of}
 
 pub digits_value_after-le : (n : ℕ) (ds : List ℕ) → n ≤ digits_value_after 10 n ds
 digits_value_after-le n [] = omega arith
@@ -26,41 +22,20 @@ digits_after d ds all h e = ap (λ (b : Bool). b && all_ascii_digits ds) (sym h)
 pub digits_stop : (d : ℕ) (ds : List ℕ) (all : Bool) → is_ascii_digit d ≡ false → all_ascii_digits (d ∷ ds) ≡ all → all ≡ false
 digits_stop d ds all h e = sym e ∙ ap (λ (b : Bool). b && all_ascii_digits ds) h
 
-chosen : (t : Bool) (bytes : List ℕ) → is_number bytes ≡ t → number_of bytes ≡ (if t then Some (digits_value 10 bytes) else None)
-chosen t bytes e = ap (λ (b : Bool). if b then Some (digits_value 10 bytes) else None) e
-
-last_false : (a b : Bool) → b ≡ false → (a && b) ≡ false
-last_false true b e = e
-last_false false b e = refl
-
-inner_false : (a b c : Bool) → b ≡ false → ((a && b) && c) ≡ false
-inner_false true b c e = ap (λ (x : Bool). x && c) e
-inner_false false b c e = refl
-
 pub number_of_none : (bytes : List ℕ) → all_ascii_digits bytes ≡ false → number_of bytes ≡ None
-number_of_none bytes e = chosen false bytes (inner_false (nat_le 1 (length bytes) && nat_le (length bytes) 20) _ _ e)
+number_of_none bytes e = grind (arith, nat_tests)
 
 pub number_of_short : (bytes : List ℕ) → length bytes ≡ 0 → number_of bytes ≡ None
-number_of_short bytes h =
-    let short : nat_le 1 (length bytes) ≡ false = grind (arith, nat_tests) in
-    chosen false bytes (ap (λ (b : Bool). b && nat_le (length bytes) 20 && all_ascii_digits bytes && nat_lt (digits_value 10 bytes) (2 ^ 64)) short)
+number_of_short bytes h = grind (arith, nat_tests)
 
 pub number_of_long : (bytes : List ℕ) → 20 < length bytes → number_of bytes ≡ None
-number_of_long bytes h =
-    let long : nat_le (length bytes) 20 ≡ false = grind (arith, nat_tests) in
-    chosen false bytes (ap (λ (b : Bool). b && all_ascii_digits bytes && nat_lt (digits_value 10 bytes) (2 ^ 64)) (last_false (nat_le 1 (length bytes)) (nat_le (length bytes) 20) long))
+number_of_long bytes h = grind (arith, nat_tests)
 
 pub number_of_large : (bytes : List ℕ) → 2 ^ 64 ≤ digits_value 10 bytes → number_of bytes ≡ None
-number_of_large bytes h =
-    let large : nat_lt (digits_value 10 bytes) (2 ^ 64) ≡ false = grind (arith, nat_tests) in
-    chosen false bytes (last_false (nat_le 1 (length bytes) && nat_le (length bytes) 20 && all_ascii_digits bytes) _ large)
+number_of_large bytes h = grind (arith, nat_tests)
 
 pub number_of_fits : (bytes : List ℕ) → 1 ≤ length bytes → length bytes ≤ 20 → all_ascii_digits bytes ≡ true → digits_value 10 bytes < 2 ^ 64 → number_of bytes ≡ Some (digits_value 10 bytes)
-number_of_fits bytes some few digits fits =
-    let a : nat_le 1 (length bytes) ≡ true = grind (arith, nat_tests) in
-    let b : nat_le (length bytes) 20 ≡ true = grind (arith, nat_tests) in
-    let c : nat_lt (digits_value 10 bytes) (2 ^ 64) ≡ true = grind (arith, nat_tests) in
-    chosen true bytes (rw (a, b, digits, c) refl)
+number_of_fits bytes some few digits fits = grind (arith, nat_tests)
 
 pub value_after : (v d : ℕ) (ds : List ℕ) (whole : ℕ) → is_ascii_digit d ≡ true → digits_value_after 10 v (d ∷ ds) ≡ whole → digits_value_after 10 (v * 10 + (d - 48)) ds ≡ whole
 value_after v d ds whole h e = ap (λ (n : ℕ). digits_value_after 10 (v * 10 + n) ds) (sym (digit_value_is d h)) ∙ e

@@ -1,6 +1,6 @@
 -- A line of profile 1 says the same where no line has decided the profile yet, and says it in profile 2 too, where an info
 -- counts the held frames besides.
-use Rattle.std.proofs.Common.{◌≡◌, ℕ, Bool, true, false, List, [], ◌∷◌, length, refl, sym, ap, Option, Some, None, Result, Ok, Err}
+use Rattle.std.proofs.Common.{◌≡◌, ℕ, Bool, true, false, List, [], ◌∷◌, length, refl, sym, ap, arith, Option, Some, None, Result, Ok, Err}
 use Rattle.std.specs.Prelude.{bytes_eq, codes, map, nat_lt, if◌then◌else◌, IfSome, ⊤, option_map}
 use Rattle.std.specs.Option.{option_or}
 use Rattle.std.proofs.lemmas.Bool.{and_parts}
@@ -42,37 +42,22 @@ abbrev IsKeptCall : Call → Type 0
 IsKeptCall c = call_in_profile_2 c ≡ c
 
 kept_opening : (z b : Option ℕ) → IsKept (opening z b)
-kept_opening (Some z) (Some b) = (refl, λ e. cc)
-kept_opening (Some z) None = (refl, λ e. cc)
-kept_opening None b = (refl, λ e. cc)
+kept_opening z b = (grind arith, λ e. grind arith)
 
 kept_compacting : (z : Option ℕ) → IsKept (compacting z)
-kept_compacting (Some z) = (refl, λ e. cc)
-kept_compacting None = (refl, λ e. cc)
+kept_compacting z = (grind arith, λ e. grind arith)
 
 kept_pooling : (z n : Option ℕ) (b : Option PoolBlocks) → IsKept (pooling z n b)
-kept_pooling (Some z) (Some n) (Some b) = (refl, λ e. cc)
-kept_pooling (Some z) (Some n) None = (refl, λ e. cc)
-kept_pooling (Some z) None b = (refl, λ e. cc)
-kept_pooling None n b = (refl, λ e. cc)
+kept_pooling z n b = (grind arith, λ e. grind arith)
 
 kept_call : (z : Option ℕ) (o : Option Call) → IfSome o IsKeptCall → IsKept (call_on z o)
-kept_call (Some z) (Some c) e = (ap (λ d. On z (One d)) e, λ e. cc)
-kept_call (Some z) None e = (refl, λ e. cc)
-kept_call None (Some c) e = (refl, λ e. cc)
-kept_call None None e = (refl, λ e. cc)
+kept_call z o e = (grind arith, λ e. grind arith)
 
 kept_series : (z : Option ℕ) (s : Option Series) → IsKept (series_on z s)
-kept_series (Some z) (Some s) = (refl, λ e. cc)
-kept_series (Some z) None = (refl, λ e. cc)
-kept_series None (Some s) = (refl, λ e. cc)
-kept_series None None = (refl, λ e. cc)
+kept_series z s = (grind arith, λ e. grind arith)
 
 kept_zone_call : (z : Option ℕ) (o : Option (ZoneCall 8)) → IsKept (zone_call_on z o)
-kept_zone_call (Some z) (Some c) = (refl, λ e. cc)
-kept_zone_call (Some z) None = (refl, λ e. cc)
-kept_zone_call None (Some c) = (refl, λ e. cc)
-kept_zone_call None None = (refl, λ e. cc)
+kept_zone_call z o = (grind arith, λ e. grind arith)
 
 kept_with : {A : Type 0} (f : A → Call) → ((x : A) → IsKeptCall (f x)) → (o : Option A) → IfSome (option_map f o) IsKeptCall
 kept_with f g (Some x) = g x

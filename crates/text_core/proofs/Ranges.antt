@@ -60,73 +60,46 @@ in_space s v = by_test (nat_lt s 8 && nat_lt v 4096) refl where
 
 -- what an opening, a round, a pool and a call are made of is in range
 opening_ranged : (z b : Option ℕ) → IfSome b (λ n. (1 ≤ n) × (n ≤ 8)) → IsInRange (opening z b)
-opening_ranged (Some z) (Some b) r = r
-opening_ranged (Some z) None r = tt
-opening_ranged None b r = tt
+opening_ranged z b r = grind arith
 
 compacting_ranged : (z : Option ℕ) → IsInRange (compacting z)
-compacting_ranged (Some z) = tt
-compacting_ranged None = tt
+compacting_ranged z = grind arith
 
 pooling_ranged : (z n : Option ℕ) (b : Option PoolBlocks) → IfSome b HasOrder → IsInRange (pooling z n b)
-pooling_ranged (Some z) (Some n) (Some b) r = r
-pooling_ranged (Some z) (Some n) None r = tt
-pooling_ranged (Some z) None b r = tt
-pooling_ranged None n b r = tt
+pooling_ranged z n b r = grind arith
 
 pageblocks_ranged : HasOrder Pageblocks
 pageblocks_ranged = (omega arith, omega arith)
 
 of_order_ranged : (o : Option ℕ) → IfSome o (λ k. (3 ≤ k) × (k ≤ 9)) → IfSome (option_map OfOrder o) HasOrder
-of_order_ranged (Some k) r = r
-of_order_ranged None r = tt
+of_order_ranged o r = grind arith
 
 call_ranged : (z : Option ℕ) (c : Option Call) → IfSome c IsCallInRange → IsInRange (call_on z c)
-call_ranged (Some z) (Some c) r = r
-call_ranged (Some z) None r = tt
-call_ranged None (Some c) r = tt
-call_ranged None None r = tt
+call_ranged z c r = grind arith
 
 zone_call_ranged : (z : Option ℕ) (c : Option (ZoneCall 8)) → IfSome c IsZoneCallInRange → IsInRange (zone_call_on z c)
-zone_call_ranged (Some z) (Some c) r = r
-zone_call_ranged (Some z) None r = tt
-zone_call_ranged None (Some c) r = tt
-zone_call_ranged None None r = tt
+zone_call_ranged z c r = grind arith
 
 series_ranged : (z : Option ℕ) (s : Option Series) → IsInRange (series_on z s)
-series_ranged (Some z) (Some s) = tt
-series_ranged (Some z) None = tt
-series_ranged None (Some s) = tt
-series_ranged None None = tt
+series_ranged z s = grind arith
 
 map_ranged : (o : Option Address) (unmovable : Bool) → IfSome o InRange → IfSome (map_call o unmovable) IsZoneCallInRange
-map_ranged (Some a) unmovable r = r
-map_ranged None unmovable r = tt
+map_ranged o unmovable r = grind arith
 
 map_at_ranged : (o : Option Address) (f : Option ℕ) (unmovable : Bool) → IfSome o InRange → IfSome (map_at_call o f unmovable) IsZoneCallInRange
-map_at_ranged (Some a) (Some f) unmovable r = r
-map_at_ranged (Some a) None unmovable r = tt
-map_at_ranged None f unmovable r = tt
+map_at_ranged o f unmovable r = grind arith
 
 share_ranged : (o alias : Option Address) → IfSome alias InRange → IfSome (share_call o alias) IsZoneCallInRange
-share_ranged (Some a) (Some alias) r = r
-share_ranged (Some a) None r = tt
-share_ranged None alias r = tt
+share_ranged o alias r = grind arith
 
 store_ranged : (o : Option Address) (w : Option ℕ) (x : ℕ) → IfSome (store_call o w x) IsZoneCallInRange
-store_ranged (Some a) (Some w) x = tt
-store_ranged (Some a) None x = tt
-store_ranged None w x = tt
+store_ranged o w x = grind arith
 
 load_ranged : (o : Option Address) (w : Option ℕ) → IfSome (load_call o w) IsZoneCallInRange
-load_ranged (Some a) (Some w) = tt
-load_ranged (Some a) None = tt
-load_ranged None w = tt
+load_ranged o w = grind arith
 
 give_ranged : (f k : Option ℕ) → IfSome (give_order_call f k) IsZoneCallInRange
-give_ranged (Some f) (Some k) = tt
-give_ranged (Some f) None = tt
-give_ranged None k = tt
+give_ranged f k = grind arith
 
 -- a call with one argument, which is in its range
 mapped_ranged : {A B : Type 0} (P : A → Type 0) (Q : B → Type 0) (f : A → B) → ((x : A) → P x → Q (f x)) → (o : Option A) → IfSome o P → IfSome (option_map f o) Q

@@ -1,11 +1,11 @@
 -- A script that is read line by line.
-use Rattle.std.proofs.Common.{◌≡◌, ℕ, ◌+◌, ◌<◌, List, [], ◌∷◌, ◌++◌, length, length-append, refl, sym, ap, subst, ◌∙◌, append_assoc, append-nil, inl, inr, arith, ◌⊎◌, Option, Some, None, Result, Ok, Err}
+use Rattle.std.proofs.Common.{◌≡◌, ℕ, ◌+◌, ◌<◌, ◌≤◌, List, [], ◌∷◌, ◌++◌, length, length-append, refl, sym, ap, subst, ◌∙◌, append_assoc, append-nil, inl, inr, arith, ◌⊎◌, Option, Some, None, Result, Ok, Err}
 use Rattle.text_core.specs.declared.fault.RunError.{RunError}
 use Rattle.text_core.specs.declared.fault.Fault.{Fault}
 use Rattle.text_core.specs.declared.fault.Fault.TheVariants.{Syntax, LongLine, Read, Write, Memory}
 use Rattle.text_core.specs.declared.error.ScriptError.{ScriptError}
 use Rattle.text_core.specs.declared.error.ScriptError.TheVariants as of_line
-use Rattle.text_core.specs.Script.{StopsIn, Answer, BeginsBlock, Came, IsBeginning, Numbered, Reading, commands_from, commands_of, fault_from, fault_of, line_comes, open_fault, parts_of, reading_from, reading_of}
+use Rattle.text_core.specs.Script.{StopsIn, Answer, BeginsBlock, Came, IsBeginning, Numbered, Reading, commands_from, commands_of, fault_of, line_comes, open_fault, parts_of, reading_of}
 use Rattle.text_core.specs.Runs.{Rule, Asking, Begins, IsAsking, IsStopped, Replied}
 use Rattle.text_core.specs.FaultNumber.{fault_of_line}
 use Rattle.text_core.specs.Line.{line_of}
@@ -31,15 +31,6 @@ begins_of may start s past first now r = record { answers = r.answers; after = s
 pub whole_is : {S : Type 0} (may : Rule S) (start : S) (s : ScriptRunner S) (past : List ℕ) (first now : Option (List ℕ)) → (r : HasRead may start s past first now) → s.held ≡ [] → r.whole ≡ past
 whole_is may start s past first now r e = sym (append-nil r.whole) ∙ ap (λ (h : List ℕ). r.whole ++ h) (sym e) ∙ sym r.split
 
-commands_next : {S : Type 0} (may : Rule S) (start : S) (s : ScriptRunner S) (past : List ℕ) (first now : Option (List ℕ)) → (r : HasRead may start s past first now) → s.held ≡ [] → (rest : List ℕ) → commands_of (past ++ rest) ≡ r.before ++ commands_from s.reading s.line (parts_of rest)
-commands_next may start s past first now r e rest = ap (λ (w : List ℕ). commands_of (w ++ rest)) (sym (whole_is may start s past first now r e)) ∙ r.commands rest
-
-fault_next : {S : Type 0} (may : Rule S) (start : S) (s : ScriptRunner S) (past : List ℕ) (first now : Option (List ℕ)) → (r : HasRead may start s past first now) → s.held ≡ [] → (rest : List ℕ) → fault_of (past ++ rest) ≡ fault_from s.reading s.line (parts_of rest)
-fault_next may start s past first now r e rest = ap (λ (w : List ℕ). fault_of (w ++ rest)) (sym (whole_is may start s past first now r e)) ∙ r.fault rest
-
-reading_next : {S : Type 0} (may : Rule S) (start : S) (s : ScriptRunner S) (past : List ℕ) (first now : Option (List ℕ)) → (r : HasRead may start s past first now) → s.held ≡ [] → (rest : List ℕ) → reading_of (past ++ rest) ≡ reading_from s.reading s.line (parts_of rest)
-reading_next may start s past first now r e rest = ap (λ (w : List ℕ). reading_of (w ++ rest)) (sym (whole_is may start s past first now r e)) ∙ r.reading rest
-
 pub joined : (past text rest : List ℕ) → (past ++ (text ++ 10 ∷ [])) ++ rest ≡ past ++ (text ++ 10 ∷ rest)
 joined past text rest = append_assoc past (text ++ 10 ∷ []) rest ∙ ap (λ (r : List ℕ). past ++ r) (append_assoc text (10 ∷ []) rest)
 
@@ -64,16 +55,18 @@ module _ {S : Type 0} (may : Rule S) (asks : Asking S) (s : ScriptRunner S) (tex
   here = line_comes s.reading s.line text
 
   module _ (none : newlines text ≡ 0) (start : S) (past : List ℕ) (first : Option (List ℕ)) (r : HasRead may start s past first now) where
+    line_at : (rest : List ℕ) → (past ++ (text ++ 10 ∷ [])) ++ rest ≡ r.whole ++ (text ++ 10 ∷ rest)
+    line_at rest = joined past text rest ∙ ap (λ (w : List ℕ). w ++ (text ++ 10 ∷ rest)) (sym (whole_is may start s past first now r begins))
+
     commands_line : (rest : List ℕ) → commands_of ((past ++ (text ++ 10 ∷ [])) ++ rest) ≡ r.before ++ commands_by s.reading s.line here (parts_of rest)
     commands_line rest =
-        ap commands_of (joined past text rest) ∙ commands_next may start s past first now r begins (text ++ 10 ∷ rest)
-        ∙ ap (λ (cs : List Numbered). r.before ++ cs) (commands-line s.reading s.line text rest none)
+        ap commands_of (line_at rest) ∙ r.commands (text ++ 10 ∷ rest) ∙ ap (λ (cs : List Numbered). r.before ++ cs) (commands-line s.reading s.line text rest none)
 
     fault_line : (rest : List ℕ) → fault_of ((past ++ (text ++ 10 ∷ [])) ++ rest) ≡ fault_by s.reading s.line here (parts_of rest)
-    fault_line rest = ap fault_of (joined past text rest) ∙ fault_next may start s past first now r begins (text ++ 10 ∷ rest) ∙ fault-line s.reading s.line text rest none
+    fault_line rest = ap fault_of (line_at rest) ∙ r.fault (text ++ 10 ∷ rest) ∙ fault-line s.reading s.line text rest none
 
     reading_line : (rest : List ℕ) → reading_of ((past ++ (text ++ 10 ∷ [])) ++ rest) ≡ reading_by s.reading s.line here (parts_of rest)
-    reading_line rest = ap reading_of (joined past text rest) ∙ reading_next may start s past first now r begins (text ++ 10 ∷ rest) ∙ reading-line s.reading s.line text rest none
+    reading_line rest = ap reading_of (line_at rest) ∙ r.reading (text ++ 10 ∷ rest) ∙ reading-line s.reading s.line text rest none
 
   -- a line that ends no command: it is skipped, or begins a block, or is a client line
   pub read_on : (reading : Reading) → here ≡ Ok (record { ended = None; reading = reading }) → ReadsLine may asks s (record s { reading = reading; line = s.line + 1 }) text now now well
@@ -106,8 +99,8 @@ module _ {S : Type 0} (may : Rule S) (asks : Asking S) (s : ScriptRunner S) (tex
   -- a line that begins a block for which there is no memory
   pub read_unbegun : (t : ScriptRunner S) → t.box ≡ s.box → s.reading.block ≡ None → BeginsBlock (line_of s.reading.profile text) → ReadsLine may asks s t text now now (ended (record { fault = Memory; line = s.line }))
   read_unbegun t box outside during none start past first r =
-      let at_end : past ++ [] ≡ past = append-nil past in
-      let read : reading_of past ≡ s.reading = ap reading_of (sym at_end) ∙ reading_next may start s past first now r begins [] in
+      let at_end : past ≡ r.whole ++ [] = sym (append-nil r.whole ∙ whole_is may start s past first now r begins) in
+      let read : reading_of past ≡ s.reading = ap reading_of at_end ∙ r.reading [] in
       let D : Reading → Type 0 = λ q. BeginsBlock (line_of q.profile text) in
       let O : ReplyBuffer → Type 0 = λ b. Owes b r.answers first now in
       record {
@@ -118,8 +111,8 @@ module _ {S : Type 0} (may : Rule S) (asks : Asking S) (s : ScriptRunner S) (tex
           text = text;
           rest = rest;
           order = joined past text rest;
-          clean = ap fault_of (sym at_end) ∙ fault_next may start s past first now r begins [] ∙ ap open_fault outside;
-          commands = ap commands_of (sym at_end) ∙ commands_next may start s past first now r begins [] ∙ append-nil r.before;
+          clean = ap fault_of at_end ∙ r.fault [] ∙ ap open_fault outside;
+          commands = ap commands_of at_end ∙ r.commands [] ∙ append-nil r.before;
           one_line = none;
           during = subst D (sym read) during;
           at = (let n : s.line ≡ newlines past + 1 = omega (arith, r.line, ap newlines (whole_is may start s past first now r begins)) in n);
@@ -187,13 +180,14 @@ module _ {S : Type 0} (may : Rule S) (asks : Asking S) (command : Numbered) (s :
     stops = stops r.answers first r.owes;
   }
 
--- the beginning of a line, which was held, is taken out
-pub read_taken_out : {S : Type 0} (may : Rule S) (start : S) (s : ScriptRunner S) (past : List ℕ) (first now : Option (List ℕ)) → (r : HasRead may start s past first now) → HasRead may start (record s { held = [] }) r.whole first now
-read_taken_out may start s past first now r = record {
+-- what was read, where another beginning of a line is held, and other replies wait
+pub read_with : {S : Type 0} (may : Rule S) (start : S) (s : ScriptRunner S) (past held : List ℕ) (box : ReplyBuffer) (first now after : Option (List ℕ)) → (r : HasRead may start s past first now) → newlines held ≡ 0 → length held ≤ 200 → Owes box r.answers first after
+    → HasRead may start (record s { held = held; box = box }) (r.whole ++ held) first after
+read_with may start s past held box first now after r unbroken short owes = record {
   whole = r.whole;
-  split = sym (append-nil r.whole);
-  unbroken = refl;
-  short = omega arith;
+  split = refl;
+  unbroken = unbroken;
+  short = short;
   line = r.line;
   before = r.before;
   commands = r.commands;
@@ -202,7 +196,7 @@ read_taken_out may start s past first now r = record {
   answers = r.answers;
   replied = r.replied;
   replies = r.replies;
-  owes = r.owes;
+  owes = owes;
 }
 
 -- what was read, up to the end of the line that has begun
@@ -274,7 +268,8 @@ read_long_line may asks s text now none long = reads_more may asks s s text (10 
 pub taken_line : {S T : Type 0} (may : Rule S) (asks : Asking S) (s t : ScriptRunner S) (text none_held line : List ℕ) (now after : Option (List ℕ)) (result : Result T RunError) → newlines text ≡ 0 → none_held ≡ [] → line ≡ s.held ++ text
     → ReadsLine may asks (record s { held = none_held }) t line now after result → ReadsOn may asks s t (text ++ 10 ∷ []) now after result
 taken_line may asks s t text none_held line now after result none empty is takes start past first r =
-    let H : List ℕ → Type 0 = λ h. HasRead may start (record s { held = h }) r.whole first now in
+    let H : List ℕ → Type 0 = λ p. HasRead may start (record s { held = none_held }) p first now in
     let unbroken : newlines line ≡ 0 = omega (arith, ap newlines is, newlines-append s.held text, r.unbroken, none) in
     let R : List ℕ → Type 0 = λ p. ReadsTo may asks start t p result first after in
-    subst R (ap (λ (t : List ℕ). r.whole ++ (t ++ 10 ∷ [])) is ∙ past_line may start s past text first now r) (takes unbroken start r.whole first (subst H (sym empty) (read_taken_out may start s past first now r)))
+    let taken : H r.whole = subst H (ap (λ (h : List ℕ). r.whole ++ h) empty ∙ append-nil r.whole) (read_with may start s past none_held s.box first now now r (ap newlines empty) (omega (arith, ap length empty)) r.owes) in
+    subst R (ap (λ (t : List ℕ). r.whole ++ (t ++ 10 ∷ [])) is ∙ past_line may start s past text first now r) (takes unbroken start r.whole first taken)

@@ -1,10 +1,9 @@
 -- Answers that wait to be written.
-use Rattle.std.proofs.Common.{◌≡◌, ℕ, ◌+◌, ◌-◌, ◌<◌, ◌≤◌, Bool, true, false, List, [], ◌∷◌, ◌++◌, length, take, drop, get_or, map, refl, sym, ap, subst, ◌∙◌, append_assoc, append-nil, length-append, length-drop, arith, Option}
-use Rattle.std.specs.Prelude.{nat_lt}
+use Rattle.std.proofs.Common.{◌≡◌, ℕ, ◌+◌, ◌-◌, ◌<◌, List, [], ◌∷◌, ◌++◌, length, take, drop, get_or, map, refl, sym, ap, subst, ◌∙◌, append_assoc, append-nil, inl, inr, length-append, length-drop, arith, Option}
 use Rattle.std.specs.List.{AllByRecursion}
 use Rattle.std.specs.Io.KnownBytes.{Appends}
 use Rattle.std.proofs.KnownBytes.{Appends-trans}
-use Rattle.std.proofs.lemmas.Bool.Decides.{nat_tests}
+use Rattle.std.proofs.lemmas.Bool.{cases_lt}
 use Rattle.std.proofs.lemmas.Grind.{flat_map-append}
 use Rattle.std.proofs.lemmas.List.{length-map, map-append, take-append-le, take-append-drop}
 use Rattle.std.proofs.Math.Seq.{take-append-add, get_or-append_seam}
@@ -71,18 +70,15 @@ cut_later a answers m one rest =
       count = omega (arith, ap newlines front, newlines-append (text_of a.reply) (take m (texts answers)), newlines_one (text_of a.reply) one, rest.count);
     }
 
-cut_by_test : (a : Answer) (answers : List Answer) (n : ℕ) → IsOneLine (text_of a.reply) → n < length (texts (a ∷ answers)) → ((m : ℕ) → m < length (texts answers) → Cut answers m) → (t : Bool) → nat_lt n (length (text_of a.reply)) ≡ t → Cut (a ∷ answers) n
-cut_by_test a answers n one h rest true e = cut_first a answers n one (let within : n < length (text_of a.reply) = grind (arith, nat_tests) in within)
-cut_by_test a answers n one h rest false e =
-    let past : length (text_of a.reply) ≤ n = grind (arith, nat_tests) in
-    let m = n - length (text_of a.reply) in
-    let is : length (text_of a.reply) + m ≡ n = omega arith in
-    let C : ℕ → Type 0 = λ k. Cut (a ∷ answers) k in
-    subst C is (cut_later a answers m one (rest m (omega (arith, length-append (text_of a.reply) (texts answers)))))
-
 pub cut_at : (answers : List Answer) (n : ℕ) → AreOneLine answers → n < length (texts answers) → Cut answers n
 cut_at [] n one h = absurd (omega arith)
-cut_at (a ∷ answers) n one h = cut_by_test a answers n one.0 h (λ m less. cut_at answers m one.1 less) (nat_lt n (length (text_of a.reply))) refl
+cut_at (a ∷ answers) n one h = elim (cases_lt n (length (text_of a.reply))) [
+  | inl within ↦ cut_first a answers n one.0 within
+  | inr past ↦
+      (let m = n - length (text_of a.reply) in
+      let is : length (text_of a.reply) + m ≡ n = omega arith in
+      subst (Cut (a ∷ answers)) is (cut_later a answers m one.0 (cut_at answers m one.1 (omega (arith, length-append (text_of a.reply) (texts answers))))))
+]
 
 pub appends_on : (a b c : Option (List ℕ)) (xs ys all : List ℕ) → Appends a b xs → Appends b c ys → xs ++ ys ≡ all → Appends a c all
 appends_on a b c xs ys all p q e = let A : List ℕ → Type 0 = λ zs. Appends a c zs in subst A e (Appends-trans a b c xs ys p q)
@@ -152,18 +148,15 @@ pub marked_more : (bytes lines text : List ℕ) (line : ℕ) → IsMarked bytes 
 marked_more bytes lines text line m one =
     record {
       counted = omega (arith, newlines-append bytes text, newlines_one text one, m.counted, length-append lines (line ∷ []));
-      within = λ n h. by_test n h (nat_lt n (length bytes)) refl;
-    } where
-      by_test : (n : ℕ) → n < length (bytes ++ text) → (t : Bool) → nat_lt n (length bytes) ≡ t → newlines (take n (bytes ++ text)) < length (lines ++ line ∷ [])
-      by_test n h true e =
-          let below : n < length bytes = grind (arith, nat_tests) in
-          omega (arith, ap newlines (take-append-le n bytes text (omega arith)), m.within n below, length-append lines (line ∷ []))
-      by_test n h false e =
-          let past : length bytes ≤ n = grind (arith, nat_tests) in
-          let k = n - length bytes in
-          let is : length bytes + k ≡ n = omega arith in
-          let part : take n (bytes ++ text) ≡ bytes ++ take k text = ap (λ (j : ℕ). take j (bytes ++ text)) (sym is) ∙ take-append-add bytes text k in
-          omega (arith, ap newlines part, newlines-append bytes (take k text), newlines-part text k one (omega (arith, length-append bytes text)), m.counted, length-append lines (line ∷ []))
+      within = λ n h. elim (cases_lt n (length bytes)) [
+        | inl below ↦ omega (arith, ap newlines (take-append-le n bytes text (omega arith)), m.within n below, length-append lines (line ∷ []))
+        | inr past ↦
+            (let k = n - length bytes in
+            let is : length bytes + k ≡ n = omega arith in
+            let part : take n (bytes ++ text) ≡ bytes ++ take k text = ap (λ (j : ℕ). take j (bytes ++ text)) (sym is) ∙ take-append-add bytes text k in
+            omega (arith, ap newlines part, newlines-append bytes (take k text), newlines-part text k one (omega (arith, length-append bytes text)), m.counted, length-append lines (line ∷ [])))
+      ];
+    }
 
 -- a writer that stopped within some answers stopped within more of them
 pub stops_more : (answers more : List Answer) (old new : Option (List ℕ)) (line : ℕ) → StopsIn answers old new line → StopsIn (answers ++ more) old new line

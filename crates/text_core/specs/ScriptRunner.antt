@@ -1,6 +1,5 @@
 -- What contracts see of a script that is being read.
 use Rattle.std.specs.Prelude.{◌≡◌, ◌≢◌, ℕ, ◌+◌, ◌^◌, ◌<◌, ◌≤◌, ◌⊎◌, List, [], ◌∷◌, ◌++◌, length, MatchResult, Option, Some, None, Result, Ok}
-use Rattle.std.specs.Io.KnownBytes.{Consumes}
 use Rattle.state_core.specs.declared.call.ZoneCall.{ZoneCall}
 use Rattle.text_core.specs.declared.profile.Profile.TheVariants.{Untold}
 use Rattle.text_core.specs.Reply.{newlines}
@@ -110,28 +109,6 @@ pub record Finishes {S : Type 0} (may : Rule S) (start : S) (s : ScriptRunner S)
   pub fault : fault_of input ≡ found
   pub begins : Begins may start (commands_of input)
   pub owes : Owes s.box begins.answers first now
-
--- a read failed after these bytes were read
-pub record BreaksOff {S : Type 0} (may : Rule S) (start : S) (s : ScriptRunner S) (left left_new : Option (List ℕ)) (line : ℕ) (first now : Option (List ℕ)) : Type 0 where
-  pub past : List ℕ
-  pub read : Consumes left left_new past
-  pub has_read : HasRead may start s past first now
-  pub at : line ≡ s.line
-
--- there was no memory for the command of this line of the input, or for the block that it begins
-pub record FindsNoMemory {S : Type 0} (may : Rule S) (asks : Asking S) (start : S) (s : ScriptRunner S) (input : List ℕ) (line : ℕ) (first now : Option (List ℕ)) : Type 0 where
-  pub before : List Numbered
-  pub begins : Begins may start before
-  pub asking : IsAsking asks input before begins.after line ⊎ IsBeginning input before line
-  pub owes : Owes s.box begins.answers first now
-
--- what an error with this fault says about a whole input
-abbrev pub StopsBy : {S : Type 0} → Rule S → Asking S → S → Fault → ScriptRunner S → List ℕ → RunError → (left left_new first now : Option (List ℕ)) → Type 0
-StopsBy may asks start Syntax s input e left left_new first now = Finishes may start s input (Some e) first now
-StopsBy may asks start LongLine s input e left left_new first now = Finishes may start s input (Some e) first now
-StopsBy may asks start Read s input e left left_new first now = BreaksOff may start s left left_new e.line first now
-StopsBy may asks start Write s input e left left_new first now = IsStopped may start input first now e.line
-StopsBy may asks start Memory s input e left left_new first now = FindsNoMemory may asks start s input e.line first now
 
 -- whatever follows these bytes, the run ended with this error, which isn't that of a read, and the replies were written
 pub record HasClosed {S : Type 0} (may : Rule S) (asks : Asking S) (start : S) (past : List ℕ) (e : RunError) (first now : Option (List ℕ)) : Type 0 where

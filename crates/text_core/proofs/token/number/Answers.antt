@@ -1,52 +1,51 @@
-use Rattle.std.proofs.Common.{◌≡◌, ℕ, ◌+◌, ◌*◌, ◌-◌, ◌^◌, ◌<◌, ◌≤◌, true, List, ◌∷◌, length, drop, get_or, sym, ap, ◌∙◌, arith, Some}
+use Rattle.std.proofs.Common.{◌≡◌, ℕ, ◌+◌, ◌*◌, ◌-◌, ◌^◌, ◌<◌, ◌≤◌, true, List, ◌∷◌, length, drop, get_or, sym, ap, ◌∙◌, arith, None, Some}
+use Rattle.std.specs.Char.{is_ascii_digit}
 use Rattle.std.specs.Str.{all_ascii_digits}
 use Rattle.std.specs.Str.Parse.{digits_value, digits_value_after}
-use Rattle.std.proofs.lemmas.List.{at_drop_all}
+use Rattle.std.proofs.lemmas.List.{at_drop_all, at_drop_more}
 use Rattle.std.proofs.lemmas.Bool.Decides.{nat_tests}
-use Rattle.text_core.proofs.Numbers.{drop-ahead, digits_after, digits_stop, value_after, number_of_none, number_of_over, number_of_fits}
+use Rattle.text_core.specs.Token.{number_of}
+use Rattle.text_core.proofs.Numbers.{digits_after, digits_stop, value_after, number_of_none, number_of_over, number_of_fits}
 use Rattle.text_core.proofs.token.number.Goals as goal
 
 -- the state of the loop at a digit, with which the digits that are left begin
-value_at : (xs : List ℕ) (i v : ℕ) → i < length xs → digits_value_after 10 v (drop i xs) ≡ digits_value 10 xs → digits_value_after 10 v (get_or xs i 0 ∷ drop (i + 1) xs) ≡ digits_value 10 xs
-value_at xs i v h e = ap (digits_value_after 10 v) (sym (drop-ahead xs i h)) ∙ e
+module _ (xs : List ℕ) (i v : ℕ) (within : i < length xs) where
+  value_at : digits_value_after 10 v (drop i xs) ≡ digits_value 10 xs → digits_value_after 10 v (get_or xs i 0 ∷ drop (i + 1) xs) ≡ digits_value 10 xs
+  value_at e = sym (at_drop_more (digits_value_after 10 v) xs i 0 within) ∙ e
 
-digits_at : (xs : List ℕ) (i : ℕ) → i < length xs → all_ascii_digits (drop i xs) ≡ all_ascii_digits xs → all_ascii_digits (get_or xs i 0 ∷ drop (i + 1) xs) ≡ all_ascii_digits xs
-digits_at xs i h e = ap all_ascii_digits (sym (drop-ahead xs i h)) ∙ e
+  digits_at : all_ascii_digits (drop i xs) ≡ all_ascii_digits xs → all_ascii_digits (get_or xs i 0 ∷ drop (i + 1) xs) ≡ all_ascii_digits xs
+  digits_at e = sym (at_drop_more all_ascii_digits xs i 0 within) ∙ e
+
+  over_at : digits_value_after 10 v (drop i xs) ≡ digits_value 10 xs → is_ascii_digit (get_or xs i 0) ≡ true → 2 ^ 64 ≤ v * 10 + (get_or xs i 0 - 48) → number_of xs ≡ None
+  over_at e digit large = number_of_over v (get_or xs i 0) (drop (i + 1) xs) xs digit (value_at e) large
 
 pub returns-then-not-is_ascii_digit : goal.returns-then-not-is_ascii_digit
 returns-then-not-is_ascii_digit c =
     let xs = c.args.digits.now in
-    let i = c.loop-digit.digit-index in
-    sym (number_of_none xs (digits_stop (get_or xs i 0) (drop (i + 1) xs) (all_ascii_digits xs) (sym c.if-not-is_ascii_digit.ensures.value) (digits_at xs i c.loop-digit-test.true c.loop-digit.invariant.digits)))
+    let l = c.loop-digit in
+    sym (number_of_none xs (digits_stop (get_or xs l.digit-index 0) (drop (l.digit-index + 1) xs) (all_ascii_digits xs) (sym c.if-not-is_ascii_digit.ensures.value) (digits_at xs l.digit-index l.value c.loop-digit-test.true l.invariant.digits)))
 
 pub returns-in_err-checked_mul : goal.returns-in_err-checked_mul
 returns-in_err-checked_mul c =
-    let xs = c.args.digits.now in
-    let i = c.loop-digit.digit-index in
-    let v = c.loop-digit.value in
-    let large : 2 ^ 64 ≤ v * 10 + (get_or xs i 0 - 48) = omega (arith, c.in_err-checked_mul.ensures) in
-    c.from_residual.ensures ∙ sym (number_of_over v (get_or xs i 0) (drop (i + 1) xs) xs (sym c.if-not-is_ascii_digit.ensures.value) (value_at xs i v c.loop-digit-test.true c.loop-digit.invariant.value) large)
+    let l = c.loop-digit in
+    c.from_residual.ensures ∙ sym (over_at c.args.digits.now l.digit-index l.value c.loop-digit-test.true l.invariant.value (sym c.if-not-is_ascii_digit.ensures.value) (omega (arith, c.in_err-checked_mul.ensures)))
 
 pub returns-in_err-value : goal.returns-in_err-value
 returns-in_err-value c =
-    let xs = c.args.digits.now in
-    let i = c.loop-digit.digit-index in
-    let v = c.loop-digit.value in
-    let large : 2 ^ 64 ≤ v * 10 + (get_or xs i 0 - 48) = omega (arith, c.in_err-value.ensures, c.in_ok-checked_mul.ensures, c.from.ensures) in
-    c.from_residual-in_err-value.ensures ∙ sym (number_of_over v (get_or xs i 0) (drop (i + 1) xs) xs (sym c.if-not-is_ascii_digit.ensures.value) (value_at xs i v c.loop-digit-test.true c.loop-digit.invariant.value) large)
+    let l = c.loop-digit in
+    c.from_residual-in_err-value.ensures ∙ sym (over_at c.args.digits.now l.digit-index l.value c.loop-digit-test.true l.invariant.value (sym c.if-not-is_ascii_digit.ensures.value) (omega (arith, c.in_err-value.ensures, c.in_ok-checked_mul.ensures, c.from.ensures)))
 
 pub loop-digit-preserved : goal.loop-digit-preserved
 loop-digit-preserved c =
     let xs = c.args.digits.now in
-    let i = c.loop-digit.digit-index in
-    let v = c.loop-digit.value in
+    let l = c.loop-digit in
+    let rest : List ℕ = drop (l.digit-index + 1) xs in
     let is_digit = sym c.if-not-is_ascii_digit.ensures.value in
-    let next : c.in_ok-value.value ≡ v * 10 + (get_or xs i 0 - 48) = omega (arith, c.in_ok-value.ensures, c.in_ok-checked_mul.ensures, c.from.ensures) in
+    let next : c.in_ok-value.value ≡ l.value * 10 + (get_or xs l.digit-index 0 - 48) = omega (arith, c.in_ok-value.ensures, c.in_ok-checked_mul.ensures, c.from.ensures) in
     record {
       fits = omega (arith, c.in_ok-value.ensures);
-      digits = digits_after (get_or xs i 0) (drop (i + 1) xs) (all_ascii_digits xs) is_digit (digits_at xs i c.loop-digit-test.true c.loop-digit.invariant.digits);
-      value = ap (λ (n : ℕ). digits_value_after 10 n (drop (i + 1) xs)) next
-          ∙ value_after v (get_or xs i 0) (drop (i + 1) xs) (digits_value 10 xs) is_digit (value_at xs i v c.loop-digit-test.true c.loop-digit.invariant.value);
+      digits = digits_after (get_or xs l.digit-index 0) rest (all_ascii_digits xs) is_digit (digits_at xs l.digit-index l.value c.loop-digit-test.true l.invariant.digits);
+      value = ap (λ (n : ℕ). digits_value_after 10 n rest) next ∙ value_after l.value (get_or xs l.digit-index 0) rest (digits_value 10 xs) is_digit (value_at xs l.digit-index l.value c.loop-digit-test.true l.invariant.value);
     }
 
 pub returns : goal.returns

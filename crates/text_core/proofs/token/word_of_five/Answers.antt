@@ -1,12 +1,8 @@
-use Rattle.std.proofs.Common.{◌≡◌, ℕ, List, [], ◌∷◌, length, get_or, sym, ap, ◌∙◌, refl, arith}
+use Rattle.std.proofs.Common.{◌≡◌, ℕ, List, [], ◌∷◌, length, get_or, ◌∙◌, refl, arith}
 use Rattle.std.specs.Prelude.{codes}
-use Rattle.text_core.specs.declared.token.Token.{Token}
 use Rattle.text_core.specs.declared.token.Token.TheVariants.{Store, Share, Unmap, Unpin, MapAt}
-use Rattle.text_core.specs.Token.{keyword_of}
+use Rattle.text_core.proofs.Words.{by_word}
 use Rattle.text_core.proofs.token.word_of_five.Goals as goal
-
-by_word : (xs word : List ℕ) (t : Token) → xs ≡ word → keyword_of word ≡ t → t ≡ keyword_of xs
-by_word xs word t e f = sym (ap keyword_of e ∙ f)
 
 five : (xs : List ℕ) → length xs ≡ 5 → xs ≡ get_or xs 0 0 ∷ get_or xs 1 0 ∷ get_or xs 2 0 ∷ get_or xs 3 0 ∷ get_or xs 4 0 ∷ []
 five (a ∷ b ∷ c ∷ d ∷ e ∷ []) few = refl

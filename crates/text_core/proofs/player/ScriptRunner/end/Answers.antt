@@ -1,40 +1,36 @@
-use Rattle.std.proofs.Common.{◌≡◌, ◌<◌, ◌-◌, ℕ, List, [], ◌∷◌, length, ap, sym, subst, ◌∙◌, refl, arith, Option, Some, None}
+use Rattle.std.proofs.Common.{◌≡◌, ◌<◌, ◌-◌, ℕ, List, [], ◌∷◌, length, ap, sym, ◌∙◌, refl, arith, Option, Some, None}
 use Rattle.std.specs.Prelude.{option_map}
+use Rattle.std.specs.Option.{option_or}
 use Rattle.text_core.specs.declared.fault.Fault.TheVariants.{Syntax}
+use Rattle.text_core.specs.declared.fault.RunError.{RunError}
 use Rattle.text_core.specs.ScriptRunner.{ScriptRunner, Finishes, HasRead}
 use Rattle.text_core.specs.Runs.{Rule}
-use Rattle.text_core.specs.Script.{Block}
-use Rattle.text_core.proofs.Inputs.{lines_end, read_cut, read_end, read_unended, totals_are}
+use Rattle.text_core.specs.Script.{Block, cut_fault, open_fault}
+use Rattle.text_core.proofs.Inputs.{cut_is, lines_end, read_ends, totals_are}
 use Rattle.text_core.proofs.player.ScriptRunner.end.Goals as goal
 
--- what the end of an input is, given the line at which it is a fault
+-- the fault that the end of an input is, given the line at which it is one
 module _ {S : Type 0} (may : Rule S) (start : S) (s : ScriptRunner S) (input : List ℕ) (first now : Option (List ℕ)) (r : HasRead may start s input first now)
     (cut : Option ℕ) (held : 0 < length s.held → cut ≡ Some s.line) (block : s.held ≡ [] → cut ≡ option_map (λ b. b.line) s.reading.block) where
-  cut_finishes : (line : ℕ) → cut ≡ Some line → Finishes may start s input (Some (record { fault = Syntax; line = line })) first now
-  cut_finishes line is = by_held s.held refl where
-    by_block : (o : Option Block) → s.held ≡ [] → s.reading.block ≡ o → option_map (λ b. b.line) o ≡ Some line → Finishes may start s input (Some (record { fault = Syntax; line = line })) first now
-    by_block None none is_block e = cc
-    by_block (Some b) none is_block e =
-        let F : ℕ → Type 0 = λ n. Finishes may start s input (Some (record { fault = Syntax; line = n })) first now in
-        let same : b.line ≡ line = cc in
-        subst F same (read_unended may start s input b first now r none is_block)
+  abbrev cut_at : Option ℕ → Option RunError
+  cut_at line = option_map (λ n. record { fault = Syntax; line = n }) line
 
-    by_held : (h : List ℕ) → s.held ≡ h → Finishes may start s input (Some (record { fault = Syntax; line = line })) first now
-    by_held [] none = by_block s.reading.block none refl (sym (block none) ∙ is)
+  of_block : (o : Option Block) → open_fault o ≡ cut_at (option_map (λ b. b.line) o)
+  of_block None = refl
+  of_block (Some b) = refl
+
+  cut_finishes : (line : Option ℕ) → cut ≡ line → Finishes may start s input (cut_at line) first now
+  cut_finishes line is = read_ends may start s input (cut_at line) first now r (by_held s.held refl ∙ ap cut_at is) where
+    by_held : (h : List ℕ) → s.held ≡ h → option_or (cut_fault s.line s.held) (open_fault s.reading.block) ≡ cut_at cut
+    by_held [] none = ap (λ h. option_or (cut_fault s.line h) (open_fault s.reading.block)) none ∙ of_block s.reading.block ∙ ap cut_at (sym (block none))
     by_held (b ∷ bytes) some =
-        let F : ℕ → Type 0 = λ n. Finishes may start s input (Some (record { fault = Syntax; line = n })) first now in
         let long : 0 < length s.held = omega (arith, ap length some) in
-        let same : s.line ≡ line = (let e = sym (held long) ∙ is in cc) in
-        subst F same (read_cut may start s input first now r long)
+        ap (λ o. option_or o (open_fault s.reading.block)) (cut_is s.line s.held long r.short) ∙ ap cut_at (sym (held long))
 
-  nothing_begun : cut ≡ None → (s.held ≡ []) × (s.reading.block ≡ None)
-  nothing_begun is = by_held s.held refl where
-    by_block : (o : Option Block) → s.held ≡ [] → s.reading.block ≡ o → option_map (λ b. b.line) o ≡ None → (s.held ≡ []) × (s.reading.block ≡ None)
-    by_block None none outside e = (none, outside)
-    by_block (Some b) none inside e = cc
-
-    by_held : (h : List ℕ) → s.held ≡ h → (s.held ≡ []) × (s.reading.block ≡ None)
-    by_held [] none = by_block s.reading.block none refl (sym (block none) ∙ is)
+  none_held : cut ≡ None → s.held ≡ []
+  none_held is = by_held s.held refl where
+    by_held : (h : List ℕ) → s.held ≡ h → s.held ≡ []
+    by_held [] none = none
     by_held (b ∷ bytes) some = (let e = sym (held (omega (arith, ap length some))) ∙ is in cc)
 
 none_of : (o : Option ℕ) → ((n : ℕ) → o ≡ Some n → ⊥) → o ≡ None
@@ -43,12 +39,15 @@ none_of (Some n) other = absurd (other n refl)
 
 pub returns-in-Some-clause-err : goal.returns-in-Some-clause-err
 returns-in-Some-clause-err g c = λ start input first now read.
-    cut_finishes g.A.Respond.may start c.args.self.now input first now read c.cut_line.result c.cut_line.ensures.held c.cut_line.ensures.block c.in-Some.line c.in-Some.is
+    cut_finishes g.A.Respond.may start c.args.self.now input first now read c.cut_line.result c.cut_line.ensures.held c.cut_line.ensures.block (Some c.in-Some.line) c.in-Some.is
 
 pub returns-clause-ok : goal.returns-clause-ok
+unfolding cut_finishes
 returns-clause-ok g c = λ start input first now read.
     let s = c.args.self.now in
-    let done = nothing_begun g.A.Respond.may start s input first now read c.cut_line.result c.cut_line.ensures.held c.cut_line.ensures.block (none_of c.cut_line.result c.in_default.not-Some) in (
-      read_end g.A.Respond.may start s input first now read done.0 done.1,
-      totals_are _ _ _ _ (ap (λ (t : ScriptRunner _). t.line - 1) c.self.view_is ∙ lines_end g.A.Respond.may start s input first now read done.0) (ap (λ (t : ScriptRunner _). t.replies) c.self.view_is ∙ read.replies),
+    let may = g.A.Respond.may in
+    let cut = c.cut_line.result in
+    let is = none_of cut c.in_default.not-Some in (
+      cut_finishes may start s input first now read cut c.cut_line.ensures.held c.cut_line.ensures.block None is,
+      totals_are _ _ _ _ (ap (λ (t : ScriptRunner _). t.line - 1) c.self.view_is ∙ lines_end may start s input first now read (none_held may start s input first now read cut c.cut_line.ensures.held c.cut_line.ensures.block is)) (ap (λ (t : ScriptRunner _). t.replies) c.self.view_is ∙ read.replies),
     )
