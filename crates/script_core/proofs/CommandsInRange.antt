@@ -5,7 +5,7 @@ use Rattle.std.specs.List.{AllByRecursion}
 use Rattle.text_core.specs.declared.command.BlockLine.{BlockLine}
 use Rattle.text_core.specs.declared.command.BlockLine.TheVariants.{Client, End}
 use Rattle.text_core.specs.declared.command.Command.{Command}
-use Rattle.text_core.specs.declared.command.Command.TheVariants.{Open, On, Compact, Pool, During, Profile2, OutOfRange}
+use Rattle.text_core.specs.declared.command.Command.TheVariants.{During}
 use Rattle.text_core.specs.declared.error.ScriptError.{ScriptError}
 use Rattle.text_core.specs.declared.profile.Profile.{Profile}
 use Rattle.text_core.specs.Line.{line_within, line_of}
@@ -32,12 +32,7 @@ onto_ranged (Err fault) behind r s = tt
 
 command_ranged : (profile : Profile) (line : ℕ) (c : Command) → IsInRange c → IfSome (command_comes profile line c).ended (λ d. IsInRange d.command)
 command_ranged profile line (During zone) r = tt
-command_ranged profile line (Open zone blocks) r = r
-command_ranged profile line (On zone calls) r = r
-command_ranged profile line (Compact zone) r = r
-command_ranged profile line (Pool zone count blocks) r = r
-command_ranged profile line Profile2 r = r
-command_ranged profile line OutOfRange r = r
+command_ranged profile line _ r = r
 
 outside_ranged : (profile : Profile) (line : ℕ) (says : Result (Option Command) ScriptError) → SaysInRange says → ComesInRange (comes_outside profile line says)
 outside_ranged profile line (Ok (Some command)) r = command_ranged (profile_told command profile) line command r

@@ -1,6 +1,5 @@
 -- The counts of a valid zone add up, and so do those of each reply.
 use Rattle.std.proofs.Common.{◌≡◌, ℕ, ◌*◌, ◌<◌, ◌≤◌, Bool, true, false, List, [], ◌∷◌, refl, sym, ap, subst, ◌∙◌, Option, Some, None}
-use Rattle.std.specs.Prelude.{nat_eq, if◌then◌else◌}
 use Rattle.std.specs.List.{AllByRecursion}
 use Rattle.std.specs.Option.{option_or}
 use Rattle.machine_core.specs.World.{IsOrderly, WorldState, world_opened}
@@ -9,21 +8,18 @@ use Rattle.text_core.specs.declared.command.Call.TheVariants.{Info, InfoWithHeld
 use Rattle.text_core.specs.declared.command.Calls.{Calls}
 use Rattle.text_core.specs.declared.command.Calls.TheVariants.{Zone, One, Series as SeriesOf}
 use Rattle.text_core.specs.declared.command.Command.{Command}
-use Rattle.text_core.specs.declared.command.Command.TheVariants.{Open, On, Compact, Pool, Profile2, OutOfRange, During}
+use Rattle.text_core.specs.declared.command.Command.TheVariants.{Open, Compact, Pool, During}
 use Rattle.text_core.specs.declared.reply.Reply.{Reply}
 use Rattle.text_core.specs.declared.reply.Reply.TheVariants as reply
 use Rattle.text_core.proofs.Ranges.{IsInRange}
-use Rattle.machine_core.specs.Machine.{Step, answered, call_step, calls_step, declined, step, during_on}
+use Rattle.machine_core.specs.Machine.{Step, call_step, calls_step, step, during_on}
 use Rattle.text_core.specs.Script.{Numbered, commands_of, parts_of, by}
-use Rattle.machine_core.specs.Replies.{answers_of}
-use Rattle.script_core.specs.MachineByHand.{answers_by_hand, step_by_hand}
 use Rattle.script_core.specs.Counts.{AddsUpTo, CountsAddUp, frames_in, frames_of}
 use Rattle.text_core.specs.Grammar.{zone_of}
-use Rattle.script_core.proofs.MachineByHand.{machine_by_hand}
 use Rattle.script_core.proofs.CommandsInRange.{AreInRange, commands_ranged}
-use Rattle.script_core.proofs.Machines.{Goes, IsMachine, answers_by, answers_to, is_of_rounds, runs_rounds}
+use Rattle.script_core.proofs.Machines.{Goes, IsMachine, answers_by, answers_to, by_other, is_of_rounds, runs_rounds}
 use Rattle.script_core.proofs.Replies.{has_counts, plain_call, plain_make, plain_series}
-use Rattle.script_core.proofs.Runs.{goes_by, one_thread, opened_orderly}
+use Rattle.script_core.proofs.Runs.{goes_by, opened_orderly}
 use Rattle.text_core.specs.declared.profile.Profile.TheVariants.{Untold}
 
 adds_plain : (frames : Option ℕ) (r : Reply) → has_counts r ≡ false → AddsUpTo frames r
@@ -34,7 +30,7 @@ adds_plain frames _ h = tt
 adds_call : (w : WorldState) → IsOrderly w → (c : Call) → AddsUpTo (Some (512 * w.zone.blocks)) (call_step w c).reply
 adds_call w o Info = ap Some (sym o.valid.sum)
 adds_call w o InfoWithHeld = ap Some (sym o.valid.sum)
-adds_call w o c = adds_plain (Some (512 * w.zone.blocks)) _ (plain_call w c refl)
+adds_call w o c = adds_plain (Some (512 * w.zone.blocks)) _ (plain_call w c refl).0
 
 adds_calls : (w : WorldState) → IsOrderly w → (c : Calls) → AddsUpTo (Some (512 * w.zone.blocks)) (calls_step w c).reply
 adds_calls w o (Zone c) = adds_plain (Some (512 * w.zone.blocks)) _ (plain_make w c)
@@ -47,19 +43,7 @@ adds_of_rounds frames (reply.InfoWithHeld i) h = cc
 adds_of_rounds frames _ h = tt
 
 adds_other : (places : ℕ) (w : WorldState) → IsOrderly w → (c : Command) → runs_rounds c ≡ false → AddsUpTo (Some (512 * w.zone.blocks)) (step places (Some w) c).reply
-adds_other places w o OutOfRange h = tt
-adds_other places w o Profile2 h = tt
-adds_other places w o (Open zone blocks) h = tt
-adds_other places w o (Compact zone) h = cc
-adds_other places w o (Pool zone count blocks) h = cc
-adds_other places w o (During number) h = by_zone (zone_of number) where
-  by_zone : (z : Option ℕ) → AddsUpTo (Some (512 * w.zone.blocks)) (during_on z (Some w)).reply
-  by_zone None = tt
-  by_zone (Some zone) = tt
-adds_other places w o (On zone calls) h = by_number (nat_eq zone w.zone.number) where
-  by_number : (b : Bool) → AddsUpTo (Some (512 * w.zone.blocks)) (if b then answered (calls_step w calls) else declined 43 (Some w)).reply
-  by_number true = adds_calls w o calls
-  by_number false = tt
+adds_other places w o = by_other places (λ c s. AddsUpTo (Some (512 * w.zone.blocks)) s.reply) w (λ c number. tt) tt (λ zone calls. adds_calls w o calls)
 
 -- in any machine
 module _ (places : ℕ) (steps : Option WorldState → Command → Step) (m : IsMachine places steps) where
@@ -96,9 +80,6 @@ module _ (places : ℕ) (steps : Option WorldState → Command → Step) (m : Is
 
   adds_first : (0 < places) × (places ≤ 65536) → (c : Command) (commands : List Numbered) → IsInRange c → AreInRange commands → CountsAddUp commands (answers_by steps None commands)
       → AddFrom (option_or (frames_in c) (frames_of commands)) commands (steps None c)
-  adds_first range OutOfRange commands r ranged rest = other_adds (frames_of commands) commands OutOfRange refl (tt, rest)
-  adds_first range Profile2 commands r ranged rest = other_adds (frames_of commands) commands Profile2 refl (tt, rest)
-  adds_first range (On zone calls) commands r ranged rest = other_adds (frames_of commands) commands (On zone calls) refl (tt, rest)
   adds_first range (Pool zone count blocks) commands r ranged rest = rounds_add (frames_of commands) commands (Pool zone count blocks) refl rest
   adds_first range (Compact zone) commands r ranged rest = rounds_add (frames_of commands) commands (Compact zone) refl rest
   adds_first range (During number) commands r ranged rest = other_adds (frames_of commands) commands (During number) refl (by_zone (zone_of number)) where
@@ -107,6 +88,7 @@ module _ (places : ℕ) (steps : Option WorldState → Command → Step) (m : Is
     by_zone (Some zone) = (tt, rest)
   adds_first range (Open zone blocks) commands r ranged rest =
       other_adds (Some (512 * blocks)) commands (Open zone blocks) refl (tt, open_adds (Some (512 * blocks)) commands ranged (world_opened zone blocks places) (opened_orderly zone blocks places r range) refl)
+  adds_first range c commands r ranged rest = other_adds (frames_of commands) commands c refl (tt, rest)
 
   adds : (0 < places) × (places ≤ 65536) → (commands : List Numbered) → AreInRange commands → CountsAddUp commands (answers_by steps None commands)
   adds range [] ranged = tt
@@ -114,9 +96,3 @@ module _ (places : ℕ) (steps : Option WorldState → Command → Step) (m : Is
 
   pub counts_added_by : (0 < places) × (places ≤ 65536) → (input : List ℕ) → CountsAddUp (commands_of input) (answers_to steps input)
   counts_added_by range input = adds range (commands_of input) (commands_ranged (by Untold) 1 (parts_of input))
-
-pub counts_added : (places : ℕ) → (0 < places) × (places ≤ 65536) → (input : List ℕ) → CountsAddUp (commands_of input) (answers_of places input)
-counts_added places range input = counts_added_by places (step places) (one_thread places) range input
-
-pub counts_added_by_hand : (places : ℕ) → (0 < places) × (places ≤ 65536) → (input : List ℕ) → CountsAddUp (commands_of input) (answers_by_hand places input)
-counts_added_by_hand places range input = counts_added_by places (step_by_hand places) (machine_by_hand places) range input

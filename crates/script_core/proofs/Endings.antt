@@ -1,8 +1,9 @@
 -- What clap's answer makes where it isn't options.
-use Rattle.std.proofs.Common.{◌≡◌, ◌⊎◌, ◌||◌, ◌&&◌, ℕ, Bool, true, false, IsTrue, List, [], ◌∷◌, take, refl, ap, subst, sym, ◌∙◌, inl, inr, Option, Result, Ok, Err}
+use Rattle.std.proofs.Common.{◌≡◌, ◌⊎◌, ◌&&◌, ℕ, Bool, true, false, IsTrue, List, [], ◌∷◌, take, refl, ap, subst, sym, ◌∙◌, inl, inr, arith, Option, Result, Ok, Err}
 use Rattle.std.specs.Prelude.{IfErr, OnErr, OnOk}
 use Rattle.std.specs.Io.KnownBytes.{Appends}
 use Rattle.std.specs.List.{list_all, list_any}
+use Rattle.std.proofs.lemmas.Bool.{or_parts, true≢false}
 use Rattle.clap.specs.Kinds.{HasKind, IsAmong, Kinds}
 use Rattle.clap.specs.Values.{kind_of}
 use Rattle.clap.specs.declared.error.Error.{Error}
@@ -12,18 +13,10 @@ use Rattle.script_core.specs.Status.{status_of}
 use Rattle.script_core.specs.CommandLine.{is_help}
 use Rattle.script_core.specs.Stops.{FailsIn}
 
-left_false : (a b : Bool) → (a || b) ≡ false → a ≡ false
-left_false true b e = cc
-left_false false b e = refl
-
-right_false : (a b : Bool) → (a || b) ≡ false → b ≡ false
-right_false true b e = cc
-right_false false b e = e
-
 among_no_help : (kinds : Kinds) (k : ErrorKind) → IsAmong k kinds → list_any is_help kinds ≡ false → is_help k ≡ false
 among_no_help [] k among none = absurd among
-among_no_help (x ∷ xs) k (inl same) none = ap is_help same ∙ left_false (is_help x) _ none
-among_no_help (x ∷ xs) k (inr among) none = among_no_help xs k among (right_false (is_help x) _ none)
+among_no_help (x ∷ xs) k (inl same) none = ap is_help same ∙ (or_parts (is_help x) _ none).0
+among_no_help (x ∷ xs) k (inr among) none = among_no_help xs k among (or_parts (is_help x) _ none).1
 
 -- an answer whose kinds have no help among them isn't help
 pub no_help : (kinds : Kinds) (e : Error) → HasKind kinds e → list_any is_help kinds ≡ false → is_help (kind_of e) ≡ false
@@ -64,9 +57,7 @@ among_refused (x ∷ xs) k (inr among) none = false_of_right (is_help x) (list_a
 
 -- the status 2 isn't given to words that ask only for help
 pub two_refuses : (kinds : Kinds) (e : Error) → HasKind kinds e → status_of (kind_of e) ≡ 2 → list_all is_help kinds ≡ false
-two_refuses kinds e (inl memory) two = absurd (one_not_two (sym (ap status_of memory) ∙ two)) where
-  one_not_two : ◌≡◌ {A = ℕ} 1 2 → ⊥
-  one_not_two same = cc
+two_refuses kinds e (inl memory) two = let bad : ◌≡◌ {A = ℕ} 1 2 = sym (ap status_of memory) ∙ two in absurd (omega arith)
 two_refuses kinds e (inr among) two = among_refused kinds (kind_of e) among (two_is_no_help (kind_of e) two)
 
 -- help gives the status 0
@@ -77,9 +68,7 @@ help_ends _ is = cc
 
 help_or : (b : Bool) (k : ErrorKind) (kinds : Kinds) → is_help k ≡ b → IsAmong k kinds → list_all is_help kinds ≡ true → status_of k ≡ 0
 help_or true k kinds is among all = help_ends k is
-help_or false k kinds is among all = absurd (true_not_false (sym all ∙ among_refused kinds k among is)) where
-  true_not_false : true ≡ false → ⊥
-  true_not_false same = cc
+help_or false k kinds is among all = absurd (true≢false (sym all ∙ among_refused kinds k among is))
 
 -- words that ask only for help get it, or memory ran out
 pub helped : (kinds : Kinds) (e : Error) (status : ℕ) (M : Type 0) → status ≡ status_of (kind_of e) → HasKind kinds e → list_all is_help kinds ≡ true → (kind_of e ≡ OutOfMemory → M) → (status ≡ 0) ⊎ M

@@ -1,11 +1,9 @@
 -- A machine with threads beside the machine that makes its rounds by hand.
 use Rattle.std.proofs.Common.{◌≡◌, ℕ, ◌-◌, ◌<◌, ◌≤◌, Bool, true, false, not, ◌&&◌, ◌||◌, List, [], ◌∷◌, length, refl, sym, ap, subst, ◌∙◌, inl, inr, arith, Option, Some, None}
-use Rattle.std.specs.Prelude.{⊤, IfOk, IsTrue, Result, Ok, Err, map, nat_eq, nat_lt, replicate, if◌then◌else◌}
+use Rattle.std.specs.Prelude.{⊤, IsTrue, Result, Ok, Err, map, nat_eq, replicate, if◌then◌else◌}
 use Rattle.std.specs.List.{AllByRecursion, list_any}
-use Rattle.std.proofs.lemmas.Bool.{and_parts, eq-eqb, false≢true, false_from_ne_true, or_parts, true≢false}
+use Rattle.std.proofs.lemmas.Bool.{and_parts, eq-eqb, false≢true, false_from_ne_true, not-true, or_parts, true≢false}
 use Rattle.frame_core.specs.Moves.{out}
-use Rattle.state_core.specs.declared.error.ZoneError.{ZoneError}
-use Rattle.state_core.specs.declared.error.ZoneError.TheVariants.{Missing, Out}
 use Rattle.state_core.specs.Valid.{IsValidZone}
 use Rattle.state_core.specs.ZoneState.{ZoneState}
 use Rattle.zone_core.specs.Alone.{IsAtRest}
@@ -23,7 +21,7 @@ use Rattle.round_core.specs.Errors.{number_of}
 use Rattle.round_core.specs.Rounds.{IsRefusedEarly, IsRound, IsWant}
 use Rattle.huge_core.specs.ByHand.{NoneFailed, Reservation, frames_of, reservation_for, reserved_by_hand, rounds_for, stop_for}
 use Rattle.huge_core.specs.Huge.{Huge}
-use Rattle.huge_core.specs.Reserving.{AreLeft, HasRun}
+use Rattle.huge_core.specs.Reserving.{HasRun}
 use Rattle.huge_core.specs.declared.collector.Collector.{Collector}
 use Rattle.huge_core.specs.declared.report.Report.{Report}
 use Rattle.huge_core.specs.declared.report.Stop.{Stop as PoolStop}
@@ -31,7 +29,7 @@ use Rattle.huge_core.specs.declared.report.Stop.TheVariants as pool_stop
 use Rattle.huge_core.proofs.SameByHand.{AreSame, by_hand_same, reserved_same, rest_by_hand, same_refl, same_sym, same_trans, stop_same}
 use Rattle.text_core.specs.declared.command.Calls.{Calls}
 use Rattle.text_core.specs.declared.command.Command.{Command}
-use Rattle.text_core.specs.declared.command.Command.TheVariants.{Open, On, Compact, Pool, During, Profile2, OutOfRange}
+use Rattle.text_core.specs.declared.command.Command.TheVariants.{Open, On, Compact, Pool, During}
 use Rattle.text_core.specs.declared.pool.PoolBlocks.{PoolBlocks}
 use Rattle.text_core.specs.declared.pool.PoolStopped.TheVariants as pool_stopped
 use Rattle.text_core.specs.declared.reply.Reply.{Reply}
@@ -50,7 +48,7 @@ use Rattle.script_core.proofs.RoundsByHand.{reserved_rests}
 use Rattle.script_core.proofs.Runs.{keeps_calls, opened_orderly}
 use Rattle.script_core.proofs.Worlds.{calls_alike}
 use Rattle.script_core.specs.ByHand.{Followed, To, NoLonger, IsNoBlock, IsByHandStep, IsReplyByHand, IsUnbegun, HasFailed, OpensByHand}
-use Rattle.script_core.specs.WithThreads.{AsksMemory, ComesToByHand, IsBlockFor, IsDoneByHand, IsPoolOn, IsRoundOn, IsStepAt, IsStepBy, IsThreadedStep, IsWorkStep, Settles, WithThreads, is_threaded, left_by, round_reply, threaded_at_first, told_of}
+use Rattle.script_core.specs.WithThreads.{AsksMemory, IsBlockFor, IsDoneByHand, IsPoolOn, IsRoundOn, IsStepAt, IsStepBy, IsThreadedStep, IsWorkStep, Settles, WithThreads, is_threaded, left_by, round_reply, threaded_at_first, told_of}
 use Rattle.script_core.proofs.Pools.{whole_after}
 use Rattle.script_core.proofs.RunsAs.{Goes}
 
@@ -91,11 +89,11 @@ record GoesOn (places : ℕ) (world : Option WorldState) (command : Command) (an
 
 -- a step of the machine by hand that gives this reply and leaves such a world
 done_as : (places : ℕ) (world : Option WorldState) (command : Command) (answer : Reply) (new : WithThreads) (s : Step) → step_by_hand places world command ≡ s
-    → answer ≡ s.reply → new.broken ≡ None → new.single.places ≡ places → Beside new.single.world s.world → GoesOn places world command answer new
-done_as places world command answer new s is told whole same_places with = record {
+    → answer ≡ s.reply → Follows places new (To s.world) → GoesOn places world command answer new
+done_as places world command answer new s is told follows = record {
   beside = To s.world;
   step = inl (told ∙ ap (λ (t : Step). t.reply) (sym is), ap (λ (t : Step). To t.world) (sym is));
-  related = (whole, same_places, with);
+  related = follows;
 }
 
 -- steps of both machines that give the same reply
@@ -107,15 +105,14 @@ record StepsAlike (a b : Step) : Type 0 where
 if_alike : (a b : Bool) → a ≡ b → (x x' y y' : Step) → StepsAlike x y → StepsAlike x' y' → StepsAlike (if a then x else x') (if b then y else y')
 if_alike true true e x x' y y' is other = is
 if_alike false false e x x' y y' is other = other
-if_alike true false e x x' y y' is other = cc
-if_alike false true e x x' y y' is other = cc
+if_alike _ _ e x x' y y' is other = cc
 
 alike_follows : (places : ℕ) (old : WithThreads) (world : Option WorldState) (command : Command) (answer : Reply) (new : WithThreads) → old.single.places ≡ places
     → StepsAlike (step places old.single.world command) (step_by_hand places world command) → IsStep old.single command answer new.single → new.broken ≡ None → GoesOn places world command answer new
 alike_follows places old world command answer new same_places alike is whole =
     let here : record { reply = answer; world = new.single.world } ≡ step places old.single.world command = is.step_is ∙ ap (λ n. step n old.single.world command) same_places in
-    done_as places world command answer new (step_by_hand places world command) refl (ap (λ (t : Step). t.reply) here ∙ alike.reply) whole (is.places_are ∙ same_places)
-    (subst (λ (o : Option WorldState). Beside o (step_by_hand places world command).world) (sym (ap (λ (t : Step). t.world) here)) alike.world)
+    done_as places world command answer new (step_by_hand places world command) refl (ap (λ (t : Step). t.reply) here ∙ alike.reply)
+    (whole, is.places_are ∙ same_places, rw (ap (λ (t : Step). t.world) here) alike.world)
 
 opened_same : (zone blocks places : ℕ) → IsSameWorld (world_opened zone blocks places) (world_opened zone blocks places)
 opened_same zone blocks places = record { zone = same_refl (world_opened zone blocks places).zone; is_open = refl; in_round = λ e. absurd (false≢true e); waiting = refl; hands = refl }
@@ -126,8 +123,7 @@ module _ (places : ℕ) (range : (0 < places) × (places ≤ 65536)) where
       let orderly = opened_orderly zone blocks places some range in
       record { reply = refl; world = record { same = opened_same zone blocks places; orderly = orderly; orderly_by_hand = orderly } }
   open_alike (Some v) (Some w) with zone blocks some = record { reply = refl; world = with }
-  open_alike None (Some w) with zone blocks some = absurd with
-  open_alike (Some v) None with zone blocks some = absurd with
+  open_alike _ _ with zone blocks some = absurd with
 
   calls_on : (v w : Option WorldState) → Beside v w → (zone : ℕ) (c : Calls) → IsInRange (On zone c) → StepsAlike (step places v (On zone c)) (step places w (On zone c))
   calls_on None None with zone c ranged = record { reply = refl; world = tt }
@@ -140,8 +136,7 @@ module _ (places : ℕ) (range : (0 < places) × (places ≤ 65536)) where
         world = record { same = alike.world; orderly = (keeps_calls v with.orderly zone c ranged).orderly; orderly_by_hand = (keeps_calls w with.orderly_by_hand zone c ranged).orderly };
       })
       (record { reply = refl; world = with })
-  calls_on None (Some w) with zone c ranged = absurd with
-  calls_on (Some v) None with zone c ranged = absurd with
+  calls_on _ _ with zone c ranged = absurd with
 
 -- work over a zone that isn't open, or while a hand round is open, is refused alike
 
@@ -149,35 +144,25 @@ refused_alike : (v w : WorldState) → AreBeside v w → (a b o p : Bool) → a 
     → StepsAlike (declined (if a then (if o then 45 else number) else 43) (Some v)) (if b then answered (if p then refused 45 w else other) else declined 43 (Some w))
 refused_alike v w with true true true true e f r other number = record { reply = refl; world = with }
 refused_alike v w with false false o p e f r other number = record { reply = refl; world = with }
-refused_alike v w with true true false false e f r other number = cc
-refused_alike v w with true true true false e f r other number = cc
-refused_alike v w with true true false true e f r other number = cc
-refused_alike v w with true false o p e f r other number = cc
-refused_alike v w with false true o p e f r other number = cc
+refused_alike v w with _ _ _ _ e f r other number = cc
 
 compact_alike : (v w : Option WorldState) → Beside v w → (zone : ℕ) → is_at_rest zone v ≡ false → StepsAlike (compact_on zone v) (work_by_hand zone round_by_hand w)
 compact_alike None None with zone r = record { reply = refl; world = tt }
 compact_alike (Some v) (Some w) with zone r =
     refused_alike v w with (nat_eq zone v.zone.number) (nat_eq zone w.zone.number) v.is_open w.is_open (ap (nat_eq zone) with.same.zone.number) with.same.is_open r (round_by_hand w) 32
-compact_alike None (Some w) with zone r = absurd with
-compact_alike (Some v) None with zone r = absurd with
+compact_alike _ _ with zone r = absurd with
 
 pool_refused : (v w : WorldState) → AreBeside v w → (a b o p : Bool) → a ≡ b → o ≡ p → (a && not o) ≡ false → (one other : Answered)
     → StepsAlike (if a then answered (if o then refused 45 v else one) else declined 43 (Some v)) (if b then answered (if p then refused 45 w else other) else declined 43 (Some w))
 pool_refused v w with true true true true e f r one other = record { reply = refl; world = with }
 pool_refused v w with false false o p e f r one other = record { reply = refl; world = with }
-pool_refused v w with true true false false e f r one other = cc
-pool_refused v w with true true true false e f r one other = cc
-pool_refused v w with true true false true e f r one other = cc
-pool_refused v w with true false o p e f r one other = cc
-pool_refused v w with false true o p e f r one other = cc
+pool_refused v w with _ _ _ _ e f r one other = cc
 
 pool_alike : (v w : Option WorldState) → Beside v w → (zone count : ℕ) (blocks : PoolBlocks) → is_at_rest zone v ≡ false → StepsAlike (pool_on zone count blocks v) (work_by_hand zone (pool_by_hand 4 count blocks) w)
 pool_alike None None with zone count blocks r = record { reply = refl; world = tt }
 pool_alike (Some v) (Some w) with zone count blocks r =
     pool_refused v w with (nat_eq zone v.zone.number) (nat_eq zone w.zone.number) v.is_open w.is_open (ap (nat_eq zone) with.same.zone.number) with.same.is_open r (pool_from blocks [] count v) (pool_by_hand 4 count blocks w)
-pool_alike None (Some w) with zone count blocks r = absurd with
-pool_alike (Some v) None with zone count blocks r = absurd with
+pool_alike _ _ with zone count blocks r = absurd with
 
 -- worlds in which no hand round is open
 
@@ -214,16 +199,9 @@ closed_beside zone scan ends z scan_z ends_z same rest whole rest_z whole_z = re
   orderly_by_hand = closed_orderly z scan_z ends_z rest_z whole_z;
 }
 
--- the machine that work over a zone left, where its audit passes
-
-left_alone : (places : ℕ) (client : Client) (zone : ZoneState) (scan : ScanSeat) (ends : EndSeat) (refusal : Option ZoneError) (new : WithThreads) → refusal ≡ None → new ≡ left_by places client zone scan ends refusal
-    → new ≡ left_by places client zone scan ends None
-left_alone places client zone scan ends refusal new passes is = is ∙ ap (left_by places client zone scan ends) passes
-
+-- an audit passes after work over a zone
 audit_passes : (zone : ZoneState) (ends : EndSeat) → out zone.records ≡ [] → ends.parts ≡ 64 → audit_refusal zone ends ≡ None
-audit_passes zone ends none whole =
-    ap (λ (n : ℕ). if not (nat_eq n 64) then Some Missing else if nat_lt 0 (length (out zone.records)) then Some Out else None) whole
-    ∙ ap (λ (serials : List ℕ). if nat_lt 0 (length serials) then Some Out else None) none
+audit_passes zone ends none whole = rw (whole, none) refl
 
 module _ (v w : WorldState) (with : AreBeside v w) (closed : v.is_open ≡ false) where
   rest_v : IsAtRest v.zone
@@ -261,25 +239,19 @@ module _ (v w : WorldState) (with : AreBeside v w) (closed : v.is_open ≡ false
 
   module _ (places : ℕ) (client : Client) (zone_number : ℕ) (answer : Reply) (new : WithThreads) (is : step_by_hand places (Some w) (Compact zone_number) ≡ answered (round_by_hand w)) (on : IsRoundOn v places client answer new) where
     passed : Settles on.over.result → new ≡ left_by places client on.over.zone on.over.scan on.over.ends None
-    passed settles = left_alone places client on.over.zone on.over.scan on.over.ends _ new (on.over.settled settles) on.left
+    passed settles = rw (on.over.settled settles) at on.left
 
     unbegun : (error : RoundError) → on.over.result ≡ Err error → IsWant error → IsUnbegun (Compact zone_number) answer → GoesOn places (Some w) (Compact zone_number) answer new
     unbegun error result want told =
         let settles = subst Settles (sym result) want in
         let after = passed settles in
-        let E : Result Round RoundError → Type 0 = λ r. IsRefusedEarly v.scan on.over.scan v.ends on.over.ends r in
-        let early : IsRefusedEarly v.scan on.over.scan v.ends on.over.ends (Err error) = subst E result on.over.early in
-        let C : Result Round RoundError → Type 0 = λ r. ComesToByHand v.zone on.over.zone r in
-        let same : IsSame v.zone on.over.zone = subst C result on.by_hand want in
+        let early : IsRefusedEarly v.scan on.over.scan v.ends on.over.ends (Err error) = rw result at on.over.early in
+        let same : IsSame v.zone on.over.zone = (rw result at on.by_hand) want in
         let whole : on.over.ends.parts ≡ 64 = ap (λ (e : EndSeat). e.parts) (early.same (early.want want)).1 ∙ with.orderly.whole in
         record {
           beside = To (Some w);
           step = inr (inl (told, refl));
-          related = (
-            ap (λ (t : WithThreads). t.broken) after,
-            ap (λ (t : WithThreads). t.single.places) after,
-            subst (λ (o : Option WorldState). Beside o (Some w)) (sym (ap (λ (t : WithThreads). t.single.world) after)) (same_world_as_before on.over.zone on.over.scan on.over.ends on.over.kept.valid whole same),
-          );
+          related = rw after (refl, refl, same_world_as_before on.over.zone on.over.scan on.over.ends on.over.kept.valid whole same);
         }
 
     failed : HasFailed (Compact zone_number) answer → GoesOn places (Some w) (Compact zone_number) answer new
@@ -288,14 +260,10 @@ module _ (v w : WorldState) (with : AreBeside v w) (closed : v.is_open ≡ false
     done : (r : Round) → on.over.result ≡ Ok r → GoesOn places (Some w) (Compact zone_number) answer new
     done r result =
         let after = passed (subst Settles (sym result) tt) in
-        let C : Result Round RoundError → Type 0 = λ x. ComesToByHand v.zone on.over.zone x in
-        let d : IsDoneByHand v.zone on.over.zone r = subst C result on.by_hand in
-        let O : Result Round RoundError → Type 0 = λ x. IfOk x (λ k. IsRound v.scan on.over.scan v.ends on.over.ends k) in
-        let round : IsRound v.scan on.over.scan v.ends on.over.ends r = subst O result on.over.round in
+        let d : IsDoneByHand v.zone on.over.zone r = rw result at on.by_hand in
+        let round : IsRound v.scan on.over.scan v.ends on.over.ends r = rw result at on.over.round in
         done_as places (Some w) (Compact zone_number) answer new (answered (round_by_hand w)) is (on.answer_is ∙ ap round_reply result ∙ done_reply on.over.zone r d)
-        (ap (λ (t : WithThreads). t.broken) after) (ap (λ (t : WithThreads). t.single.places) after)
-        (subst (λ (o : Option WorldState). Beside o (Some (round_by_hand w).world)) (sym (ap (λ (t : WithThreads). t.single.world) after))
-        (round_world on.over.zone on.over.scan on.over.ends on.over.kept.valid round.whole d.same))
+        (rw after (refl, refl, round_world on.over.zone on.over.scan on.over.ends on.over.kept.valid round.whole d.same))
 
     round_goes : GoesOn places (Some w) (Compact zone_number) answer new
     round_goes = by_result on.over.result refl where
@@ -343,18 +311,14 @@ module _ (v w : WorldState) (with : AreBeside v w) (closed : v.is_open ≡ false
         let rest_at_w = (reserved_rests (pool_order blocks) order.0 order.1 4 count w.zone (rest_w v w with closed)).rest in
         let none_out : out on.zone.records ≡ [] = zone_w.out_is ∙ rest_at_w.none_out in
         let whole = whole_left on.collector v.scan on.scan v.ends on.ends on.report with.orderly.whole on.ran left in
-        let after = left_alone places client on.zone on.scan on.ends _ new (audit_passes on.zone on.ends none_out whole) on.left in
+        let after : new ≡ left_by places client on.zone on.scan on.ends None = rw (audit_passes on.zone on.ends none_out whole) at on.left in
         done_as places (Some w) (Pool number count blocks) answer new (answered (pool_by_hand 4 count blocks w)) is told
-        (ap (λ (t : WithThreads). t.broken) after) (ap (λ (t : WithThreads). t.single.places) after)
-        (subst (λ (o : Option WorldState). Beside o (Some (pool_by_hand 4 count blocks w).world)) (sym (ap (λ (t : WithThreads). t.single.world) after))
-        (closed_beside on.zone on.scan on.ends at_w.zone w.scan w.ends zone_w (record { valid = on.kept.valid; none_out = none_out }) whole rest_at_w with.orderly_by_hand.whole))
+        (rw after (refl, refl, closed_beside on.zone on.scan on.ends at_w.zone w.scan w.ends zone_w (record { valid = on.kept.valid; none_out = none_out }) whole rest_at_w with.orderly_by_hand.whole))
 
     -- the number of a refusal of a round
     of_round : (error : RoundError) → (31 ≤ number_of error) × (number_of error ≤ 34)
     of_round Memory = (omega arith, omega arith)
-    of_round NoWorker = (omega arith, omega arith)
-    of_round Broken = (omega arith, omega arith)
-    of_round (Stranger serial) = (omega arith, omega arith)
+    of_round _ = (omega arith, omega arith)
 
     pool_failed : (error : RoundError) → on.report.stop ≡ pool_stop.Refused error → GoesOn places (Some w) (Pool number count blocks) answer new
     pool_failed error stops =
@@ -364,23 +328,14 @@ module _ (v w : WorldState) (with : AreBeside v w) (closed : v.is_open ≡ false
 
     pool_goes : GoesOn places (Some w) (Pool number count blocks) answer new
     pool_goes = by_stop on.report.stop refl where
-      left_as : (stop : PoolStop) → on.report.stop ≡ stop → AreLeft stop on.ran.scan_after on.scan on.ran.ends_after on.ends
-      left_as stop stops = subst (λ s. AreLeft s on.ran.scan_after on.scan on.ran.ends_after on.ends) stops on.ran.left
-
       by_stop : (stop : PoolStop) → on.report.stop ≡ stop → GoesOn places (Some w) (Pool number count blocks) answer new
-      by_stop pool_stop.Enough stops = pool_done pool_stop.Enough stops refl refl tt (left_as pool_stop.Enough stops).1
-      by_stop pool_stop.NoBlock stops = pool_done pool_stop.NoBlock stops refl refl tt (left_as pool_stop.NoBlock stops).1
-      by_stop pool_stop.Rounds stops = pool_done pool_stop.Rounds stops refl refl tt (left_as pool_stop.Rounds stops).1
-      by_stop pool_stop.JournalFull stops = pool_done pool_stop.JournalFull stops refl refl tt (left_as pool_stop.JournalFull stops).1
       by_stop (pool_stop.Refused error) stops = pool_failed error stops
+      by_stop stop stops = pool_done stop stops refl refl tt (rw stops at on.ran.left).1
 
 -- work over a zone at rest
 
 at_rest_parts : (zone : ℕ) (v : WorldState) → is_at_rest zone (Some v) ≡ true → (nat_eq zone v.zone.number ≡ true) × (v.is_open ≡ false)
-at_rest_parts zone v rest = let both = and_parts (nat_eq zone v.zone.number) (not v.is_open) rest in (both.0, not_true v.is_open both.1) where
-  not_true : (b : Bool) → not b ≡ true → b ≡ false
-  not_true false e = refl
-  not_true true e = cc
+at_rest_parts zone v rest = let both = and_parts (nat_eq zone v.zone.number) (not v.is_open) rest in (both.0, not-true v.is_open both.1)
 
 work_is : (zone : ℕ) (work : WorldState → Answered) (w : WorldState) → nat_eq zone w.zone.number ≡ true → w.is_open ≡ false → work_by_hand zone work (Some w) ≡ answered (work w)
 work_is zone work w here closed = λ i. if here i then answered (if closed i then refused 45 w else work w) else declined 43 (Some w)
@@ -405,37 +360,29 @@ pool_follows places client zone count blocks order answer new None w with rest o
 
 -- a command of one line where no zone is broken
 module _ (places : ℕ) (range : (0 < places) × (places ≤ 65536)) (old : WithThreads) (world : Option WorldState) (same_places : old.single.places ≡ places) (with : Beside old.single.world world) where
+  -- a round or a pool: at rest it works over the zone, and else it is refused
+  by_rest : (c : Command) (answer : Reply) (new : WithThreads) (b : Bool) → (b ≡ true → IsWorkStep c old.single.world places old.client answer new → GoesOn places world c answer new)
+      → (b ≡ false → StepsAlike (step places old.single.world c) (step_by_hand places world c)) → IsStepBy b old c answer new → GoesOn places world c answer new
+  by_rest c answer new true follows alike on = follows refl (rw same_places at on)
+  by_rest c answer new false follows alike on = alike_follows places old world c answer new same_places (alike refl) on.0 on.1
+
   reply_follows : (command : Command) (answer : Reply) (new : WithThreads) → IsNoBlock command → IsInRange command → IsStepBy (is_threaded command old.single.world) old command answer new
       → GoesOn places world command answer new
-  reply_follows OutOfRange answer new none ranged step = alike_follows places old world OutOfRange answer new same_places (record { reply = refl; world = with }) step.0 step.1
-  reply_follows Profile2 answer new none ranged step = alike_follows places old world Profile2 answer new same_places (record { reply = refl; world = with }) step.0 step.1
   reply_follows (Open zone blocks) answer new none ranged step =
       alike_follows places old world (Open zone blocks) answer new same_places (open_alike places range old.single.world world with zone blocks ranged) step.0 step.1
   reply_follows (On zone calls) answer new none ranged step =
       alike_follows places old world (On zone calls) answer new same_places (calls_on places range old.single.world world with zone calls ranged) step.0 step.1
-  reply_follows (Compact zone) answer new none ranged step = by_rest (is_at_rest zone old.single.world) refl step where
-    by_rest : (b : Bool) → is_at_rest zone old.single.world ≡ b → IsStepBy b old (Compact zone) answer new → GoesOn places world (Compact zone) answer new
-    by_rest true rest on =
-        let W : ℕ → Type 0 = λ n. IsWorkStep (Compact zone) old.single.world n old.client answer new in
-        round_follows places old.client zone answer new old.single.world world with rest (subst W same_places on)
-    by_rest false rest on = alike_follows places old world (Compact zone) answer new same_places (compact_alike old.single.world world with zone rest) on.0 on.1
-  reply_follows (Pool zone count blocks) answer new none ranged step = by_rest (is_at_rest zone old.single.world) refl step where
-    by_rest : (b : Bool) → is_at_rest zone old.single.world ≡ b → IsStepBy b old (Pool zone count blocks) answer new → GoesOn places world (Pool zone count blocks) answer new
-    by_rest true rest on =
-        let W : ℕ → Type 0 = λ n. IsWorkStep (Pool zone count blocks) old.single.world n old.client answer new in
-        pool_follows places old.client zone count blocks ranged answer new old.single.world world with rest (subst W same_places on)
-    by_rest false rest on = alike_follows places old world (Pool zone count blocks) answer new same_places (pool_alike old.single.world world with zone count blocks rest) on.0 on.1
+  reply_follows (Compact zone) answer new none ranged step = by_rest (Compact zone) answer new (is_at_rest zone old.single.world)
+      (λ rest on. round_follows places old.client zone answer new old.single.world world with rest on) (compact_alike old.single.world world with zone) step
+  reply_follows (Pool zone count blocks) answer new none ranged step = by_rest (Pool zone count blocks) answer new (is_at_rest zone old.single.world)
+      (λ rest on. pool_follows places old.client zone count blocks ranged answer new old.single.world world with rest on) (pool_alike old.single.world world with zone count blocks) step
   reply_follows (During number) answer new none ranged step = absurd none
+  reply_follows c answer new none ranged step = alike_follows places old world c answer new same_places (record { reply = refl; world = with }) step.0 step.1
 
 -- a command that isn't a block runs none
 no_block : (c : Command) (world : Option WorldState) → IsNoBlock c → IsBlockFor c world → ⊥
 no_block (During zone) world none block = none
-no_block (Open zone blocks) world none block = block
-no_block (On zone calls) world none block = block
-no_block (Compact zone) world none block = block
-no_block (Pool zone count blocks) world none block = block
-no_block Profile2 world none block = block
-no_block OutOfRange world none block = block
+no_block _ world none block = block
 
 module _ (places : ℕ) where
   pub step_follows : (0 < places) × (places ≤ 65536) → (old : WithThreads) (b : Followed) (c : Numbered) (answers : List Answer) (new : WithThreads) → IsFollowable c → Follows places old b → IsThreadedStep old c answers new
@@ -450,8 +397,7 @@ module _ (places : ℕ) where
   opens_alike : (v w : Option WorldState) (c : Command) → Beside v w → IsTrue (opens v c) → IsTrue (opens w c)
   opens_alike None None c with t = t
   opens_alike (Some v) (Some w) c with t = t
-  opens_alike None (Some w) c with t = absurd with
-  opens_alike (Some v) None c with t = absurd with
+  opens_alike _ _ c with t = absurd with
 
   pub asks_follows : (old : WithThreads) (b : Followed) (c : Numbered) → IsFollowable c → Follows places old b → AsksMemory old c.command → OpensByHand b c.command
   asks_follows old NoLonger c followable follows asks = tt

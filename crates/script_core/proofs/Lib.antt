@@ -3,6 +3,7 @@ pub mod CallsAccepted
 pub mod ClientAnswers
 pub mod CommandsInRange
 pub mod CountsAdded
+mod EitherAnswer
 mod Endings
 pub mod Following
 mod Found

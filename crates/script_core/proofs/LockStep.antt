@@ -12,7 +12,7 @@ use Rattle.text_core.specs.declared.command.Calls.TheVariants.{Zone, One, Series
 use Rattle.text_core.specs.declared.command.BlockLine.{BlockLine}
 use Rattle.text_core.specs.declared.command.BlockLine.TheVariants.{Client, End}
 use Rattle.text_core.specs.declared.command.Command.{Command}
-use Rattle.text_core.specs.declared.command.Command.TheVariants.{Open, On, Compact, Pool, Profile2, OutOfRange, During}
+use Rattle.text_core.specs.declared.command.Command.TheVariants.{On, Compact, Pool, Profile2, During}
 use Rattle.text_core.specs.declared.error.ScriptError.{ScriptError}
 use Rattle.text_core.specs.declared.profile.Profile.{Profile}
 use Rattle.text_core.specs.declared.profile.Profile.TheVariants.{Untold, One as Profile1, Two}
@@ -25,17 +25,13 @@ use Rattle.text_core.proofs.Profiles as rows
 use Rattle.text_core.proofs.Profiles.{SayAlike, call_in_profile_2, lines_alike}
 use Rattle.machine_core.specs.Machine.{Step, answered, call_step, calls_step, declined, step, step_on, during_on}
 use Rattle.text_core.specs.Script.{Answer, Numbered, commands_from, cut_fault, fault_from, fault_of, line_fault, onto_commands, parts_of, Block, Came, ClientLine, Reading, by, client_comes, command_comes, command_in_block, comes_in, comes_outside, comes_within, commands_of, line_comes, onto, open_fault, reading_after, within}
-use Rattle.machine_core.specs.Replies.{answers_of}
 use Rattle.text_core.specs.declared.fault.Fault.{Fault}
 use Rattle.text_core.specs.declared.fault.Fault.TheVariants.{Syntax}
 use Rattle.text_core.specs.declared.fault.RunError.{RunError}
 use Rattle.text_core.proofs.Lines.{Parts, parts-line, parts_are}
-use Rattle.script_core.specs.MachineByHand.{answers_by_hand, step_by_hand}
 use Rattle.script_core.specs.Profile2.{IsSameInProfile2, after_profile_2, fault_in_profile_1, with_held}
-use Rattle.script_core.proofs.MachineByHand.{machine_by_hand}
 use Rattle.script_core.proofs.Machines.{IsMachine, answers_by, answers_to, by_rounds, is_of_rounds, runs_rounds}
 use Rattle.script_core.proofs.Replies.{has_counts, plain_call, plain_make, plain_series}
-use Rattle.script_core.proofs.Runs.{one_thread}
 
 abbrev further : Answer → Answer
 further a = record { line = a.line + 1; reply = with_held a.reply }
@@ -63,7 +59,7 @@ told_plain s h = λ i. record { reply = plain_held s.reply h i; world = s.world 
 call_told : (w : WorldState) (c : Call) → answered (call_step w (call_in_profile_2 c)) ≡ told (answered (call_step w c))
 call_told w call.Info = refl
 call_told w call.InfoWithHeld = refl
-call_told w c = told_plain (answered (call_step w c)) (plain_call w c refl)
+call_told w c = told_plain (answered (call_step w c)) (plain_call w c refl).0
 
 plain_on : (zone : ℕ) (w : WorldState) (c : Calls) → has_counts (calls_step w c).reply ≡ false → step_on zone c (Some w) ≡ told (step_on zone c (Some w))
 plain_on zone w c h = by_number (nat_eq zone w.zone.number) where
@@ -72,10 +68,6 @@ plain_on zone w c h = by_number (nat_eq zone w.zone.number) where
   by_number false = refl
 
 other_told : (places : ℕ) (w : Option WorldState) (c : Command) → runs_rounds c ≡ false → step places w (rows.in_profile_2 c) ≡ told (step places w c)
-other_told places w OutOfRange h = refl
-other_told places w Profile2 h = refl
-other_told places None (Open zone blocks) h = refl
-other_told places (Some w) (Open zone blocks) h = refl
 other_told places w (Compact zone) h = cc
 other_told places w (Pool zone count blocks) h = cc
 other_told places w (During number) h = by_zone (zone_of number) w where
@@ -83,15 +75,15 @@ other_told places w (During number) h = by_zone (zone_of number) w where
   by_zone None v = refl
   by_zone (Some zone) None = refl
   by_zone (Some zone) (Some v) = refl
-other_told places None (On zone (Zone c)) h = refl
 other_told places None (On zone (One c)) h = refl
-other_told places None (On zone (SeriesOf s)) h = refl
+other_told places None _ h = refl
 other_told places (Some w) (On zone (Zone c)) h = plain_on zone w (Zone c) (plain_make w c)
 other_told places (Some w) (On zone (One c)) h = by_number (nat_eq zone w.zone.number) where
   by_number : (b : Bool) → (if b then answered (call_step w (call_in_profile_2 c)) else declined 43 (Some w)) ≡ told (if b then answered (call_step w c) else declined 43 (Some w))
   by_number true = call_told w c
   by_number false = refl
 other_told places (Some w) (On zone (SeriesOf s)) h = plain_on zone w (SeriesOf s) (plain_series s.call s.space s.first s.step 0 s.count w)
+other_told places (Some w) _ h = refl
 
 -- a round and a pool are the same in profile 2, and their replies have no counts
 held_of_rounds : (r : Reply) → is_of_rounds r ≡ true → r ≡ with_held r
@@ -161,15 +153,8 @@ IsOver (Ok came) = ⊤
 IsOver (Err fault) = ⊥
 
 begun_lower : (n : ℕ) (c : Command) → ComesLower (Ok (command_comes Profile1 n c)) (Ok (command_comes Two (n + 1) (rows.in_profile_2 c))) (command_comes Profile1 n c)
-begun_lower n (During zone) = record { one_is = refl; two_is = refl; profile = refl }
-begun_lower n (Open zone blocks) = record { one_is = refl; two_is = refl; profile = refl }
-begun_lower n (On zone (Zone c)) = record { one_is = refl; two_is = refl; profile = refl }
 begun_lower n (On zone (One c)) = record { one_is = refl; two_is = refl; profile = refl }
-begun_lower n (On zone (SeriesOf s)) = record { one_is = refl; two_is = refl; profile = refl }
-begun_lower n (Pool zone count blocks) = record { one_is = refl; two_is = refl; profile = refl }
-begun_lower n (Compact zone) = record { one_is = refl; two_is = refl; profile = refl }
-begun_lower n Profile2 = record { one_is = refl; two_is = refl; profile = refl }
-begun_lower n OutOfRange = record { one_is = refl; two_is = refl; profile = refl }
+begun_lower n _ = record { one_is = refl; two_is = refl; profile = refl }
 
 outside_lower : (n : ℕ) (one untold two : Result (Option Command) ScriptError) → SayAlike one untold two → IsOver (comes_outside Profile1 n one)
     → (came : Came) × ComesLower (comes_outside Profile1 n one) (comes_outside Two (n + 1) two) came
@@ -348,9 +333,3 @@ same_in_profile_2_by places steps m input e =
           ∙ profile_2_told places steps m (map moved (commands_of input))
           ∙ ap (λ (rest : List Answer). record { line = 1; reply = reply.Done } ∷ rest) (answers_told places steps m None (commands_of input));
     }
-
-pub same_in_profile_2 : (places : ℕ) (input : List ℕ) → fault_in_profile_1 input ≡ None → IsSameInProfile2 (answers_of places) input
-same_in_profile_2 places input e = same_in_profile_2_by places (step places) (one_thread places) input e
-
-pub same_in_profile_2_by_hand : (places : ℕ) (input : List ℕ) → fault_in_profile_1 input ≡ None → IsSameInProfile2 (answers_by_hand places) input
-same_in_profile_2_by_hand places input e = same_in_profile_2_by places (step_by_hand places) (machine_by_hand places) input e

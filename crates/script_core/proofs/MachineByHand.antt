@@ -15,11 +15,11 @@ use Rattle.text_core.specs.declared.pool.PoolBlocks.{PoolBlocks}
 use Rattle.text_core.specs.declared.reply.Reply.{Reply}
 use Rattle.text_core.specs.Pool.{pool_order}
 use Rattle.text_core.proofs.Ranges.{HasOrder, IsInRange}
-use Rattle.machine_core.specs.Machine.{Answered, answered, declined, refused, says, step}
+use Rattle.machine_core.specs.Machine.{Answered, Step, answered, declined, refused, says, step}
 use Rattle.script_core.specs.MachineByHand.{left_by_hand, pool_by_hand, round_by_hand, step_by_hand, unless_open, work_by_hand}
-use Rattle.script_core.proofs.Machines.{Goes, GoesOn, IsMachine, by_rounds, is_of_rounds, runs_rounds}
+use Rattle.script_core.proofs.Machines.{GoesOn, IsMachine, by_rounds, is_of_rounds, runs_rounds}
 use Rattle.script_core.proofs.RoundsByHand.{Rests, reserved_rests, round_rests}
-use Rattle.script_core.proofs.Runs.{goes_by, refusal_goes_on}
+use Rattle.script_core.proofs.Runs.{refusal_goes_on}
 
 -- a world in which no hand round is open and no page is moving is orderly
 pub closed_orderly : (zone : ZoneState) (scan : ScanSeat) (ends : EndSeat) → IsAtRest zone → ends.parts ≡ 64 → IsOrderly (world_closed zone scan ends)
@@ -44,15 +44,18 @@ pub closed_rests : (w : WorldState) → IsOrderly w → w.is_open ≡ false → 
 closed_rests w o closed = record { valid = o.valid; none_out = none_out w.zone.records (o.closed closed) }
 
 -- work over the zone with this number
-work_goes_on : (zone : ℕ) (work : WorldState → Answered) (w : WorldState) → IsOrderly w → (IsAtRest w.zone → GoesOn w (answered (work w))) → GoesOn w (work_by_hand zone work (Some w))
-work_goes_on zone work w o worked = by_number (nat_eq zone w.zone.number) where
-  by_open : (b : Bool) → w.is_open ≡ b → GoesOn w (answered (if b then refused 45 w else work w))
-  by_open true e = refusal_goes_on w o 45
-  by_open false e = worked (closed_rests w o e)
+work_by : (P : Step → Type 0) (zone : ℕ) (work : WorldState → Answered) (w : WorldState) → ((number : ℕ) → P (declined number (Some w))) → (w.is_open ≡ false → P (answered (work w))) → P (work_by_hand zone work (Some w))
+work_by P zone work w refusal worked = by_number (nat_eq zone w.zone.number) where
+  by_open : (b : Bool) → w.is_open ≡ b → P (answered (if b then refused 45 w else work w))
+  by_open true e = refusal 45
+  by_open false e = worked e
 
-  by_number : (b : Bool) → GoesOn w (if b then answered (unless_open w (work w)) else declined 43 (Some w))
+  by_number : (b : Bool) → P (if b then answered (unless_open w (work w)) else declined 43 (Some w))
   by_number true = by_open w.is_open refl
-  by_number false = refusal_goes_on w o 43
+  by_number false = refusal 43
+
+work_goes_on : (zone : ℕ) (work : WorldState → Answered) (w : WorldState) → IsOrderly w → (IsAtRest w.zone → GoesOn w (answered (work w))) → GoesOn w (work_by_hand zone work (Some w))
+work_goes_on zone work w o worked = work_by (GoesOn w) zone work w (refusal_goes_on w o) (λ closed. worked (closed_rests w o closed))
 
 pub round_goes_on : (w : WorldState) → IsOrderly w → (zone : ℕ) → GoesOn w (work_by_hand zone round_by_hand (Some w))
 round_goes_on w o zone = work_goes_on zone round_by_hand w o (λ rest. left_goes_on w o (by_hand w.zone) (round_by_hand w).reply (round_rests w.zone rest))
@@ -63,14 +66,7 @@ pool_goes_on w o rounds zone count blocks range = work_goes_on zone (pool_by_han
 
 work_replies : (zone : ℕ) (work : WorldState → Answered) → ((v : WorldState) → is_of_rounds (work v).reply ≡ true) → (w : Option WorldState) → is_of_rounds (work_by_hand zone work w).reply ≡ true
 work_replies zone work replies None = refl
-work_replies zone work replies (Some w) = by_number (nat_eq zone w.zone.number) where
-  by_open : (b : Bool) → is_of_rounds (if b then refused 45 w else work w).reply ≡ true
-  by_open true = refl
-  by_open false = replies w
-
-  by_number : (b : Bool) → is_of_rounds (if b then answered (unless_open w (work w)) else declined 43 (Some w)).reply ≡ true
-  by_number true = by_open w.is_open
-  by_number false = refl
+work_replies zone work replies (Some w) = work_by (λ s. is_of_rounds s.reply ≡ true) zone work w (λ number. refl) (λ closed. replies w)
 
 module _ (places : ℕ) where
   other_alike : (w : Option WorldState) (c : Command) → runs_rounds c ≡ false → step_by_hand places w c ≡ step places w c
@@ -85,7 +81,3 @@ module _ (places : ℕ) where
     closed = λ c h. by_rounds (λ c. (step_by_hand places None c).world ≡ None) (λ zone. refl) (λ zone count blocks. refl) c h;
     goes_on = λ w o c r h. by_rounds (λ c. IsInRange c → GoesOn w (step_by_hand places (Some w) c)) (λ zone r. round_goes_on w o zone) (λ zone count blocks r. pool_goes_on w o 4 zone count blocks r) c h r;
   }
-
-  -- each command leaves an orderly world orderly, with the same number of pageblocks
-  pub goes_by_hand : (w : WorldState) → IsOrderly w → (c : Command) → IsInRange c → Goes w (step_by_hand places (Some w) c)
-  goes_by_hand w o c r = goes_by places (step_by_hand places) machine_by_hand w o c r

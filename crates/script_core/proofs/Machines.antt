@@ -2,12 +2,15 @@
 use Rattle.std.proofs.Common.{◌≡◌, ℕ, Bool, true, false, List, [], ◌∷◌, Option, Some, None}
 use Rattle.machine_core.specs.World.{IsOrderly, WorldState}
 use Rattle.text_core.specs.declared.command.Command.{Command}
-use Rattle.text_core.specs.declared.command.Command.TheVariants.{Compact, Pool}
+use Rattle.text_core.specs.declared.command.Calls.{Calls}
+use Rattle.text_core.specs.declared.command.Command.TheVariants.{Open, On, Compact, Pool, During, Profile2, OutOfRange}
 use Rattle.text_core.specs.declared.pool.PoolBlocks.{PoolBlocks}
 use Rattle.text_core.specs.declared.reply.Reply.{Reply}
 use Rattle.text_core.specs.declared.reply.Reply.TheVariants as reply
 use Rattle.text_core.proofs.Ranges.{IsInRange}
-use Rattle.machine_core.specs.Machine.{Step, step}
+use Rattle.machine_core.specs.Machine.{Step, answered, calls_step, declined, during_on, round_refusal, step}
+use Rattle.text_core.specs.Grammar.{zone_of}
+use Rattle.std.specs.Prelude.{nat_eq, if◌then◌else◌}
 use Rattle.text_core.specs.Script.{Answer, Numbered, commands_of}
 use Rattle.script_core.proofs.PagesMoved.{LeavesCells}
 use Rattle.script_core.proofs.Steps.{Keeps}
@@ -23,6 +26,22 @@ pub by_rounds : (P : Command → Type 0) → ((zone : ℕ) → P (Compact zone))
 by_rounds P compact pool (Compact zone) h = compact zone
 by_rounds P compact pool (Pool zone count blocks) h = pool zone count blocks
 by_rounds P compact pool _ h = cc
+
+-- and what holds of a refusal, of the line `profile 2` and of the calls on the open zone holds of each other command
+pub by_other : (places : ℕ) (P : Command → Step → Type 0) (w : WorldState) → ((c : Command) (number : ℕ) → P c (declined number (Some w))) → P Profile2 (record { reply = reply.Done; world = Some w })
+    → ((zone : ℕ) (calls : Calls) → P (On zone calls) (answered (calls_step w calls))) → (c : Command) → runs_rounds c ≡ false → P c (step places (Some w) c)
+by_other places P w refusal done on OutOfRange h = refusal OutOfRange 1
+by_other places P w refusal done on Profile2 h = done
+by_other places P w refusal done on (Open zone blocks) h = refusal (Open zone blocks) 44
+by_other places P w refusal done on (On zone calls) h = by_number (nat_eq zone w.zone.number) where
+  by_number : (b : Bool) → P (On zone calls) (if b then answered (calls_step w calls) else declined 43 (Some w))
+  by_number true = on zone calls
+  by_number false = refusal (On zone calls) 43
+by_other places P w refusal done on (During number) h = by_zone (zone_of number) where
+  by_zone : (z : Option ℕ) → P (During number) (during_on z (Some w))
+  by_zone None = refusal (During number) 1
+  by_zone (Some zone) = refusal (During number) (round_refusal zone w)
+by_other places P w refusal done on _ h = cc
 
 -- whether a reply is that of a round or of a pool, or a refusal
 abbrev pub is_of_rounds : Reply → Bool

@@ -1,7 +1,7 @@
 -- A journal and a history that give pages different numbers say the same of addresses and words.
-use Rattle.std.proofs.Common.{◌≡◌, ℕ, ◌<◌, Bool, true, false, List, [], ◌∷◌, length, inl, inr, refl, sym, ap, ◌∙◌, arith, Option, Some, None, nat_eq}
+use Rattle.std.proofs.Common.{◌≡◌, ℕ, ◌<◌, Bool, true, false, List, [], ◌∷◌, length, refl, sym, ap, ◌∙◌, arith, Option, Some, None, nat_eq}
 use Rattle.std.specs.Prelude.{◌&&◌, if◌then◌else◌}
-use Rattle.std.proofs.lemmas.Bool.{cases_Bool, cond-true, cond-false, eq-eqb, ne_eqb}
+use Rattle.std.proofs.lemmas.Bool.{cond-true, cond-false, eq-eqb, ne_eqb}
 use Rattle.std.proofs.lemmas.Option.{same_Some}
 use Rattle.frame_core.specs.declared.place.Address.{Address}
 use Rattle.frame_core.specs.declared.record.Record.{Record}
@@ -49,17 +49,6 @@ match_stored journal history a word value was = record {
   older = λ b m e. (let under : m < length history = was.older b m e in omega arith);
 }
 
--- the page that an address names after one address was made to name another page
-module _ (bound : Option ℕ) (records : List Record) (a at : Address) where
-  abbrev rebound : Option ℕ
-  rebound = if same_address at a then bound else page_at records at
-
-  here : same_address at a ≡ true → rebound ≡ bound
-  here e = cond-true (same_address at a) bound (page_at records at) e
-
-  there : same_address at a ≡ false → rebound ≡ page_at records at
-  there e = cond-false (same_address at a) bound (page_at records at) e
-
 -- both match after a fresh page was mapped, which no address names before
 module _ (journal history : List Record) (a : Address) (page : ℕ) (fresh : (b : Address) → page_at journal b ≡ Some page → ⊥) (was : Match journal history) where
   abbrev mapped_journal : List Record
@@ -78,56 +67,47 @@ module _ (journal history : List Record) (a : Address) (page : ℕ) (fresh : (b 
   numbered : (b : Address) → page_at history b ≡ Some number → ⊥
   numbered b e = let under : number < length history = was.older b number e in omega arith
 
-  -- which addresses name the page of an address after the mapping
-  named_then : (b c : Address) (p m : ℕ) (at_b at_c : Bool) → same_address b a ≡ at_b → same_address c a ≡ at_c → page_at mapped_journal b ≡ Some p → page_at mapped_history b ≡ Some m → names mapped_journal c p ≡ names mapped_history c m
-  named_then b c p m true true eb ec e f =
-      let p_is : page ≡ p = same_Some page p (sym (here (Some page) journal a b eb) ∙ e) in
-      let m_is : number ≡ m = same_Some number m (sym (here (Some number) history a b eb) ∙ f) in
-      ap (λ (o : Option ℕ). is_page o p) (here (Some page) journal a c ec) ∙ eq-eqb page p p_is
-      ∙ sym (ap (λ (o : Option ℕ). is_page o m) (here (Some number) history a c ec) ∙ eq-eqb number m m_is)
-  named_then b c p m true false eb ec e f =
-      let p_is : page ≡ p = same_Some page p (sym (here (Some page) journal a b eb) ∙ e) in
-      let m_is : number ≡ m = same_Some number m (sym (here (Some number) history a b eb) ∙ f) in
-      ap (λ (o : Option ℕ). is_page o p) (there (Some page) journal a c ec) ∙ unnamed (page_at journal c) p (λ g. fresh c (g ∙ ap Some (sym p_is)))
-      ∙ sym (ap (λ (o : Option ℕ). is_page o m) (there (Some number) history a c ec) ∙ unnamed (page_at history c) m (λ g. numbered c (g ∙ ap Some (sym m_is))))
-  named_then b c p m false true eb ec e f =
-      let at_p : page_at journal b ≡ Some p = sym (there (Some page) journal a b eb) ∙ e in
-      let at_m : page_at history b ≡ Some m = sym (there (Some number) history a b eb) ∙ f in
-      ap (λ (o : Option ℕ). is_page o p) (here (Some page) journal a c ec) ∙ ne_eqb page p (λ same. fresh b (at_p ∙ ap Some (sym same)))
-      ∙ sym (ap (λ (o : Option ℕ). is_page o m) (here (Some number) history a c ec) ∙ ne_eqb number m (λ same. numbered b (at_m ∙ ap Some (sym same))))
-  named_then b c p m false false eb ec e f =
-      let at_p : page_at journal b ≡ Some p = sym (there (Some page) journal a b eb) ∙ e in
-      let at_m : page_at history b ≡ Some m = sym (there (Some number) history a b eb) ∙ f in
-      ap (λ (o : Option ℕ). is_page o p) (there (Some page) journal a c ec) ∙ was.same b c p m at_p at_m
-      ∙ sym (ap (λ (o : Option ℕ). is_page o m) (there (Some number) history a c ec))
+  -- what an address names after the mapping, by whether it is the mapped one
+  abbrev in_journal : Bool → Address → Option ℕ
+  in_journal at b = if at then Some page else page_at journal b
 
-  words_then : (b : Address) (p m w : ℕ) (at_b : Bool) → same_address b a ≡ at_b → page_at mapped_journal b ≡ Some p → page_at mapped_history b ≡ Some m → last mapped_journal p w ≡ last mapped_history m w
-  words_then b p m w true eb e f =
-      cond-true (nat_eq page p) 0 (last journal p w) (eq-eqb page p (same_Some page p (sym (here (Some page) journal a b eb) ∙ e)))
-      ∙ sym (cond-true (nat_eq number m) 0 (last history m w) (eq-eqb number m (same_Some number m (sym (here (Some number) history a b eb) ∙ f))))
-  words_then b p m w false eb e f =
-      let at_p : page_at journal b ≡ Some p = sym (there (Some page) journal a b eb) ∙ e in
-      let at_m : page_at history b ≡ Some m = sym (there (Some number) history a b eb) ∙ f in
-      cond-false (nat_eq page p) 0 (last journal p w) (ne_eqb page p (λ same. fresh b (at_p ∙ ap Some (sym same))))
-      ∙ was.words b p m w at_p at_m
-      ∙ sym (cond-false (nat_eq number m) 0 (last history m w) (ne_eqb number m (λ same. numbered b (at_m ∙ ap Some (sym same)))))
+  abbrev in_history : Bool → Address → Option ℕ
+  in_history at b = if at then Some number else page_at history b
+
+  none_then : (b : Address) (at : Bool) → in_journal at b ≡ None → in_history at b ≡ None
+  none_then b true e = cc
+  none_then b false e = was.none b e
+
+  some_then : (b : Address) (p : ℕ) (at : Bool) → in_journal at b ≡ Some p → (m : ℕ) × (in_history at b ≡ Some m)
+  some_then b p true e = (number, refl)
+  some_then b p false e = was.some b p e
+
+  named_then : (b c : Address) (p m : ℕ) (at_b at_c : Bool) → in_journal at_b b ≡ Some p → in_history at_b b ≡ Some m → is_page (in_journal at_c c) p ≡ is_page (in_history at_c c) m
+  named_then b c p m true true e f = eq-eqb page p (same_Some page p e) ∙ sym (eq-eqb number m (same_Some number m f))
+  named_then b c p m true false e f = unnamed (page_at journal c) p (λ g. fresh c (g ∙ sym e)) ∙ sym (unnamed (page_at history c) m (λ g. numbered c (g ∙ sym f)))
+  named_then b c p m false true e f = ne_eqb page p (λ same. fresh b (e ∙ ap Some (sym same))) ∙ sym (ne_eqb number m (λ same. numbered b (f ∙ ap Some (sym same))))
+  named_then b c p m false false e f = was.same b c p m e f
+
+  words_then : (b : Address) (p m w : ℕ) (at : Bool) → in_journal at b ≡ Some p → in_history at b ≡ Some m → last mapped_journal p w ≡ last mapped_history m w
+  words_then b p m w true e f =
+      cond-true (nat_eq page p) 0 (last journal p w) (eq-eqb page p (same_Some page p e))
+      ∙ sym (cond-true (nat_eq number m) 0 (last history m w) (eq-eqb number m (same_Some number m f)))
+  words_then b p m w false e f =
+      cond-false (nat_eq page p) 0 (last journal p w) (ne_eqb page p (λ same. fresh b (e ∙ ap Some (sym same))))
+      ∙ was.words b p m w e f
+      ∙ sym (cond-false (nat_eq number m) 0 (last history m w) (ne_eqb number m (λ same. numbered b (f ∙ ap Some (sym same)))))
+
+  older_then : (b : Address) (m : ℕ) (at : Bool) → in_history at b ≡ Some m → m < length mapped_history
+  older_then b m true e = let is : number ≡ m = same_Some number m e in omega arith
+  older_then b m false e = let under : m < length history = was.older b m e in omega arith
 
   pub match_mapped : Match mapped_journal mapped_history
   match_mapped = record {
-    none = λ b e. elim (cases_Bool (same_address b a)) [
-      | inl at ↦ (let bad : None ≡ Some page = sym e ∙ here (Some page) journal a b at in cc)
-      | inr off ↦ there (Some number) history a b off ∙ was.none b (sym (there (Some page) journal a b off) ∙ e)
-    ];
-    some = λ b p e. elim (cases_Bool (same_address b a)) [
-      | inl at ↦ (number, here (Some number) history a b at)
-      | inr off ↦ (let found = was.some b p (sym (there (Some page) journal a b off) ∙ e) in (found.0, there (Some number) history a b off ∙ found.1))
-    ];
-    same = λ b c p m e f. named_then b c p m (same_address b a) (same_address c a) refl refl e f;
-    words = λ b p m w e f. words_then b p m w (same_address b a) refl e f;
-    older = λ b m e. elim (cases_Bool (same_address b a)) [
-      | inl at ↦ (let is : number ≡ m = same_Some number m (sym (here (Some number) history a b at) ∙ e) in omega arith)
-      | inr off ↦ (let under : m < length history = was.older b m (sym (there (Some number) history a b off) ∙ e) in omega arith)
-    ];
+    none = λ b e. none_then b (same_address b a) e;
+    some = λ b p e. some_then b p (same_address b a) e;
+    same = λ b c p m e f. named_then b c p m (same_address b a) (same_address c a) e f;
+    words = λ b p m w e f. words_then b p m w (same_address b a) e f;
+    older = λ b m e. older_then b m (same_address b a) e;
   }
 
 -- both match after a share
@@ -159,30 +139,27 @@ module _ (journal history : List Record) (a alias : Address) (was : Match journa
 
 -- both match after an unmap
 module _ (journal history : List Record) (a : Address) (was : Match journal history) where
-  still : (b : Address) (p : ℕ) (records : List Record) → page_at (Unmap 0 a ∷ records) b ≡ Some p → (same_address b a ≡ false) × (page_at records b ≡ Some p)
-  still b p records e = elim (cases_Bool (same_address b a)) [
-    | inl at ↦ (let bad : None ≡ Some p = sym (here None records a b at) ∙ e in cc)
-    | inr off ↦ (off, sym (there None records a b off) ∙ e)
-  ]
+  still : (o : Option ℕ) (p : ℕ) (at : Bool) → (if at then None else o) ≡ Some p → o ≡ Some p
+  still o p true e = cc
+  still o p false e = e
 
-  names_still : (c : Address) (p m : ℕ) → names journal c p ≡ names history c m → names (Unmap 0 a ∷ journal) c p ≡ names (Unmap 0 a ∷ history) c m
-  names_still c p m e = by_test (same_address c a) where
-    by_test : (t : Bool) → is_page (if t then None else page_at journal c) p ≡ is_page (if t then None else page_at history c) m
-    by_test true = refl
-    by_test false = e
+  none_still : (b : Address) (at : Bool) → (if at then None else page_at journal b) ≡ None → (if at then None else page_at history b) ≡ None
+  none_still b true e = refl
+  none_still b false e = was.none b e
 
-  none_then : (b : Address) (t : Bool) → (if t then None else page_at journal b) ≡ None → (if t then None else page_at history b) ≡ None
-  none_then b true e = refl
-  none_then b false e = was.none b e
+  some_still : (b : Address) (p : ℕ) (at : Bool) → (if at then None else page_at journal b) ≡ Some p → (m : ℕ) × ((if at then None else page_at history b) ≡ Some m)
+  some_still b p true e = cc
+  some_still b p false e = was.some b p e
+
+  names_still : (c : Address) (p m : ℕ) (at : Bool) → names journal c p ≡ names history c m → is_page (if at then None else page_at journal c) p ≡ is_page (if at then None else page_at history c) m
+  names_still c p m true e = refl
+  names_still c p m false e = e
 
   pub match_unmapped : Match (Unmap 0 a ∷ journal) (Unmap 0 a ∷ history)
   match_unmapped = record {
-    none = λ b e. none_then b (same_address b a) e;
-    some = λ b p e.
-        (let before = still b p journal e in
-        let found = was.some b p before.1 in
-        (found.0, there None history a b before.0 ∙ found.1));
-    same = λ b c p m e f. names_still c p m (was.same b c p m (still b p journal e).1 (still b m history f).1);
-    words = λ b p m w e f. was.words b p m w (still b p journal e).1 (still b m history f).1;
-    older = λ b m e. (let under : m < length history = was.older b m (still b m history e).1 in omega arith);
+    none = λ b e. none_still b (same_address b a) e;
+    some = λ b p e. some_still b p (same_address b a) e;
+    same = λ b c p m e f. names_still c p m (same_address c a) (was.same b c p m (still _ p (same_address b a) e) (still _ m (same_address b a) f));
+    words = λ b p m w e f. was.words b p m w (still _ p (same_address b a) e) (still _ m (same_address b a) f);
+    older = λ b m e. (let under : m < length history = was.older b m (still _ m (same_address b a) e) in omega arith);
   }

@@ -1,5 +1,5 @@
 -- Scans, hands and ends of moves keep a world orderly, and change no address and no word.
-use Rattle.std.proofs.Common.{◌≡◌, ℕ, Bool, true, false, List, [], ◌∷◌, length, refl, ap, subst, ◌∙◌}
+use Rattle.std.proofs.Common.{◌≡◌, ℕ, ◌*◌, Bool, true, false, List, [], ◌∷◌, length, refl, ap, subst, ◌∙◌}
 use Rattle.std.specs.Prelude.{Option, Some, None, nat_eq, unwrap_or, if◌then◌else◌}
 use Rattle.std.specs.List.{list_all}
 use Rattle.std.specs.Option.{option_and_then}
@@ -16,7 +16,14 @@ use Rattle.state_core.specs.ZoneState.{ZoneState}
 use Rattle.machine_core.specs.declared.hand.Finished.{Finished}
 use Rattle.machine_core.specs.declared.hand.Hand.{Hand}
 use Rattle.machine_core.specs.declared.hand.Hand.TheVariants.{Empty, Page, Copy}
-use Rattle.machine_core.specs.World.{WorldState, all_put_back, copy_in, copy_step, finish_step, finished_as, finished_by, is_empty, isolated_by, page_in, round_opened, scanned, shut, shut_step, take_step, taken_by, with_hand}
+use Rattle.machine_core.specs.World.{WorldState, all_put_back, copy_in, copy_step, finish_step, finished_as, finished_by, is_empty, isolated_by, page_in, round_opened, scan_refusal, scan_stopped, scanned, shut, shut_step, take_step, taken_by, with_hand}
+use Rattle.state_core.specs.Calls.{refusal_of}
+use Rattle.state_core.specs.declared.call.ZoneCall.TheVariants.{TakeOrder, GiveOrder}
+use Rattle.state_core.specs.Looking.{look_of}
+use Rattle.text_core.specs.declared.command.Call.{Call}
+use Rattle.text_core.specs.declared.command.Call.TheVariants.{Scan, Take, Copy as CopyBy, Finish, Shut, Look as LookAt, Huge, Give}
+use Rattle.machine_core.specs.Machine.{Answered, call_step, ending, refused}
+use Rattle.script_core.proofs.EitherAnswer.{copied_by, hand_by, looked_by, unless_by}
 
 -- a call makes no address name another page, and stores nothing
 pub record LeavesCells (z after : ZoneState) : Type 0 where
@@ -90,3 +97,22 @@ shut_leaves w count after e = by_empty (list_all is_empty w.hands) e where
   by_empty : (b : Bool) → if◌then◌else◌ {A = Option (ℕ × WorldState)} b (Some (length w.waiting, shut w)) None ≡ Some (count, after) → LeavesCells w.zone after.zone
   by_empty true e = subst (λ (v : WorldState). LeavesCells w.zone v.zone) (some_pair_parts _ count (shut w) after e).1 (put_back_leaves w.waiting w.zone)
   by_empty false e = cc
+
+-- each other call
+module _ (w : WorldState) where
+  abbrev Leaves : Answered → Type 0
+  Leaves a = LeavesCells w.zone a.world.zone
+
+  refusal_leaves : (number : ℕ) → Leaves (refused number w)
+  refusal_leaves number = leaves_all w.zone
+
+  pub leaves_call : (c : Call) → Leaves (call_step w c)
+  leaves_call Scan = unless_by Leaves (scan_stopped w) (λ number. opened_leaves w) (scan_refusal w) _ (λ accepted. scanned_leaves w)
+  leaves_call (Take hand) = hand_by Leaves w refusal_leaves _ (take_step w hand) (taken_leaves w hand)
+  leaves_call (CopyBy hand) = copied_by Leaves w refusal_leaves (copy_step w hand) (copied_leaves w hand)
+  leaves_call (Finish hand) = hand_by Leaves w refusal_leaves (λ (f : Finished). ending f.serial f.ended) (finish_step w hand) (finished_leaves w hand)
+  leaves_call Shut = hand_by Leaves w refusal_leaves _ (shut_step w) (shut_leaves w)
+  leaves_call (LookAt a) = looked_by Leaves w refusal_leaves (look_of w.zone a) (λ known. leaves_all w.zone)
+  leaves_call Huge = unless_by Leaves w refusal_leaves (refusal_of {W = 8} (TakeOrder 9) w.zone) _ (λ accepted. record { blocks = refl; names = λ address. refl; words = λ page word. refl })
+  leaves_call (Give block) = unless_by Leaves w refusal_leaves (refusal_of {W = 8} (GiveOrder (512 * block) 9) w.zone) _ (λ accepted. record { blocks = refl; names = λ address. refl; words = λ page word. refl })
+  leaves_call _ = leaves_all w.zone

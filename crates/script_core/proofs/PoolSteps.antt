@@ -30,6 +30,11 @@ module _ (blocks : PoolBlocks) where
   either P None got w rest ends goes = goes refl
   either P (Some error) got w rest ends goes = ends error
 
+  -- and so it is where a hand round may be open
+  by_open : (P : Answered → Type 0) (b : Bool) (w : WorldState) (count : ℕ) → P (refused 45 w) → P (pool_from blocks [] count w) → P (if b then refused 45 w else pool_from blocks [] count w)
+  by_open P true w count refusal pool = refusal
+  by_open P false w count refusal pool = pool
+
   keeps_from : HasOrder blocks → (got : List ℕ) (n : ℕ) (w : WorldState) → IsOrderly w → Keeps w (pool_from blocks got n w).world
   keeps_from range got zero w o = keeps_all w o
   keeps_from range got (suc n) w o =
@@ -37,10 +42,7 @@ module _ (blocks : PoolBlocks) where
       (λ accepted. (let next = keeps_zone w (TakeOrder order) o range accepted in keeps_then w (taken w) (pool_from blocks (more got w) n (taken w)).world next (keeps_from range (more got w) n (taken w) next.orderly)))
 
   pub keeps_pool : HasOrder blocks → (w : WorldState) (count : ℕ) → IsOrderly w → Keeps w (pool_step w count blocks).world
-  keeps_pool range w count o = by_open w.is_open where
-    by_open : (b : Bool) → Keeps w (if b then refused 45 w else pool_from blocks [] count w).world
-    by_open true = keeps_all w o
-    by_open false = keeps_from range [] count w o
+  keeps_pool range w count o = by_open (λ a. Keeps w a.world) w.is_open w count (keeps_all w o) (keeps_from range [] count w o)
 
   leaves_from : (got : List ℕ) (n : ℕ) (w : WorldState) → LeavesCells w.zone (pool_from blocks got n w).world.zone
   leaves_from got zero w = leaves_all w.zone
@@ -49,10 +51,7 @@ module _ (blocks : PoolBlocks) where
       (λ accepted. leaves_then w.zone (taken w).zone (pool_from blocks (more got w) n (taken w)).world.zone (record { blocks = refl; names = λ a. refl; words = λ page word. refl }) (leaves_from (more got w) n (taken w)))
 
   pub pool_leaves : (w : WorldState) (count : ℕ) → LeavesCells w.zone (pool_step w count blocks).world.zone
-  pool_leaves w count = by_open w.is_open where
-    by_open : (b : Bool) → LeavesCells w.zone (if b then refused 45 w else pool_from blocks [] count w).world.zone
-    by_open true = leaves_all w.zone
-    by_open false = leaves_from [] count w
+  pool_leaves w count = by_open (λ a. LeavesCells w.zone a.world.zone) w.is_open w count (leaves_all w.zone) (leaves_from [] count w)
 
   -- the reply is that of a pool, or a refusal
   from_replies : (got : List ℕ) (n : ℕ) (w : WorldState) → is_of_rounds (pool_from blocks got n w).reply ≡ true
@@ -62,7 +61,4 @@ module _ (blocks : PoolBlocks) where
       (λ accepted. from_replies (more got w) n (taken w))
 
   pub pool_replies : (w : WorldState) (count : ℕ) → is_of_rounds (pool_step w count blocks).reply ≡ true
-  pool_replies w count = by_open w.is_open where
-    by_open : (b : Bool) → is_of_rounds (if b then refused 45 w else pool_from blocks [] count w).reply ≡ true
-    by_open true = refl
-    by_open false = from_replies [] count w
+  pool_replies w count = by_open (λ a. is_of_rounds a.reply ≡ true) w.is_open w count refl (from_replies [] count w)

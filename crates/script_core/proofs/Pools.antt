@@ -17,7 +17,7 @@ use Rattle.huge_core.specs.declared.report.Stop.{Stop}
 use Rattle.huge_core.specs.declared.report.Stop.TheVariants as stop
 use Rattle.huge_core.specs.ByHand.{IsReservedByHand}
 use Rattle.huge_core.specs.Huge.{Huge}
-use Rattle.huge_core.specs.Reserving.{AreLeft, AreRounds, HasRun, IsGot}
+use Rattle.huge_core.specs.Reserving.{AreRounds, HasRun, IsGot}
 use Rattle.text_core.specs.declared.pool.PoolBlocks.{PoolBlocks}
 use Rattle.text_core.specs.declared.reply.Reply.{Reply}
 use Rattle.text_core.specs.Pool.{pool_order, told_as}
@@ -63,14 +63,11 @@ module _ (scan_old scan : ScanSeat) (ends_old ends : EndSeat) (refusal : Option 
   pub pool_settles : (c : Collector) (report : Report) → HasRun c scan_old scan ends_old ends report → SettlesAt report.stop report.rounds → refusal ≡ None
   pool_settles c report run = by_stop report.stop refl where
     by_stop : (why : Stop) → report.stop ≡ why → SettlesAt why report.rounds → refusal ≡ None
-    by_stop stop.Enough is some = kept_on c report run (subst (λ s. AreLeft s run.scan_after scan run.ends_after ends) is run.left) some
-    by_stop stop.NoBlock is some = kept_on c report run (subst (λ s. AreLeft s run.scan_after scan run.ends_after ends) is run.left) some
-    by_stop stop.Rounds is some = kept_on c report run (subst (λ s. AreLeft s run.scan_after scan run.ends_after ends) is run.left) some
-    by_stop stop.JournalFull is some = kept_on c report run (subst (λ s. AreLeft s run.scan_after scan run.ends_after ends) is run.left) some
     by_stop (stop.Refused error) is want =
-        let early : IsRefusedEarly run.scan_after scan run.ends_after ends (Err error) = subst (λ s. AreLeft s run.scan_after scan run.ends_after ends) is run.left in
+        let early : IsRefusedEarly run.scan_after scan run.ends_after ends (Err error) = rw is at run.left in
         settles run.scan_after scan run.ends_after ends refusal (whole_after run.rounds scan_old run.scan_after ends_old run.ends_after whole run.ran) passes
         (Err error) tt early want
+    by_stop _ is some = kept_on c report run (rw is at run.left) some
 
 -- a pool over the zone and the seats that a world was split into
 pub pool_done : {I N M B : Type 0} (w : WorldState) (client : Client) (places count : ℕ) (blocks : PoolBlocks) (zone_old zone : ZoneState) (seats_old seats : Seats I N M B)

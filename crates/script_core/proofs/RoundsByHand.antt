@@ -4,10 +4,8 @@ use Rattle.std.specs.FinMap as map
 use Rattle.std.specs.Prelude.{if◌then◌else◌}
 use Rattle.zone_core.specs.Alone.{IsAtRest}
 use Rattle.zone_core.specs.ByHand.{all_isolated, by_hand, moved_below, moved_if_moving, scan_pair, scan_step, scan_steps}
-use Rattle.zone_core.proofs.ByHand.{moving_all, moving_isolated, none_by_hand}
 use Rattle.round_core.specs.Rounds.{stop_by_hand}
-use Rattle.state_core.proofs.Calls.{call_valid}
-use Rattle.state_core.specs.declared.call.ZoneCall.TheVariants.{TakeOrder}
+use Rattle.huge_core.proofs.SameByHand.{rest_by_hand, rest_taken}
 use Rattle.state_core.specs.declared.error.ZoneError.{ZoneError}
 use Rattle.state_core.specs.declared.error.ZoneError.TheVariants as zone
 use Rattle.state_core.specs.declared.placement.Placement.{Placement}
@@ -59,16 +57,13 @@ round_leaves z =
     (moves_leave (frame_count z) (all_isolated z))
 
 pub round_rests : (z : ZoneState) → IsAtRest z → Rests z (by_hand z)
-round_rests z rest = record {
-  rest = record { valid = (moving_all (frame_count z) (all_isolated z) (moving_isolated z rest)).law; none_out = none_by_hand z rest };
-  leaves = round_leaves z;
-}
+round_rests z rest = record { rest = rest_by_hand z rest; leaves = round_leaves z }
 
 -- A reservation by hand of blocks of an order
 module _ (order : ℕ) (low : 3 ≤ order) (high : order ≤ 9) where
   taken_rests : (z : ZoneState) → IsAtRest z → take_order_refusal z order ≡ None → Rests z (lowest_taken z order)
   taken_rests z rest accepted = record {
-    rest = record { valid = call_valid 8 (TakeOrder order) 0 z rest.valid (low, high) accepted; none_out = rest.none_out };
+    rest = rest_taken order low high z rest accepted;
     leaves = record { blocks = refl; names = λ address. refl; words = λ page word. refl };
   }
 

@@ -9,14 +9,13 @@ use Rattle.machine_core.proofs.Closing.{carried_closed}
 use Rattle.text_core.specs.declared.command.Calls.{Calls}
 use Rattle.text_core.specs.declared.command.Calls.TheVariants.{Zone, One, Series as SeriesOf}
 use Rattle.text_core.specs.declared.command.Command.{Command}
-use Rattle.text_core.specs.declared.command.Command.TheVariants.{Open, On, Compact, Pool, Profile2, OutOfRange, During}
+use Rattle.text_core.specs.declared.command.Command.TheVariants.{On, Compact, Pool}
 use Rattle.text_core.specs.declared.pool.PoolBlocks.{PoolBlocks}
 use Rattle.text_core.proofs.Ranges.{HasOrder, IsInRange}
-use Rattle.machine_core.specs.Machine.{Step, answered, calls_step, declined, pool_step, reply_for, step, during_on}
-use Rattle.script_core.proofs.Machines.{Goes, GoesOn, IsMachine, by_rounds, is_of_rounds, runs_rounds}
+use Rattle.machine_core.specs.Machine.{Step, answered, calls_step, declined, pool_step, reply_for, step}
+use Rattle.script_core.proofs.Machines.{Goes, GoesOn, IsMachine, by_other, by_rounds, is_of_rounds, runs_rounds}
 use Rattle.script_core.proofs.PagesMoved.{leaves_all}
 use Rattle.script_core.proofs.PoolSteps.{keeps_pool, pool_leaves, pool_replies}
-use Rattle.text_core.specs.Grammar.{zone_of}
 use Rattle.script_core.proofs.Steps.{Keeps, keeps_all, keeps_call, keeps_series, keeps_zone_step}
 
 pub keeps_calls : (w : WorldState) → IsOrderly w → (zone : ℕ) (c : Calls) → IsInRange (On zone c) → Keeps w (calls_step w c).world
@@ -24,23 +23,11 @@ keeps_calls w o zone (Zone call) r = keeps_zone_step w o call (reply_for call) r
 keeps_calls w o zone (One c) r = keeps_call w o c r
 keeps_calls w o zone (SeriesOf s) r = keeps_series s.call s.space s.first s.step 0 s.count w o
 
--- `during` on one thread changes nothing in the world
-pub during_keeps : (zone : Option ℕ) (w : WorldState) → (during_on zone (Some w)).world ≡ Some w
-during_keeps None w = refl
-during_keeps (Some zone) w = refl
-
 -- a command that is neither a round nor a pool
 goes_other : (places : ℕ) (w : WorldState) → IsOrderly w → (c : Command) → IsInRange c → runs_rounds c ≡ false → Goes w (step places (Some w) c)
-goes_other places w o OutOfRange r h = record { after = w; world = refl; keeps = keeps_all w o }
-goes_other places w o Profile2 r h = record { after = w; world = refl; keeps = keeps_all w o }
-goes_other places w o (Open zone blocks) r h = record { after = w; world = refl; keeps = keeps_all w o }
-goes_other places w o (Compact zone) r h = cc
-goes_other places w o (Pool zone count blocks) r h = cc
-goes_other places w o (During number) r h = record { after = w; world = during_keeps (zone_of number) w; keeps = keeps_all w o }
-goes_other places w o (On zone calls) r h = by_number (nat_eq zone w.zone.number) where
-  by_number : (b : Bool) → Goes w (if b then answered (calls_step w calls) else declined 43 (Some w))
-  by_number true = record { after = (calls_step w calls).world; world = refl; keeps = keeps_calls w o zone calls r }
-  by_number false = record { after = w; world = refl; keeps = keeps_all w o }
+goes_other places w o c r h = by_other places (λ c s. IsInRange c → Goes w s) w
+    (λ c number r. record { after = w; world = refl; keeps = keeps_all w o }) (λ r. record { after = w; world = refl; keeps = keeps_all w o })
+    (λ zone calls r. record { after = (calls_step w calls).world; world = refl; keeps = keeps_calls w o zone calls r }) c h r
 
 -- any command, in any machine
 pub goes_by : (places : ℕ) (steps : Option WorldState → Command → Step) → IsMachine places steps → (w : WorldState) → IsOrderly w → (c : Command) → IsInRange c → Goes w (steps (Some w) c)
@@ -79,9 +66,6 @@ module _ (places : ℕ) where
     closed = λ c h. by_rounds (λ c. (step places None c).world ≡ None) (λ zone. refl) (λ zone count blocks. refl) c h;
     goes_on = λ w o c r h. by_rounds (λ c. IsInRange c → GoesOn w (step places (Some w) c)) (λ zone r. refusal_goes_on w o _) (λ zone count blocks r. pool_goes_on w o zone count blocks r) c h r;
   }
-
-  pub goes : (w : WorldState) → IsOrderly w → (c : Command) → IsInRange c → Goes w (step places (Some w) c)
-  goes w o c r = goes_by places (step places) one_thread w o c r
 
 pub opened_orderly : (zone blocks places : ℕ) → (0 < blocks) × (blocks ≤ 8) → (0 < places) × (places ≤ 65536) → IsOrderly (world_opened zone blocks places)
 opened_orderly zone blocks places b p =

@@ -40,14 +40,12 @@ module _ {S T : Type 0} (may : Rule S) (asks : Asking S) (start : S) (to : Rule 
   abbrev begins_as : (commands : List Numbered) → Are commands → Begins may start commands → Begins to from commands
   begins_as commands all b = record { answers = b.answers; after = (first_as commands all b).beside; replied = (first_as commands all b).replied }
 
-  abbrev answers_as : (input : List ℕ) (old new : Option (List ℕ)) → Are (commands_of input) → IsAnswered may start input old new → IsAnswered to from input old new
-  answers_as input old new all h = record { begins = begins_as (commands_of input) all h.begins; written = h.written }
-
   pub answered_as : (input : List ℕ) (old new : Option (List ℕ)) → Are (commands_of input) → IsAnswered may start input old new → IsAnswered to from input old new
-  answered_as input old new all h = answers_as input old new all h
+  answered_as input old new all h = record { begins = begins_as (commands_of input) all h.begins; written = h.written }
 
   pub total_as : (input : List ℕ) (old new : Option (List ℕ)) (totals : Totals) → Are (commands_of input) → IsTotal may start input old new totals → IsTotal to from input old new totals
-  total_as input old new totals all h = record { answered = answers_as input old new all h.answered; totals_are = h.totals_are }
+  unfolding answered_as
+  total_as input old new totals all h = record { answered = answered_as input old new all h.answered; totals_are = h.totals_are }
 
   -- what holds of each command of an input holds of those before a place of it
   all_until : (input : List ℕ) (before later : List Numbered) → commands_of input ≡ before ++ later → Are (commands_of input) → Are before

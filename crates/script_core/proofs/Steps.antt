@@ -7,28 +7,27 @@ use Rattle.frame_core.specs.declared.place.Address.{Address}
 use Rattle.state_core.specs.declared.call.ZoneAnswer.{ZoneAnswer}
 use Rattle.state_core.specs.declared.call.ZoneCall.{ZoneCall}
 use Rattle.state_core.specs.declared.call.ZoneCall.TheVariants.{TakeOrder, GiveOrder}
-use Rattle.state_core.specs.declared.error.ZoneError.{ZoneError}
-use Rattle.state_core.specs.declared.information.Look.{Look}
 use Rattle.state_core.specs.Looking.{look_of}
 use Rattle.state_core.specs.Calls.{IsInRange, refusal_of, after}
 use Rattle.state_core.proofs.Calls.{call_valid}
 use Rattle.machine_core.specs.declared.hand.Finished.{Finished}
 use Rattle.zone_core.specs.Seats.{seat_full}
-use Rattle.machine_core.specs.World.{IsOrderly, WorldState, copy_step, finish_step, round_opened, scan_answer, scan_refusal, scan_stopped, scanned, shut_step, take_step, with_zone}
+use Rattle.machine_core.specs.World.{IsOrderly, WorldState, copy_step, finish_step, round_opened, scan_refusal, scan_stopped, shut_step, take_step, with_zone}
 use Rattle.machine_core.proofs.Carrying.{call_leaves}
 use Rattle.machine_core.proofs.HandsTaking.{orderly_copied, orderly_taken}
 use Rattle.machine_core.proofs.MovesEnded.{orderly_finished, orderly_shut}
 use Rattle.machine_core.proofs.Orderly.{orderly_isolated, orderly_noted, orderly_round_opened, orderly_with_zone}
 use Rattle.text_core.specs.declared.command.Call.{Call}
-use Rattle.text_core.specs.declared.command.Call.TheVariants.{Info, InfoWithHeld, Scan, Take, Copy, Finish, Shut, Look as LookAt, Huge, Give}
+use Rattle.text_core.specs.declared.command.Call.TheVariants.{Scan, Take, Copy, Finish, Shut, Look as LookAt, Huge, Give}
 use Rattle.text_core.specs.declared.command.Repeated.{Repeated}
 use Rattle.text_core.specs.declared.command.Repeated.TheVariants as repeated
 use Rattle.text_core.specs.declared.reply.Reply.{Reply}
 use Rattle.text_core.specs.declared.reply.Reply.TheVariants as reply
 use Rattle.text_core.specs.Grammar.{address_of}
 use Rattle.text_core.proofs.Ranges.{IsCallInRange, in_space}
-use Rattle.machine_core.specs.Machine.{Answered, by_hand, call_at, call_step, copied, ending, found, looked, page_step, reply_for, reply_for_huge, says, series_from, unless, unless_refused, zone_step}
-use Rattle.script_core.proofs.PagesMoved.{copied_leaves, finished_leaves, opened_leaves, scanned_leaves, shut_leaves, taken_leaves}
+use Rattle.machine_core.specs.Machine.{Answered, call_at, call_step, ending, page_step, reply_for, reply_for_huge, series_from, unless_refused, zone_step}
+use Rattle.script_core.proofs.EitherAnswer.{copied_by, hand_by, looked_by, unless_by}
+use Rattle.script_core.proofs.PagesMoved.{leaves_call}
 
 -- a world after some calls is orderly and has the same number of pageblocks
 pub record Keeps (w after : WorldState) : Type 0 where
@@ -41,22 +40,6 @@ keeps_all w o = record { orderly = o; blocks = refl }
 pub keeps_then : (a b c : WorldState) → Keeps a b → Keeps b c → Keeps a c
 keeps_then a b c first second = record { orderly = second.orderly; blocks = second.blocks ∙ first.blocks }
 
-keeps_unless : (w stopped : WorldState) (o : Option ZoneError) (a : Answered) → Keeps w stopped → (o ≡ None → Keeps w a.world) → Keeps w (unless o stopped a).world
-keeps_unless w stopped None a refusal accepted = accepted refl
-keeps_unless w stopped (Some e) a refusal accepted = refusal
-
-keeps_hand : {A : Type 0} (w : WorldState) (told : A → Reply) (o : Option (A × WorldState)) → IsOrderly w → ((x : A) (after : WorldState) → o ≡ Some (x, after) → Keeps w after) → Keeps w (by_hand told w o).world
-keeps_hand w told None o accepted = keeps_all w o
-keeps_hand w told (Some (x, after)) o accepted = accepted x after refl
-
-keeps_copied : (w : WorldState) (p : Option WorldState) → IsOrderly w → ((after : WorldState) → p ≡ Some after → Keeps w after) → Keeps w (copied w p).world
-keeps_copied w None o accepted = keeps_all w o
-keeps_copied w (Some after) o accepted = accepted after refl
-
-keeps_looked : (w : WorldState) (p : Option Look) → IsOrderly w → Keeps w (looked w p).world
-keeps_looked w None o = keeps_all w o
-keeps_looked w (Some known) o = keeps_all w o
-
 -- the zone after a call that it doesn't refuse
 pub keeps_zone : (w : WorldState) (call : ZoneCall 8) → IsOrderly w → IsInRange call → refusal_of call w.zone ≡ None → Keeps w (with_zone w (after call 0 w.zone))
 keeps_zone w call o r accepted =
@@ -67,27 +50,28 @@ keeps_zone w call o r accepted =
     }
 
 pub keeps_zone_step : (w : WorldState) → IsOrderly w → (call : ZoneCall 8) (told : ZoneAnswer → Reply) → IsInRange call → Keeps w (zone_step w call told).world
-keeps_zone_step w o call told r = keeps_unless w w (refusal_of call w.zone) _ (keeps_all w o) (λ accepted. keeps_zone w call o r accepted)
+keeps_zone_step w o call told r = unless_by (λ a. Keeps w a.world) w (λ number. keeps_all w o) (refusal_of call w.zone) _ (λ accepted. keeps_zone w call o r accepted)
+
+-- each other call
+abbrev IsOrderlyAfter : Answered → Type 0
+IsOrderlyAfter a = IsOrderly a.world
+
+orderly_call : (w : WorldState) → IsOrderly w → (c : Call) → IsCallInRange c → IsOrderly (call_step w c).world
+orderly_call w o Scan r =
+    let opened = orderly_round_opened w o in
+    unless_by IsOrderlyAfter (scan_stopped w) (λ number. orderly_noted (round_opened w) (seat_full (round_opened w).scan) opened) (scan_refusal w) _
+    (λ accepted. orderly_isolated (round_opened w) opened refl accepted)
+orderly_call w o (Take hand) r = hand_by IsOrderlyAfter w (λ number. o) _ (take_step w hand) (λ serial after e. orderly_taken w hand serial after r.0 r.1 o e)
+orderly_call w o (Copy hand) r = copied_by IsOrderlyAfter w (λ number. o) (copy_step w hand) (λ after e. orderly_copied w hand after r.0 r.1 o e)
+orderly_call w o (Finish hand) r = hand_by IsOrderlyAfter w (λ number. o) (λ (f : Finished). ending f.serial f.ended) (finish_step w hand) (λ finished after e. orderly_finished w hand finished after r.0 r.1 o e)
+orderly_call w o Shut r = hand_by IsOrderlyAfter w (λ number. o) _ (shut_step w) (λ count after e. orderly_shut w count after o e)
+orderly_call w o (LookAt a) r = looked_by IsOrderlyAfter w (λ number. o) (look_of w.zone a) (λ known. o)
+orderly_call w o Huge r = (keeps_zone_step w o (TakeOrder 9) reply_for_huge (omega arith, omega arith)).orderly
+orderly_call w o (Give block) r = (keeps_zone_step w o (GiveOrder (512 * block) 9) (λ _. reply.Done) tt).orderly
+orderly_call w o _ r = o
 
 pub keeps_call : (w : WorldState) → IsOrderly w → (c : Call) → IsCallInRange c → Keeps w (call_step w c).world
-keeps_call w o Info r = keeps_all w o
-keeps_call w o Scan r =
-    let opened = orderly_round_opened w o in
-    keeps_unless w (scan_stopped w) (scan_refusal w) (says (found (scan_answer w)) (scanned w))
-    (record { orderly = orderly_noted (round_opened w) (seat_full (round_opened w).scan) opened; blocks = (opened_leaves w).blocks })
-    (λ accepted. record { orderly = orderly_isolated (round_opened w) opened refl accepted; blocks = (scanned_leaves w).blocks })
-keeps_call w o (Take hand) r = keeps_hand w _ (take_step w hand) o
-    (λ serial after e. record { orderly = orderly_taken w hand serial after r.0 r.1 o e; blocks = (taken_leaves w hand serial after e).blocks })
-keeps_call w o (Copy hand) r = keeps_copied w (copy_step w hand) o
-    (λ after e. record { orderly = orderly_copied w hand after r.0 r.1 o e; blocks = (copied_leaves w hand after e).blocks })
-keeps_call w o (Finish hand) r = keeps_hand w (λ (f : Finished). ending f.serial f.ended) (finish_step w hand) o
-    (λ finished after e. record { orderly = orderly_finished w hand finished after r.0 r.1 o e; blocks = (finished_leaves w hand finished after e).blocks })
-keeps_call w o Shut r = keeps_hand w _ (shut_step w) o
-    (λ count after e. record { orderly = orderly_shut w count after o e; blocks = (shut_leaves w count after e).blocks })
-keeps_call w o (LookAt a) r = keeps_looked w (look_of w.zone a) o
-keeps_call w o Huge r = keeps_zone_step w o (TakeOrder 9) reply_for_huge (omega arith, omega arith)
-keeps_call w o (Give block) r = keeps_zone_step w o (GiveOrder (512 * block) 9) (λ _. reply.Done) tt
-keeps_call w o InfoWithHeld r = keeps_all w o
+keeps_call w o c r = record { orderly = orderly_call w o c r; blocks = (leaves_call w c).blocks }
 
 -- the call of a series at an address is in range
 at_ranged : (c : Repeated) (p : Option Address) → IfSome p InRange → IfSome p (λ a. IsInRange (call_at c a))

@@ -6,7 +6,7 @@ use Rattle.std.specs.List.{AllByRecursion}
 use Rattle.std.specs.Io.KnownBytes.{Appends}
 use Rattle.std.proofs.lemmas.Result.{MatchResult-weaker}
 use Rattle.text_core.specs.declared.command.Command.{Command}
-use Rattle.text_core.specs.declared.command.Command.TheVariants.{Open, On, Compact, Pool, During, Profile2, OutOfRange}
+use Rattle.text_core.specs.declared.command.Command.TheVariants.{Compact, Pool, During}
 use Rattle.machine_core.specs.World.{WorldState}
 use Rattle.text_core.specs.declared.profile.Profile.TheVariants.{Untold}
 use Rattle.text_core.specs.declared.reply.Reply.{Reply}
@@ -34,23 +34,15 @@ abbrev IsAloneReply : WithThreads → Command → Reply → WithThreads → Type
 IsAloneReply old c answer new = IsStep old.single c answer new.single × (new.broken ≡ None)
 
 alone_step : (old : WithThreads) (c : Command) (answer : Reply) (new : WithThreads) → IsUnthreaded c → IsStepAt None old c answer new → IsAloneReply old c answer new
-alone_step old (Open zone blocks) answer new none step = (step.0, step.1)
-alone_step old (On zone calls) answer new none step = (step.0, step.1)
 alone_step old (Compact zone) answer new none step = absurd none
 alone_step old (Pool zone count blocks) answer new none step = absurd none
 alone_step old (During zone) answer new none step = absurd none
-alone_step old Profile2 answer new none step = (step.0, step.1)
-alone_step old OutOfRange answer new none step = (step.0, step.1)
+alone_step old _ answer new none step = (step.0, step.1)
 
 -- a command that isn't a round, a pool or a block doesn't run a block
 no_block : (c : Command) (world : Option WorldState) → IsUnthreaded c → IsBlockFor c world → ⊥
 no_block (During zone) world none block = none
-no_block (Open zone blocks) world none block = block
-no_block (On zone calls) world none block = block
-no_block (Compact zone) world none block = block
-no_block (Pool zone count blocks) world none block = block
-no_block Profile2 world none block = block
-no_block OutOfRange world none block = block
+no_block _ world none block = block
 
 unbroken_step : (old : WithThreads) (c : Numbered) (answers : List Answer) (new : WithThreads) → old.broken ≡ None → IsUnthreaded c.command → IsThreadedStep old c answers new → IsAlone old c answers new
 unbroken_step old c answers new unbroken none (inl one) =

@@ -1,55 +1,47 @@
 -- The values that a machine answers are those of its history.
-use Rattle.std.proofs.Common.{◌≡◌, ℕ, zero, suc, ◌+◌, ◌*◌, ◌<◌, ◌≤◌, Bool, true, false, List, [], ◌∷◌, length, refl, sym, ap, subst, ◌∙◌, arith, Option, Some, None, IsSomeAnd}
-use Rattle.std.specs.Prelude.{◌&&◌, nat_eq, nat_lt, if◌then◌else◌, unwrap_or, IsSome}
+use Rattle.std.proofs.Common.{◌≡◌, ℕ, zero, suc, ◌+◌, ◌<◌, ◌≤◌, Bool, true, false, List, [], ◌∷◌, length, refl, sym, ap, subst, ◌∙◌, arith, Option, Some, None, IsSomeAnd}
+use Rattle.std.specs.Prelude.{◌&&◌, nat_lt, if◌then◌else◌, unwrap_or, IsSome}
 use Rattle.std.proofs.lemmas.Option.{same_Some}
 use Rattle.frame_core.specs.declared.place.Address.{Address}
 use Rattle.frame_core.specs.declared.record.Record.{Record}
 use Rattle.frame_core.specs.declared.record.Record.TheVariants as record_of
 use Rattle.frame_core.specs.History.{last, page_at}
 use Rattle.state_core.specs.declared.call.ZoneCall.{ZoneCall}
-use Rattle.state_core.specs.declared.call.ZoneCall.TheVariants.{Map, MapAt, Load, Store, Share, Unmap, Pin, Unpin, TakeOrder, GiveOrder, Mark, Unmark}
-use Rattle.state_core.specs.declared.error.ZoneError.{ZoneError}
-use Rattle.state_core.specs.declared.information.Look.{Look}
+use Rattle.state_core.specs.declared.call.ZoneCall.TheVariants.{Map, MapAt, Load, Store, Share, Unmap}
 use Rattle.state_core.specs.Access.{value_at}
 use Rattle.state_core.specs.Calls.{refusal_of, answer_of, after}
-use Rattle.state_core.specs.ErrorNumber.{number_of}
 use Rattle.state_core.specs.Valid.{IsValidZone}
-use Rattle.state_core.specs.Looking.{look_of}
 use Rattle.state_core.specs.Mapping.{mapped}
 use Rattle.state_core.specs.Unmapping.{is_last, unmapped, without_page}
 use Rattle.state_core.specs.ZoneState.{ZoneState, lowest_free_frame, noted}
 use Rattle.state_core.proofs.Placed.{clash}
 use Rattle.machine_core.proofs.Carrying.{frame_left, frame_left_at}
-use Rattle.machine_core.specs.declared.hand.Finished.{Finished}
-use Rattle.machine_core.specs.declared.hand.Scanned.{Scanned}
 use Rattle.machine_core.specs.declared.hand.Scanned.TheVariants as scan
-use Rattle.state_core.specs.declared.moves.Ended.{Ended}
 use Rattle.state_core.specs.declared.moves.Ended.TheVariants as ended
-use Rattle.machine_core.specs.World.{IsOrderly, WorldState, copy_step, finish_step, scan_answer, scan_refusal, scan_stopped, scanned, shut_step, take_step, with_zone, world_opened}
+use Rattle.machine_core.specs.World.{IsOrderly, WorldState, with_zone, world_opened}
 use Rattle.text_core.specs.declared.command.Call.{Call}
-use Rattle.text_core.specs.declared.command.Call.TheVariants.{Info, InfoWithHeld, Scan, Take, Copy, Finish, Shut, Look as LookAt, Huge, Give}
+use Rattle.text_core.specs.declared.command.Call.TheVariants.{Info, InfoWithHeld}
 use Rattle.text_core.specs.declared.command.Calls.{Calls}
 use Rattle.text_core.specs.declared.command.Calls.TheVariants.{Zone, One, Series as SeriesOf}
 use Rattle.text_core.specs.declared.command.Repeated.{Repeated}
 use Rattle.text_core.specs.declared.command.Command.{Command}
-use Rattle.text_core.specs.declared.command.Command.TheVariants.{Open, On, Compact, Pool, Profile2, OutOfRange, During}
+use Rattle.text_core.specs.declared.command.Command.TheVariants.{Open, On, Compact, Pool, During}
 use Rattle.text_core.specs.declared.profile.Profile.TheVariants.{Untold}
 use Rattle.text_core.specs.declared.reply.Reply.{Reply}
 use Rattle.text_core.specs.declared.reply.Reply.TheVariants as reply
 use Rattle.text_core.specs.Grammar.{address_of, zone_of}
 use Rattle.text_core.proofs.Ranges.{IsInRange}
-use Rattle.machine_core.specs.Machine.{Answered, Step, answered, by_hand, call_at, call_step, calls_step, copied, declined, ending, found, looked, make_step, page_step, reply_for, says, series_from, step, unless, unless_refused, during_on}
+use Rattle.machine_core.specs.Machine.{Answered, Step, call_at, call_step, calls_step, make_step, page_step, reply_for, says, series_from, step, unless_refused, during_on}
 use Rattle.text_core.specs.Script.{Numbered, commands_of, parts_of, by}
-use Rattle.machine_core.specs.Replies.{answers_of}
-use Rattle.script_core.specs.MachineByHand.{answers_by_hand, step_by_hand}
 use Rattle.script_core.specs.Values.{IsLastStored, ValuesAreStored, accepted, accepted_count, called, repeated, told}
-use Rattle.script_core.proofs.MachineByHand.{machine_by_hand}
 use Rattle.script_core.proofs.CallsAccepted.{accessed_page, fresh_number, mapped_is}
 use Rattle.script_core.proofs.CommandsInRange.{AreInRange, commands_ranged}
-use Rattle.script_core.proofs.Machines.{Goes, IsMachine, answers_by, answers_to, by_rounds, is_of_rounds, runs_rounds}
+use Rattle.script_core.proofs.Machines.{Goes, IsMachine, answers_by, answers_to, by_other, by_rounds, is_of_rounds, runs_rounds}
+use Rattle.script_core.proofs.EitherAnswer.{unless_by}
+use Rattle.script_core.proofs.Replies.{has_value, plain_call}
 use Rattle.script_core.proofs.Matching.{Match, match_empty, match_mapped, match_same, match_shared, match_stored, match_unmapped}
-use Rattle.script_core.proofs.PagesMoved.{LeavesCells, copied_leaves, finished_leaves, leaves_all, opened_leaves, scanned_leaves, shut_leaves, taken_leaves}
-use Rattle.script_core.proofs.Runs.{goes_by, one_thread, opened_orderly}
+use Rattle.script_core.proofs.PagesMoved.{LeavesCells, leaves_call}
+use Rattle.script_core.proofs.Runs.{goes_by, opened_orderly}
 use Rattle.script_core.proofs.Steps.{keeps_page_step}
 
 -- an answer to a call made after this history has the value of the history, and the world after it matches the history after it
@@ -66,48 +58,18 @@ refused_adds older (SeriesOf s) number = refl
 refuses : (older : List Record) (c : Calls) (number : ℕ) (w : WorldState) → Match w.zone.records older → Tells older c (says (reply.Refused number) w)
 refuses older c number w m = record { match = subst (Match w.zone.records) (sym (refused_adds older c number)) m; value = λ zone. tt }
 
-tells_unless : (older : List Record) (c : Calls) (o : Option ZoneError) (stopped : WorldState) (a : Answered) → Match stopped.zone.records older → (o ≡ None → Tells older c a) → Tells older c (unless o stopped a)
-tells_unless older c None stopped a m go = go refl
-tells_unless older c (Some e) stopped a m go = refuses older c (number_of e) stopped m
-
 leaves : (older : List Record) (z after : ZoneState) → LeavesCells z after → Match z.records older → Match after.records older
 leaves older z after l m = match_same z.records after.records older l.names l.words m
-
--- whether a reply has a value
-abbrev has_value : Reply → Bool
-has_value (reply.Value x) = true
-has_value _ = false
 
 no_value : (older : List Record) (c : Command) (r : Reply) → has_value r ≡ false → IsLastStored older c r
 no_value older c (reply.Value x) h = cc
 no_value older c _ h = tt
 
--- a call that isn't of the zone adds nothing to a history; nor has its reply a value
-quiet : (older : List Record) (c : Call) (z : ZoneState) (a : Answered) → has_value a.reply ≡ false → Match z.records older → LeavesCells z a.world.zone → Tells older (One c) a
-quiet older c z a none m l = record {
-  match = leaves older z a.world.zone l m;
-  value = λ zone. no_value older (On zone (One c)) a.reply none;
-}
-
-quiet_hand : {A : Type 0} (older : List Record) (c : Call) (w : WorldState) (to : A → Reply) (o : Option (A × WorldState)) → ((x : A) → has_value (to x) ≡ false) → Match w.zone.records older → ((x : A) (after : WorldState) → o ≡ Some (x, after) → LeavesCells w.zone after.zone) → Tells older (One c) (by_hand to w o)
-quiet_hand older c w to None none m l = refuses older (One c) 45 w m
-quiet_hand older c w to (Some (x, after)) none m l = quiet older c w.zone (says (to x) after) (none x) m (l x after refl)
-
-quiet_copied : (older : List Record) (c : Call) (w : WorldState) (o : Option WorldState) → Match w.zone.records older → ((after : WorldState) → o ≡ Some after → LeavesCells w.zone after.zone) → Tells older (One c) (copied w o)
-quiet_copied older c w None m l = refuses older (One c) 45 w m
-quiet_copied older c w (Some after) m l = quiet older c w.zone (says reply.Done after) refl m (l after refl)
-
-quiet_looked : (older : List Record) (c : Call) (w : WorldState) (o : Option Look) → Match w.zone.records older → Tells older (One c) (looked w o)
-quiet_looked older c w None m = refuses older (One c) 3 w m
-quiet_looked older c w (Some known) m = quiet older c w.zone (says (reply.Looked known) w) refl m (leaves_all w.zone)
-
-no_value_found : (s : Scanned) → has_value (found s) ≡ false
-no_value_found (scan.Serial serial) = refl
-no_value_found scan.Met = refl
-
-no_value_ending : (serial : ℕ) (e : Ended) → has_value (ending serial e) ≡ false
-no_value_ending serial ended.Moved = refl
-no_value_ending serial ended.Back = refl
+-- a call that isn't of the zone has no value in its reply
+call_has_none : (w : WorldState) (c : Call) → has_value (call_step w c).reply ≡ false
+call_has_none w Info = refl
+call_has_none w InfoWithHeld = refl
+call_has_none w c = (plain_call w c refl).1
 
 -- a fresh page, which no address names before
 maps_fresh : (older : List Record) (z : ZoneState) (a : Address) (unmovable : Bool) (frame : ℕ) → IsValidZone z → IsSome (lowest_free_frame z) → Match z.records older → Match (mapped z 0 a unmovable frame).records (record_of.Map 0 a (length older) ∷ older)
@@ -147,30 +109,16 @@ module _ (older : List Record) (w : WorldState) (o : IsOrderly w) (m : Match w.z
     match = subst (λ (records : List Record). Match records (record_of.Unmap 0 a ∷ older)) (unmapped_records w.zone a) (match_unmapped w.zone.records older a m);
     value = λ zone. tt;
   }
-  tells_accepted (Pin a) e = record { match = kept (after {W = 8} (Pin a) 0 w.zone) (λ b. refl) (λ p v. refl); value = λ zone. tt }
-  tells_accepted (Unpin a) e = record { match = kept (after {W = 8} (Unpin a) 0 w.zone) (λ b. refl) (λ p v. refl); value = λ zone. tt }
-  tells_accepted (TakeOrder order) e = record { match = kept (after {W = 8} (TakeOrder order) 0 w.zone) (λ b. refl) (λ p v. refl); value = λ zone. tt }
-  tells_accepted (GiveOrder first order) e = record { match = kept (after {W = 8} (GiveOrder first order) 0 w.zone) (λ b. refl) (λ p v. refl); value = λ zone. tt }
-  tells_accepted (Mark block) e = record { match = kept (after {W = 8} (Mark block) 0 w.zone) (λ b. refl) (λ p v. refl); value = λ zone. tt }
-  tells_accepted (Unmark block) e = record { match = kept (after {W = 8} (Unmark block) 0 w.zone) (λ b. refl) (λ p v. refl); value = λ zone. tt }
+  tells_accepted c e = record { match = kept (after c 0 w.zone) (λ b. refl) (λ p v. refl); value = λ zone. tt }
 
 tells_make : (older : List Record) (w : WorldState) → IsOrderly w → Match w.zone.records older → (c : ZoneCall 8) → Tells older (Zone c) (make_step w c)
-tells_make older w o m c = tells_unless older (Zone c) (refusal_of c w.zone) w _ m (λ e. tells_accepted older w o m c e)
+tells_make older w o m c = unless_by (Tells older (Zone c)) w (λ number. refuses older (Zone c) number w m) (refusal_of c w.zone) _ (λ e. tells_accepted older w o m c e)
 
-tells_call : (older : List Record) (w : WorldState) → IsOrderly w → Match w.zone.records older → (c : Call) → Tells older (One c) (call_step w c)
-tells_call older w o m Info = quiet older Info w.zone (call_step w Info) refl m (leaves_all w.zone)
-tells_call older w o m InfoWithHeld = quiet older InfoWithHeld w.zone (call_step w InfoWithHeld) refl m (leaves_all w.zone)
-tells_call older w o m Scan = tells_unless older (One Scan) (scan_refusal w) (scan_stopped w) (says (found (scan_answer w)) (scanned w)) (leaves older w.zone (scan_stopped w).zone (opened_leaves w) m)
-    (λ e. quiet older Scan w.zone (says (found (scan_answer w)) (scanned w)) (no_value_found (scan_answer w)) m (scanned_leaves w))
-tells_call older w o m (Take hand) = quiet_hand older (Take hand) w (λ serial. reply.Serial serial) (take_step w hand) (λ serial. refl) m (λ serial after e. taken_leaves w hand serial after e)
-tells_call older w o m (Copy hand) = quiet_copied older (Copy hand) w (copy_step w hand) m (λ after e. copied_leaves w hand after e)
-tells_call older w o m (Finish hand) = quiet_hand older (Finish hand) w (λ (f : Finished). ending f.serial f.ended) (finish_step w hand) (λ f. no_value_ending f.serial f.ended) m (λ f after e. finished_leaves w hand f after e)
-tells_call older w o m Shut = quiet_hand older Shut w (λ count. reply.Shut count) (shut_step w) (λ count. refl) m (λ count after e. shut_leaves w count after e)
-tells_call older w o m (LookAt a) = quiet_looked older (LookAt a) w (look_of w.zone a) m
-tells_call older w o m Huge = tells_unless older (One Huge) (refusal_of {W = 8} (TakeOrder 9) w.zone) w _ m
-    (λ e. record { match = kept older w o m (after {W = 8} (TakeOrder 9) 0 w.zone) (λ b. refl) (λ p v. refl); value = λ zone. tt })
-tells_call older w o m (Give block) = tells_unless older (One (Give block)) (refusal_of {W = 8} (GiveOrder (512 * block) 9) w.zone) w _ m
-    (λ e. record { match = kept older w o m (after {W = 8} (GiveOrder (512 * block) 9) 0 w.zone) (λ b. refl) (λ p v. refl); value = λ zone. tt })
+tells_call : (older : List Record) (w : WorldState) → Match w.zone.records older → (c : Call) → Tells older (One c) (call_step w c)
+tells_call older w m c = record {
+  match = leaves older w.zone (call_step w c).world.zone (leaves_call w c) m;
+  value = λ zone. no_value older (On zone (One c)) (call_step w c).reply (call_has_none w c);
+}
 
 -- the calls of a series
 address_is : (s v : ℕ) (a : Address) → address_of s v ≡ Some a → record { space = s; vpage = v } ≡ a
@@ -212,20 +160,15 @@ record StepTold (older : List Record) (c : Command) (s : Step) : Type 0 where
   value : IsLastStored older c s.reply
 
 refused_nothing : (older : List Record) (c : Command) (number : ℕ) → told older c (reply.Refused number) ≡ older
-refused_nothing older OutOfRange number = refl
-refused_nothing older Profile2 number = refl
-refused_nothing older (Open zone blocks) number = refl
 refused_nothing older (On zone c) number = refused_adds older c number
-refused_nothing older (Compact zone) number = refl
-refused_nothing older (Pool zone count blocks) number = refl
-refused_nothing older (During zone) number = refl
+refused_nothing older _ number = refl
 
 moved_to : (v after : WorldState) (history : List Record) → Some v ≡ Some after → Match v.zone.records history → Match after.zone.records history
 moved_to v after history e m = subst (λ (x : WorldState). Match x.zone.records history) (same_Some v after e) m
 
 tells_calls : (older : List Record) (w : WorldState) → IsOrderly w → Match w.zone.records older → (c : Calls) → Tells older c (calls_step w c)
 tells_calls older w o m (Zone c) = tells_make older w o m c
-tells_calls older w o m (One c) = tells_call older w o m c
+tells_calls older w o m (One c) = tells_call older w m c
 tells_calls older w o m (SeriesOf s) =
     let t = tells_series s.call s.space s.first s.step 0 s.count older w o m in
     let count : t.more ≡ accepted_count (calls_step w (SeriesOf s)).reply = omega (arith, t.count) in
@@ -235,22 +178,10 @@ tells_calls older w o m (SeriesOf s) =
     }
 
 tells_other : (places : ℕ) (older : List Record) (w : WorldState) → IsOrderly w → Match w.zone.records older → (c : Command) → runs_rounds c ≡ false → StepTold older c (step places (Some w) c)
-tells_other places older w o m OutOfRange h = record { match = λ after e. moved_to w after older e m; value = tt }
-tells_other places older w o m Profile2 h = record { match = λ after e. moved_to w after older e m; value = tt }
-tells_other places older w o m (Open zone blocks) h = record { match = λ after e. moved_to w after older e m; value = tt }
-tells_other places older w o m (Compact zone) h = cc
-tells_other places older w o m (Pool zone count blocks) h = cc
-tells_other places older w o m (During number) h = by_zone (zone_of number) where
-  by_zone : (z : Option ℕ) → StepTold older (During number) (during_on z (Some w))
-  by_zone None = record { match = λ after e. moved_to w after older e m; value = tt }
-  by_zone (Some zone) = record { match = λ after e. moved_to w after older e m; value = tt }
-tells_other places older w o m (On zone calls) h = by_number (nat_eq zone w.zone.number) where
-  by_number : (b : Bool) → StepTold older (On zone calls) (if b then answered (calls_step w calls) else declined 43 (Some w))
-  by_number true = let t = tells_calls older w o m calls in record { match = λ after e. moved_to (calls_step w calls).world after _ e t.match; value = t.value zone }
-  by_number false = record {
-    match = λ after e. moved_to w after _ e (subst (Match w.zone.records) (sym (refused_nothing older (On zone calls) 43)) m);
-    value = no_value older (On zone calls) (reply.Refused 43) refl;
-  }
+tells_other places older w o m = by_other places (StepTold older) w
+    (λ c number. record { match = λ after e. moved_to w after _ e (subst (Match w.zone.records) (sym (refused_nothing older c number)) m); value = tt })
+    (record { match = λ after e. moved_to w after older e m; value = tt })
+    (λ zone calls. let t = tells_calls older w o m calls in record { match = λ after e. moved_to (calls_step w calls).world after _ e t.match; value = t.value zone })
 
 -- a round and a pool
 value_of_rounds : (older : List Record) (c : Command) (r : Reply) → is_of_rounds r ≡ true → IsLastStored older c r
@@ -303,8 +234,6 @@ module _ (places : ℕ) (steps : Option WorldState → Command → Step) (m : Is
       )
 
   first_values : (0 < places) × (places ≤ 65536) → (c : Command) (commands : List Numbered) → IsInRange c → AreInRange commands → ValuesAreStored [] commands (answers_by steps None commands) → StoredFrom [] c commands (steps None c)
-  first_values range OutOfRange commands r ranged rest = other_values commands OutOfRange refl (tt, rest)
-  first_values range Profile2 commands r ranged rest = other_values commands Profile2 refl (tt, rest)
   first_values range (Pool zone count blocks) commands r ranged rest = rounds_values commands (Pool zone count blocks) refl rest
   first_values range (Compact zone) commands r ranged rest = rounds_values commands (Compact zone) refl rest
   first_values range (During number) commands r ranged rest = other_values commands (During number) refl (by_zone (zone_of number)) where
@@ -317,6 +246,7 @@ module _ (places : ℕ) (steps : Option WorldState → Command → Step) (m : Is
   )
   first_values range (Open zone blocks) commands r ranged rest =
       other_values commands (Open zone blocks) refl (tt, open_values commands ranged [] (world_opened zone blocks places) (opened_orderly zone blocks places r range) match_empty)
+  first_values range c commands r ranged rest = other_values commands c refl (tt, rest)
 
   values : (0 < places) × (places ≤ 65536) → (commands : List Numbered) → AreInRange commands → ValuesAreStored [] commands (answers_by steps None commands)
   values range [] ranged = tt
@@ -324,9 +254,3 @@ module _ (places : ℕ) (steps : Option WorldState → Command → Step) (m : Is
 
   pub values_stored_by : (0 < places) × (places ≤ 65536) → (input : List ℕ) → ValuesAreStored [] (commands_of input) (answers_to steps input)
   values_stored_by range input = values range (commands_of input) (commands_ranged (by Untold) 1 (parts_of input))
-
-pub values_stored : (places : ℕ) → (0 < places) × (places ≤ 65536) → (input : List ℕ) → ValuesAreStored [] (commands_of input) (answers_of places input)
-values_stored places range input = values_stored_by places (step places) (one_thread places) range input
-
-pub values_stored_by_hand : (places : ℕ) → (0 < places) × (places ≤ 65536) → (input : List ℕ) → ValuesAreStored [] (commands_of input) (answers_by_hand places input)
-values_stored_by_hand places range input = values_stored_by places (step_by_hand places) (machine_by_hand places) range input

@@ -4,7 +4,7 @@ use Rattle.std.specs.Prelude.{nat_le}
 use Rattle.std.proofs.lemmas.Bool.{le-leb, true≢false}
 use Rattle.machine_core.specs.World.{WorldState}
 use Rattle.text_core.specs.declared.command.Command.{Command}
-use Rattle.text_core.specs.declared.command.Command.TheVariants.{Open, On, Compact, Pool, During, Profile2, OutOfRange}
+use Rattle.text_core.specs.declared.command.Command.TheVariants.{Compact, Pool}
 use Rattle.text_core.specs.declared.pool.PoolStopped.TheVariants as pool_stopped
 use Rattle.text_core.specs.declared.reply.Reply.{Reply}
 use Rattle.text_core.specs.declared.reply.Reply.TheVariants as reply
@@ -17,12 +17,7 @@ use Rattle.script_core.specs.ByHand.{Followed, To, IsByHandStep, IsUnbegun, HasF
 unbegun_tells : (c : Command) (r : Reply) → IsUnbegun c r → tells_refusal r ≡ true
 unbegun_tells (Compact zone) r (inl is) = ap tells_refusal is
 unbegun_tells (Compact zone) r (inr is) = ap tells_refusal is
-unbegun_tells (Open zone blocks) r is = absurd is
-unbegun_tells (On zone calls) r is = absurd is
-unbegun_tells (Pool zone count blocks) r is = absurd is
-unbegun_tells (During number) r is = absurd is
-unbegun_tells Profile2 r is = absurd is
-unbegun_tells OutOfRange r is = absurd is
+unbegun_tells c r is = absurd is
 
 between : (low high n : ℕ) → low ≤ n → n ≤ high → (nat_le low n && nat_le n high) ≡ true
 between low high n least most = λ i. le-leb low n least i && le-leb n high most i

@@ -1,5 +1,4 @@
-use Rattle.std.proofs.Common.{◌≡◌, Some, refl, sym, ap, ◌∙◌}
-use Rattle.client_core.specs.Receipts.{Client}
+use Rattle.std.proofs.Common.{Some, refl, sym, ap, ◌∙◌}
 use Rattle.client_core.proofs.Since.{told_if, told_newer_first}
 use Rattle.hand_core.specs.Told.{Told}
 use Rattle.round_core.proofs.Beside.{added_none}

@@ -1,8 +1,12 @@
-use Rattle.script_core.proofs.LockStep.{same_in_profile_2, same_in_profile_2_by_hand}
+use Rattle.machine_core.specs.Machine.{step}
+use Rattle.script_core.specs.MachineByHand.{step_by_hand}
+use Rattle.script_core.proofs.LockStep.{same_in_profile_2_by}
+use Rattle.script_core.proofs.MachineByHand.{machine_by_hand}
+use Rattle.script_core.proofs.Runs.{one_thread}
 use Rattle.script_core.proofs.law.profile_2_keeps_replies.Goals as goal
 
 pub returns-clause-one_thread : goal.returns-clause-one_thread
-returns-clause-one_thread c = same_in_profile_2
+returns-clause-one_thread c = λ places input passes. same_in_profile_2_by places (step places) (one_thread places) input passes
 
 pub returns-clause-by_hand : goal.returns-clause-by_hand
-returns-clause-by_hand c = same_in_profile_2_by_hand
+returns-clause-by_hand c = λ places input passes. same_in_profile_2_by places (step_by_hand places) (machine_by_hand places) input passes

@@ -1,5 +1,6 @@
-use Rattle.std.proofs.Common.{◌≡◌, ℕ, zero, suc, ◌<◌, get_or, refl, sym, subst, true≢false, rules, arith}
-use Rattle.std.specs.Prelude.{All, List, [], ◌∷◌, Result}
+use Rattle.std.proofs.Common.{◌≡◌, refl, sym, subst, true≢false, rules, arith}
+use Rattle.std.specs.Prelude.{All, List, [], Result}
+use Rattle.std.proofs.lemmas.List.Elements.{All-cons, All-nil}
 use Rattle.round_core.specs.declared.error.RoundError.{RoundError}
 use Rattle.round_core.specs.declared.round.Round.{Round}
 use Rattle.state_core.specs.ZoneState.{ZoneState}
@@ -28,14 +29,6 @@ unsettled_reply zone client result answer clients (unsettled.Mismatch mismatch) 
   differs = λ _ _. refused;
 }
 
--- all clients of a list with one
-one_agrees : (P : Client → Type 0) (clients : List Client) (client : Client) → clients ≡ client ∷ [] → P client → All P clients
-one_agrees P clients client is holds = subst (All P) (sym is) (λ i d lt. first i d lt)
-  where
-    first : (i : ℕ) (d : Client) → i < 1 → P (get_or (client ∷ []) i d)
-    first zero d lt = holds
-    first (suc i) d lt = absurd (omega (arith, lt))
-
 pub returns-in-Ok : goal.returns-in-Ok
 returns-in-Ok g c =
     let settled = c.in-Ok.ensures.ok.0 refl in
@@ -50,5 +43,5 @@ returns-in-Ok g c =
 pub returns-in-Err : goal.returns-in-Err
 returns-in-Err g c =
     let never : HasKeptJournal c.args.zone.now → Agrees c.args.zone.now.records c.args.client.now → ⊥ =
-    λ kept same. true≢false (sym (c.in-Err.ensures.ok.1 (kept, one_agrees (Agrees c.args.zone.now.records) _ c.args.client.now c.from_ref.ensures.value same))) in
+    λ kept same. true≢false (sym (c.in-Err.ensures.ok.1 (kept, rw c.from_ref.ensures.value (All-cons (Agrees c.args.zone.now.records) c.args.client.now [] same (All-nil (Agrees c.args.zone.now.records)))))) in
     unsettled_reply c.args.zone.now c.args.client.now c.args.round _ _ c.in-Err.unsettled c.in-Err.ensures.refused never (search rules)
