@@ -64,7 +64,7 @@ fn words_that_differ() -> [u64; 512] {
 
 /// A page that hand 1 moves has each of its words afterwards, and takes another value in its last one. Meanwhile it can't be read.
 fn moves_by_hand(rt: &(impl Abort + AllocGlobal), size: Size) {
-    use world::{Step, Way};
+    use world::{CallForm, Step};
     let words = words_that_differ();
     let words = &words[..size.words()];
     let last = (size.words() - 1) as u32;
@@ -84,7 +84,7 @@ fn moves_by_hand(rt: &(impl Abort + AllocGlobal), size: Size) {
     ];
     tries(
         rt,
-        &Case::of_world("a hand moves a page", size, Way::Method, &rows),
+        &Case::of_world("a hand moves a page", size, CallForm::Method, &rows),
     );
 }
 

@@ -3,7 +3,7 @@
 ghost use Rattle.std.specs.Prelude.{◌<◌, ◌≤◌};
 ghost use Rattle.zone_core.specs.Books.{AreFor};
 
-use super::world::{OpenWorld, Row, Way};
+use super::world::{CallForm, OpenWorld, Row};
 use super::zone::{Opened, Part};
 use std::marker::Brand;
 use std::process::Abort;
@@ -38,7 +38,7 @@ pub enum Trial<'a> {
     /// The parts are played with a zone of one pageblock that has a page.
     Zone(&'a [Part<'a>]),
     /// The rows are played with a world.
-    World(Way, &'a [Row<'a>]),
+    World(CallForm, &'a [Row<'a>]),
     /// Calls that are drawn are made with a world, and after each what the zone keeps is what walks find.
     Drawn,
 }
@@ -66,13 +66,13 @@ impl<'a> Case<'a> {
     }
 
     /// With a world of one pageblock.
-    pub fn of_world(name: &'a str, size: Size, way: Way, rows: &'a [Row<'a>]) -> Self {
+    pub fn of_world(name: &'a str, size: Size, form: CallForm, rows: &'a [Row<'a>]) -> Self {
         Case {
             name,
             size,
             blocks: 1,
             places: 4096,
-            trial: Trial::World(way, rows),
+            trial: Trial::World(form, rows),
         }
     }
 }

@@ -2,7 +2,7 @@
 
 use super::calls::{Answer, Call};
 use super::trial::{Case, Size, tries};
-use super::world::{Row, Step, Way};
+use super::world::{CallForm, Row, Step};
 use zone_core::ZoneError;
 
 /// Calls on a zone of one pageblock that was just opened, each with its answer. Each that is accepted has one record, and it names the
@@ -51,7 +51,7 @@ pub const ROWS: &[Row<'static>] = &[
 
 #[test]
 fn calls_that_are_values_do_what_the_methods_do(rt: HostRuntime) {
-    for (name, way) in [("methods", Way::Method), ("values", Way::Value)] {
-        tries(&rt, &Case::of_world(name, Size::Eight, way, ROWS));
+    for (name, form) in [("methods", CallForm::Method), ("values", CallForm::Value)] {
+        tries(&rt, &Case::of_world(name, Size::Eight, form, ROWS));
     }
 }

@@ -5,7 +5,7 @@ use super::counts::{assert_counts, assert_pages};
 use super::lists::{assert_each_walk, assert_lists, walked};
 use super::trial::{Case, Size, Trial, tries};
 use super::values::ROWS;
-use super::world::{Row, Step, Way};
+use super::world::{CallForm, Row, Step};
 use std::process::Abort;
 use std::sync::ledger::Ledger;
 use zone_core::{Ended, ZoneError, ZoneOf};
@@ -134,7 +134,7 @@ fn lists_are_what_walks_find(rt: HostRuntime) {
     for (name, rows) in CASES {
         tries(
             &rt,
-            &Case::of_world(name, Size::Eight, Way::MethodBesideWalks, rows),
+            &Case::of_world(name, Size::Eight, CallForm::MethodBesideWalks, rows),
         );
     }
 }

@@ -47,9 +47,9 @@ pub enum Step<'a> {
 /// A step with its answer.
 pub type Row<'a> = (Step<'a>, Answer);
 
-/// How calls of clients are made.
+/// The form in which calls of clients are made.
 #[derive(Clone, Copy)]
-pub enum Way {
+pub enum CallForm {
     /// By the methods of their names.
     Method,
     /// The same, and after each step what the zone keeps is what walks find.
@@ -85,19 +85,19 @@ impl<const W: usize, I: Ledger, N: Ledger, M: Ledger, B: Ledger> OpenWorld<W, I,
         requires { W ≤ 65536 }
     {
         match case.trial {
-            Trial::World(way, rows) => self.plays(rt, way, case.name, rows),
+            Trial::World(form, rows) => self.plays(rt, form, case.name, rows),
             _ => self.plays_draws(rt),
         }
     }
 
-    fn plays(&mut self, rt: &(impl Abort + AllocGlobal), way: Way, name: &str, rows: &[Row])
+    fn plays(&mut self, rt: &(impl Abort + AllocGlobal), form: CallForm, name: &str, rows: &[Row])
         requires { W ≤ 65536 }
     {
         for (number, row) in rows.iter().enumerate() {
             let (step, want) = *row;
-            let answer = self.make(rt, way, step);
+            let answer = self.make(rt, form, step);
             assert!(rt; answer == want, "{name}, step {number}");
-            if let Way::MethodBesideWalks = way {
+            if let CallForm::MethodBesideWalks = form {
                 assert_kept(rt, self.zone());
                 assert_walks(rt, self.zone());
             }
@@ -110,18 +110,18 @@ impl<const W: usize, I: Ledger, N: Ledger, M: Ledger, B: Ledger> OpenWorld<W, I,
     {
         let mut draws = Draws::new();
         for _ in 0..2000 {
-            self.make(rt, Way::Method, draws.step());
+            self.make(rt, CallForm::Method, draws.step());
             assert_kept(rt, self.zone());
         }
         assert!(rt; self.zone().journal().len() > 400);
     }
 
-    fn make(&mut self, rt: &(impl Abort + AllocGlobal), way: Way, step: Step) -> Answer
+    fn make(&mut self, rt: &(impl Abort + AllocGlobal), form: CallForm, step: Step) -> Answer
         requires { W ≤ 65536 }
     {
         match step {
-            Step::Call(call) => match way {
-                Way::Value => self.by_value(rt, call),
+            Step::Call(call) => match form {
+                CallForm::Value => self.by_value(rt, call),
                 _ => self.by_method(rt, call),
             },
             Step::Look(name) => self.look(rt, name),
