@@ -11,7 +11,7 @@ use std::thread::{Threads, join};
 use zone_core::Seats;
 
 /// Rounds beside four clients, and what comes of them.
-#[derive(Clone, Copy, Debug)]
+#[derive(Clone, Copy)]
 pub struct Scene<'a> {
     /// So many pages can move.
     pub pages: u32,

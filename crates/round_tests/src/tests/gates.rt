@@ -18,7 +18,7 @@ pub fn linger(turns: u32) {
 }
 
 /// At least so many pages are isolated, copied and ended, and clients have spoken so often.
-#[derive(Clone, Copy, Debug)]
+#[derive(Clone, Copy)]
 pub struct Until {
     pub isolated: u64,
     pub copied: u64,
@@ -52,7 +52,7 @@ impl Until {
 }
 
 /// Which threads of a round a gate holds, and until when.
-#[derive(Clone, Copy, Debug)]
+#[derive(Clone, Copy)]
 pub enum Plan {
     HoldsNone,
     /// The first thread that comes to a point.

@@ -7,7 +7,7 @@ use std::sync::Wait;
 use std::sync::ledger::Ledger;
 
 /// What a client does on a thread of its own, beside rounds.
-#[derive(Clone, Copy, Debug)]
+#[derive(Clone, Copy)]
 pub enum Job {
     Idle,
     /// Makes a call once a copy is made, and speaks when it is answered.
