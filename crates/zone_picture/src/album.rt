@@ -11,7 +11,7 @@ use zone_core::Zone;
 const MOST_COMMANDS: u32 = 8;
 
 /// Why a script has no panels.
-#[derive(Clone, Copy, Debug, PartialEq, Eq, Error)]
+#[derive(Clone, Copy, Debug, Error)]
 pub enum AlbumError {
     #[error("the script has more than 8 commands to draw")]
     TooLarge,

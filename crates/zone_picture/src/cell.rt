@@ -4,7 +4,7 @@ ghost use Rattle.zone_picture.specs.Cells.{cell_of};
 use frame_core::FrameState;
 
 /// What a frame is used for, as it is drawn.
-#[derive(Clone, Copy, Debug, PartialEq, Eq)]
+#[derive(Clone, Copy, PartialEq, Eq)]
 pub enum Cell {
     Free,
     /// A page that may be moved.

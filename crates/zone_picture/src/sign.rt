@@ -3,7 +3,7 @@ use crate::cell::Cell;
 use crate::view::Pageblock;
 
 /// A sign of the legend: the color of a cell, or a frame around a pageblock.
-#[derive(Clone, Copy, Debug, PartialEq, Eq)]
+#[derive(Clone, Copy)]
 pub enum Sign {
     Cell(Cell),
     Whole,
