@@ -38,11 +38,20 @@ pub fn show_times<R: Threads + Wait + Print + Alloc + Clock + Sync>(
 ) -> io::Result<()> {
     println!(rt; "takers room ruled plain percent")?;
     for (takers, cap) in SETTINGS {
-        let ruled = time_ruled(rt, alloc, takers, cap, pages)?;
-        let plain = time_plain(rt, alloc, takers, cap, pages)?;
+        let ruled = time(rt, alloc, Queue::Ruled, takers, cap, pages)?;
+        let plain = time(rt, alloc, Queue::Plain, takers, cap, pages)?;
         show_time(rt, takers, cap, pages, ruled, plain)?;
     }
     Ok(())
+}
+
+/// What pages are handed over by.
+#[derive(Clone, Copy)]
+enum Queue {
+    /// A hand-over, whose rules are proved.
+    Ruled,
+    /// A plain channel.
+    Plain,
 }
 
 /// How many pages arrived, and how long that took.
@@ -69,38 +78,23 @@ fn show_time<R: Print>(
     println!(rt; "{takers} {cap} {ruled_each} {plain_each} {percent}")
 }
 
-/// What the hand-over does.
-fn time_ruled<R: Threads + Wait + Clock + Sync>(
+/// How many pages arrive, and how long that takes.
+fn time<R: Threads + Wait + Clock + Sync>(
     rt: &R,
     alloc: Global,
+    queue: Queue,
     takers: usize,
     cap: usize,
     pages: u32,
 ) -> io::Result<Carried> {
     let start = Instant::now(rt)?;
-    let pages = arrived(ruled::carry(rt, alloc, takers, cap, pages));
+    let load = match queue {
+        Queue::Ruled => ruled::carry(rt, alloc, takers, cap, pages),
+        Queue::Plain => plain::carry(rt, alloc, takers, cap, pages),
+    };
     let nanos = nanos_since(rt, &start)?;
-    Ok(Carried { pages, nanos })
-}
-
-/// What a plain channel does.
-fn time_plain<R: Threads + Wait + Clock + Sync>(
-    rt: &R,
-    alloc: Global,
-    takers: usize,
-    cap: usize,
-    pages: u32,
-) -> io::Result<Carried> {
-    let start = Instant::now(rt)?;
-    let pages = arrived(plain::carry(rt, alloc, takers, cap, pages));
-    let nanos = nanos_since(rt, &start)?;
-    Ok(Carried { pages, nanos })
-}
-
-/// How many pages arrived.
-fn arrived(load: Option<Load>) -> u64 {
-    match load {
-        Some(load) => load.count,
-        None => 0,
-    }
+    Ok(Carried {
+        pages: load.unwrap_or(Load::NOTHING).count,
+        nanos,
+    })
 }
