@@ -7,12 +7,10 @@ mod words;
 
 use cases::Case;
 use script_core::{Sink, Source, program};
-use std::alloc::{AllocError, Global};
 use std::env::Args;
 use std::io::Read;
 use std::process::Abort;
 use std::sync::Wait;
-use std::test::Fail;
 use std::thread::Threads;
 
 /// What is wanted of a run.
@@ -43,13 +41,7 @@ struct Outcome {
 
 impl Outcome {
     /// Compares it with what is wanted. A failure tells the run, and the number of bytes that was tried.
-    fn assert_is(
-        &self,
-        rt: &impl Abort,
-        wanted: Wanted<'_>,
-        run: &str,
-        bytes: usize,
-    ) -> Result<(), Fail> {
+    fn assert_is(&self, rt: &impl Abort, wanted: Wanted<'_>, run: &str, bytes: usize) {
         assert_eq!(rt;
             self.replies.as_slice(),
             wanted.replies,
@@ -61,40 +53,47 @@ impl Outcome {
             "{run}, {bytes} bytes"
         );
         assert_eq!(rt; self.status, wanted.status, "{run}, {bytes} bytes");
-        Ok(())
     }
 }
 
 /// The words that the program is started with.
-fn words_of(alloc: Global, arguments: &[&str]) -> Result<Args, AllocError> {
-    let mut words = Vec::new(alloc);
-    words.push(String::from_str(alloc, "compactd")?)?;
+fn words_of(rt: &(impl Abort + AllocGlobal), arguments: &[&str]) -> Args {
+    let mut words = Vec::new(rt.alloc());
+    words.push(text_of(rt, "compactd")).expect(rt, "memory");
     for argument in arguments {
-        words.push(String::from_str(alloc, argument)?)?;
+        words.push(text_of(rt, argument)).expect(rt, "memory");
     }
-    Ok(words.into_iter())
+    words.into_iter()
+}
+
+fn text_of(rt: &(impl Abort + AllocGlobal), text: &str) -> String {
+    String::from_str(rt.alloc(), text).expect(rt, "memory")
+}
+
+/// Bytes with room for more.
+fn room_for(rt: &(impl Abort + AllocGlobal), bytes: usize) -> Vec<u8> {
+    Vec::with_capacity(rt.alloc(), bytes).expect(rt, "memory")
 }
 
 /// Runs the program.
-fn played<R: Read + Drop, H: Threads + Wait + Sync>(
+fn played<R: Read + Drop, H: Threads + Wait + Abort + AllocGlobal + Sync>(
     rt: &H,
-    alloc: Global,
     arguments: &[&str],
     reader: R,
-) -> Result<Outcome, AllocError> {
-    let mut replies = Sink::new(Vec::with_capacity(alloc, 4096)?);
-    let mut faults = Sink::new(Vec::with_capacity(alloc, 4096)?);
+) -> Outcome {
+    let mut replies = Sink::new(room_for(rt, 4096));
+    let mut faults = Sink::new(room_for(rt, 4096));
     let status = program(
         rt,
-        alloc,
-        Ok(words_of(alloc, arguments)?),
+        rt.alloc(),
+        Ok(words_of(rt, arguments)),
         &mut Source::new(reader),
         &mut replies,
         &mut faults,
     );
-    Ok(Outcome {
+    Outcome {
         replies: replies.into_inner(),
         faults: faults.into_inner(),
         status,
-    })
+    }
 }

@@ -3,7 +3,6 @@
 use super::fakes::Pieces;
 use super::played;
 use script_core::{Options, Sink, Source, Totals, run, run_text};
-use std::test::Fail;
 
 const OPTIONS: Options = Options {
     copiers: 2,
@@ -64,7 +63,7 @@ fn lines_of(text: &str) -> u64 {
 }
 
 #[test]
-fn pools_without_a_round(rt: HostRuntime) -> Result<(), Fail> {
+fn pools_without_a_round(rt: HostRuntime) {
     for row in ROWS.iter() {
         let mut sink = Sink::new(Vec::new(rt.alloc()));
         let ended = run_text(rt.alloc(), row.script.as_bytes(), &mut sink, OPTIONS);
@@ -76,13 +75,12 @@ fn pools_without_a_round(rt: HostRuntime) -> Result<(), Fail> {
         };
         assert_eq!(rt; ended, Ok(totals), "{}", row.name);
     }
-    Ok(())
 }
 
 #[test]
-fn pools_where_there_are_threads(rt: HostRuntime) -> Result<(), Fail> {
+fn pools_where_there_are_threads(rt: HostRuntime) {
     for row in ROWS.iter() {
-        let found = played(&rt, rt.alloc(), &[], row.script.as_bytes())?;
+        let found = played(&rt, &[], row.script.as_bytes());
         assert_eq!(rt;
             found.replies.as_slice(),
             row.on_threads.as_bytes(),
@@ -91,11 +89,10 @@ fn pools_where_there_are_threads(rt: HostRuntime) -> Result<(), Fail> {
         );
         assert_eq!(rt; found.status, 0, "{}", row.name);
     }
-    Ok(())
 }
 
 #[test]
-fn reads_a_script_on_one_thread(rt: HostRuntime) -> Result<(), Fail> {
+fn reads_a_script_on_one_thread(rt: HostRuntime) {
     for row in ROWS.iter() {
         let mut source = Source::new(Pieces {
             rest: row.script.as_bytes(),
@@ -108,5 +105,4 @@ fn reads_a_script_on_one_thread(rt: HostRuntime) -> Result<(), Fail> {
         let replies = sink.into_inner();
         assert_eq!(rt; replies.as_slice(), row.alone.as_bytes(), "{}", row.name);
     }
-    Ok(())
 }

@@ -3,10 +3,9 @@
 use super::cases::FIRST_PAGE;
 use super::{played, words_of};
 use script_core::{Options, given_options};
-use std::test::Fail;
 
 #[test]
-fn refuses_arguments(rt: HostRuntime) -> Result<(), Fail> {
+fn refuses_arguments(rt: HostRuntime) {
     for arguments in [
         &["--copiers", "5"][..],
         &["--copiers", "0"][..],
@@ -17,12 +16,11 @@ fn refuses_arguments(rt: HostRuntime) -> Result<(), Fail> {
         &["script"][..],
         &["--other"][..],
     ] {
-        let found = played(&rt, rt.alloc(), arguments, FIRST_PAGE.script.as_bytes())?;
+        let found = played(&rt, arguments, FIRST_PAGE.script.as_bytes());
         assert!(rt; found.replies.is_empty(), "{arguments:?}");
         assert!(rt; found.faults.starts_with(b"error: "), "{arguments:?}");
         assert_eq!(rt; found.status, 2, "{arguments:?}");
     }
-    Ok(())
 }
 
 /// Arguments, and the copiers, the capacity and the places of the journal that they give.
@@ -34,9 +32,9 @@ const GIVEN: [(&[&str], usize, usize, u32); 4] = [
 ];
 
 #[test]
-fn reads_each_option_for_itself(rt: HostRuntime) -> Result<(), Fail> {
+fn reads_each_option_for_itself(rt: HostRuntime) {
     for (arguments, copiers, capacity, journal) in GIVEN.iter() {
-        let found = given_options(rt.alloc(), Ok(words_of(rt.alloc(), arguments)?));
+        let found = given_options(rt.alloc(), Ok(words_of(&rt, arguments)));
         let wanted = Options {
             copiers: *copiers,
             capacity: *capacity,
@@ -44,7 +42,6 @@ fn reads_each_option_for_itself(rt: HostRuntime) -> Result<(), Fail> {
         };
         assert!(rt; found.ok() == Some(wanted));
     }
-    Ok(())
 }
 
 /// Parts of the help.
@@ -58,27 +55,20 @@ const HELP: [&str; 6] = [
 ];
 
 #[test]
-fn shows_help(rt: HostRuntime) -> Result<(), Fail> {
-    let found = played(&rt, rt.alloc(), &["--help"], FIRST_PAGE.script.as_bytes())?;
-    let text = std::str::from_utf8(found.replies.as_slice())?;
+fn shows_help(rt: HostRuntime) {
+    let found = played(&rt, &["--help"], FIRST_PAGE.script.as_bytes());
+    let text = std::str::from_utf8(found.replies.as_slice()).expect(&rt, "text");
     for part in HELP.iter() {
         assert!(rt; text.contains(part), "{part}");
     }
     assert!(rt; found.faults.is_empty());
     assert!(rt; found.status == 0);
-    Ok(())
 }
 
 #[test]
-fn shows_its_version(rt: HostRuntime) -> Result<(), Fail> {
-    let found = played(
-        &rt,
-        rt.alloc(),
-        &["--version"],
-        FIRST_PAGE.script.as_bytes(),
-    )?;
+fn shows_its_version(rt: HostRuntime) {
+    let found = played(&rt, &["--version"], FIRST_PAGE.script.as_bytes());
     assert!(rt; found.replies.as_slice() == b"compactd 0.1.0\n".as_slice());
     assert!(rt; found.faults.is_empty());
     assert!(rt; found.status == 0);
-    Ok(())
 }
