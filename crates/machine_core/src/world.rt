@@ -26,7 +26,7 @@ use crate::rest::Rest;
 use frame_core::{
     Address, ClientNo, FrameNo, HandNo, IsolatedOf, PageFlags, Serial, WordOf, ZoneNo,
 };
-use state_core::{Next, ZoneError};
+use state_core::{Next, ZoneAnswer, ZoneCallOf, ZoneError};
 use std::alloc::Global;
 use std::collections::VecDeque;
 use std::marker::Model;
@@ -134,6 +134,7 @@ impl<const W: usize, I: Ledger, N: Ledger, M: Ledger, B: Ledger> World<W, I, N, 
         scan: ScanSeat<I, N>,
         ends: EndSeat<M, B>,
     ) -> Result<World<W, I, N, M, B>, ZoneError>
+        requires size { W ≤ 65536 }
         requires zone { (number places : ℕ) × (zone ≡ opened_with W number blocks places) }
         requires valid { IsValidZone zone }
         requires scan { scan ≡ fresh_scan_seat }
@@ -205,7 +206,16 @@ impl<const W: usize, I: Ledger, N: Ledger, M: Ledger, B: Ledger> World<W, I, N, 
         ensures ok { OnOk result (self.new ≡ with_zone self.old (mapped self.old.zone client address (is_unmovable flags) frame)) }
         ensures orderly { IsOrderly self.new }
     {
-        self.zone.map_at(client, address, flags, frame)
+        let unmovable = flags.is_unmovable();
+        self.make(
+            client,
+            ZoneCallOf::MapAt {
+                address,
+                unmovable,
+                frame,
+            },
+        )?;
+        Ok(())
     }
 
     /// Reads a word of the page that an address names. Refused as JournalFull, Unmapped or Moving.
@@ -221,7 +231,10 @@ impl<const W: usize, I: Ledger, N: Ledger, M: Ledger, B: Ledger> World<W, I, N, 
         ensures ok { OnOk result (self.new ≡ with_zone self.old (loaded self.old.zone client address word.entry)) }
         ensures orderly { IsOrderly self.new }
     {
-        self.zone.load(client, address, word)
+        match self.make(client, ZoneCallOf::Load { address, word })? {
+            ZoneAnswer::Value(value) => Ok(value),
+            _ => unreachable!(),
+        }
     }
 
     /// Writes a word of the page that an address names. Refused as JournalFull, Unmapped or Moving.
@@ -237,7 +250,15 @@ impl<const W: usize, I: Ledger, N: Ledger, M: Ledger, B: Ledger> World<W, I, N, 
         ensures ok { OnOk result (self.new ≡ with_zone self.old (stored self.old.zone client address word.entry value)) }
         ensures orderly { IsOrderly self.new }
     {
-        self.zone.store(client, address, word, value)
+        self.make(
+            client,
+            ZoneCallOf::Store {
+                address,
+                word,
+                value,
+            },
+        )?;
+        Ok(())
     }
 
     /// Isolates the next page, which then waits after the others. It opens a round where none is open, and the seat notes its answer.

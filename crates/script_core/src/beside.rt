@@ -65,12 +65,14 @@ pub(crate) fn compact_beside<
     ensures identity { HasIdentity zone.number zone.blocks result.0 }
     ensures ran { RunsBeside turn seats.old seats.new result.1 }
 {
-    compact_shared::<Brand, Brand, I, N, M, B, R>(rt, alloc, zone, seats, options, turn, stub, slip)
+    compact_with_turn::<Brand, Brand, I, N, M, B, R>(
+        rt, alloc, zone, seats, options, turn, stub, slip,
+    )
 }
 
 /// Runs both over a zone with the number and the pageblocks that the type names. Where both ran, what the lock of the zone was told are
 /// the client's new receipts.
-fn compact_shared<
+fn compact_with_turn<
     K: Keeping + Send + Sync,
     J: Telling + Send,
     I: Ledger + Send + Sync,

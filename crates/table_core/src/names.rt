@@ -42,15 +42,21 @@ impl Names {
     }
 
     /// Puts an address at its place in the list. The list has to have fewer than 4.
+    #[tactic(auto, using(crate::proofs::Rising::insert_at_rank, crate::proofs::Rising::last_at_rank))]
     pub fn insert(&mut self, address: Address)
         requires { length self.old < 4 }
         ensures { self.new ≡ inserted self.old address }
     {
         let place = rank(&self.addresses, &address);
-        self.addresses.insert(place, address);
+        if place == self.addresses.len() {
+            self.addresses.push(address);
+        } else {
+            self.addresses.insert(place, address);
+        }
     }
 
     /// Takes an address out of the list. It has to be there.
+    #[tactic(auto, using(crate::proofs::Rising::rank_within, crate::proofs::Rising::remove_at_rank))]
     pub fn remove(&mut self, address: &Address)
         requires rising { IsRising self.old }
         requires named { IsIn self.old address.now }

@@ -174,6 +174,7 @@ fn push_look<const N: usize>(text: &mut ArrayString<N>, look: Look)
 }
 
 /// Appends how many pins a page has, and how many addresses name it.
+#[inline(always)]
 fn push_uses<const N: usize>(text: &mut ArrayString<N>, pins: u8, maps: u8)
     requires { array_string_len text.old + 52 ≤ N }
     ensures text { text.new.bytes ≡ text.old.bytes ++ uses_text pins maps }

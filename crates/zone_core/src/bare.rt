@@ -27,7 +27,7 @@ use zone_tables::ZoneTables;
 /// seats. What is said of refusals, of memory and of the two kinds of journal at `ZoneOf` holds here too.
 #[derive(Drop)]
 pub struct BareZone<const W: usize> {
-    tables: ZoneTables<W>,
+    tables: Box<ZoneTables<W>>,
 }
 
 impl<const W: usize> Model for BareZone<W> {
@@ -39,9 +39,9 @@ impl<const W: usize> Model for BareZone<W> {
 
     ghost coded = { coded_zone };
 
-    ghost view = { λ z. z.tables };
+    ghost view = { λ z. z.tables.value };
 
-    ghost invariant = { λ z. IsValidZone z.tables };
+    ghost invariant = { λ z. IsValidZone z.tables.value };
 }
 
 impl<const W: usize> BareZone<W> {
@@ -64,6 +64,7 @@ impl<const W: usize> BareZone<W> {
             return Err(ZoneError::Range);
         }
         let tables = ZoneTables::open(alloc, number, blocks, places)?;
+        let tables = boxed(alloc, tables)?;
         Ok(BareZone { tables })
     }
 
@@ -82,6 +83,7 @@ impl<const W: usize> BareZone<W> {
             return Err(ZoneError::Range);
         }
         let tables = ZoneTables::open_told(alloc, number, blocks)?;
+        let tables = boxed(alloc, tables)?;
         Ok(BareZone { tables })
     }
 
@@ -172,4 +174,15 @@ impl<const W: usize> BareZone<W> {
     {
         self.tables.journal()
     }
+}
+
+/// The tables in a place of their own in memory, so that a zone is small to move, or the error Memory where there is none.
+fn boxed<const W: usize>(
+    alloc: Global,
+    tables: ZoneTables<W>,
+) -> Result<Box<ZoneTables<W>>, ZoneError>
+    ensures memory { IfErr result (λ error. error ≡ ZoneError.Memory) }
+    ensures tables { IfOk result (λ place. place.value ≡ tables.entry) }
+{
+    Box::new(alloc, tables).or(Err(ZoneError::Memory))
 }

@@ -75,7 +75,8 @@ impl<const W: usize, I: Ledger, N: Ledger, M: Ledger, B: Ledger> World<W, I, N, 
         ensures ok { OnOk result (self.new ≡ with_zone self.old (shared self.old.zone client address alias)) }
         ensures orderly { IsOrderly self.new }
     {
-        self.zone.share(client, address, alias)
+        self.make(client, ZoneCallOf::Share { address, alias })?;
+        Ok(())
     }
 
     /// Makes an address name no page any more. A page that has no address left isn't in use.
@@ -95,7 +96,8 @@ impl<const W: usize, I: Ledger, N: Ledger, M: Ledger, B: Ledger> World<W, I, N, 
         ensures ok { OnOk result (self.new ≡ with_zone self.old (pinned self.old.zone client address)) }
         ensures orderly { IsOrderly self.new }
     {
-        self.zone.pin(client, address)
+        self.make(client, ZoneCallOf::Pin { address })?;
+        Ok(())
     }
 
     /// Takes a pin off the page that an address names, also while the page is moving.
@@ -105,7 +107,8 @@ impl<const W: usize, I: Ledger, N: Ledger, M: Ledger, B: Ledger> World<W, I, N, 
         ensures ok { OnOk result (self.new ≡ with_zone self.old (unpinned self.old.zone client address)) }
         ensures orderly { IsOrderly self.new }
     {
-        self.zone.unpin(client, address)
+        self.make(client, ZoneCallOf::Unpin { address })?;
+        Ok(())
     }
 
     /// Hands out the lowest free block of an order, 3 to 9, and answers its first frame.

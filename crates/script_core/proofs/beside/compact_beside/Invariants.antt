@@ -5,12 +5,12 @@ use Rattle.round_core.proofs.Beside.{added_back, added_call, added_commit, added
 use Rattle.script_core.proofs.beside.compact_beside.Given as goal
 
 -- the zone that is shared
-abbrev pub ghosts-compact_shared-K-ZoneIdentity : goal.ghosts-compact_shared-K-ZoneIdentity
-ghosts-compact_shared-K-ZoneIdentity g a = record { number = a.zone.number; blocks = a.zone.blocks }
+abbrev pub ghosts-compact_with_turn-K-ZoneIdentity : goal.ghosts-compact_with_turn-K-ZoneIdentity
+ghosts-compact_with_turn-K-ZoneIdentity g a = record { number = a.zone.number; blocks = a.zone.blocks }
 
 -- and what its lock keeps: the round and the one client add to the journal, and nobody else does
-abbrev pub ghosts-compact_shared-K-Keeping : goal.ghosts-compact_shared-K-Keeping
-ghosts-compact_shared-K-Keeping g a =
+abbrev pub ghosts-compact_with_turn-K-Keeping : goal.ghosts-compact_with_turn-K-Keeping
+ghosts-compact_with_turn-K-Keeping g a =
     let number = a.turn.client.number in
     let before = a.zone.records in
     record {
@@ -36,5 +36,5 @@ ghosts-compact_shared-K-Keeping g a =
     }
 
 -- and the slip of the client
-abbrev pub ghosts-compact_shared-J-Telling : goal.ghosts-compact_shared-J-Telling
-ghosts-compact_shared-J-Telling g a = record { pair = Some a.stub.pair; before = a.turn.client.receipts }
+abbrev pub ghosts-compact_with_turn-J-Telling : goal.ghosts-compact_with_turn-J-Telling
+ghosts-compact_with_turn-J-Telling g a = record { pair = Some a.stub.pair; before = a.turn.client.receipts }

@@ -10,7 +10,7 @@ use Rattle.zone_core.proofs.bare.BareZone.info.Goals as goal
 use Rattle.zone_core.proofs.bare.BareZone.info.Goals.{After-info}
 
 counted : (g : Over) (c : After-info g) → c.info.result ≡ info_of c.args.self.now
-counted g c = c.info.ensures.counts ∙ ap info_of c.self.view_is
+counted g c = c.info.ensures.counts ∙ ap info_of (c.deref.ensures ∙ c.self.view_is)
 
 law : (g : Over) (c : After-info g) → IsValidZone c.args.self.now
 law g c = subst IsValidZone c.self.view_is c.self.invariant

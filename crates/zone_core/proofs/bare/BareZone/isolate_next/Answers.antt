@@ -15,11 +15,13 @@ use Rattle.zone_core.proofs.bare.BareZone.isolate_next.Goals as goal
 pub returns-clause-followed : goal.returns-clause-followed
 returns-clause-followed g c =
     let serial = ap (λ (p : IsolatedPage). p.serial) c.isolate-page.ensures.page in
-    let law : IsValidZone (isolated_next c.self.inside.tables c.in-Some.pair) = subst IsValidZone c.isolate-page.ensures.step c.isolate-page.ensures.valid in
+    let law : IsValidZone (isolated_next c.deref_mut.result.now c.in-Some.pair) = subst IsValidZone c.isolate-page.ensures.step c.isolate-page.ensures.valid in
     omega (arith, serial, law.journal.serials)
 
 pub returns-clause-pair : goal.returns-clause-pair
 returns-clause-pair g c =
+    let z = c.deref_mut.result.now in
+    let view = c.deref_mut.ensures.value ∙ c.self.view_is in
     let pair = c.in-Some.pair in
     let number = ap (λ (p : IsolatedPage). p.page.number) c.isolate-page.ensures.page in
     let serial = ap (λ (p : IsolatedPage). p.serial) c.isolate-page.ensures.page in
@@ -27,16 +29,16 @@ returns-clause-pair g c =
     record {
       source = pair.source;
       target = pair.target;
-      pair = subst (λ (z : ZoneState). IsPair z c.isolate-page.result.page.number pair.source pair.target) c.self.view_is
-          (subst (λ (page : ℕ). IsPair c.self.inside.tables page pair.source pair.target) (sym number) c.in-Some.ensures.is_pair);
-      way = ap (λ (z : ZoneState). map.get z.placement c.isolate-page.result.page.number) step
-          ∙ get_insert_same c.self.inside.tables.placement pair.page c.isolate-page.result.page.number _ number
+      pair = subst (λ (v : ZoneState). IsPair v c.isolate-page.result.page.number pair.source pair.target) (c.deref-2.ensures ∙ c.self.view_is)
+          (subst (λ (page : ℕ). IsPair c.deref-2.result.now page pair.source pair.target) (sym number) c.in-Some.ensures.is_pair);
+      way = ap (λ (v : ZoneState). map.get v.placement c.isolate-page.result.page.number) step
+          ∙ get_insert_same z.placement pair.page c.isolate-page.result.page.number _ number
           ∙ ap (λ (s : ℕ). Some (Moving s pair.source pair.target)) (sym serial);
-      others = λ other ne. ap (λ (z : ZoneState). map.get z.placement other) step
-          ∙ get_insert_other c.self.inside.tables.placement pair.page other _ (λ e. ne (e ∙ sym number))
-          ∙ ap (λ (z : ZoneState). map.get z.placement other) c.self.view_is;
-      names = λ address. ap (λ (z : ZoneState). page_at z.records address) step ∙ ap (λ (z : ZoneState). page_at z.records address) c.self.view_is;
+      others = λ other ne. ap (λ (v : ZoneState). map.get v.placement other) step
+          ∙ get_insert_other z.placement pair.page other _ (λ e. ne (e ∙ sym number))
+          ∙ ap (λ (v : ZoneState). map.get v.placement other) view;
+      names = λ address. ap (λ (v : ZoneState). page_at v.records address) step ∙ ap (λ (v : ZoneState). page_at v.records address) view;
     }
 
 pub returns-in_default-clause-packed : goal.returns-in_default-clause-packed
-returns-in_default-clause-packed g c met quiet none = packed_quiet c.args.self.now (subst IsValidZone c.self.view_is c.self.invariant) quiet none (subst HaveMet c.self.view_is c.in_default.ensures.none)
+returns-in_default-clause-packed g c met quiet none = packed_quiet c.args.self.now (subst IsValidZone c.self.view_is c.self.invariant) quiet none (subst HaveMet (c.deref-2.ensures ∙ c.self.view_is) c.in_default.ensures.none)

@@ -10,10 +10,13 @@ use Rattle.zone_core.proofs.bare.BareZone.put_back.Goals as goal
 
 pub returns-clause-once : goal.returns-clause-once
 returns-clause-once g c =
-    ap (λ (z : ZoneState). is_own z c.args.isolated) c.go_back.ensures.step
-    ∙ ended_once c.self.inside.tables (Back c.in-Some.way.serial NotCopied) c.in-Some.way.page (source_of (map.get c.self.inside.tables.placement c.in-Some.way.page)) c.args.isolated (ap (λ (p : Page). p.number) (sym c.page.ensures) ∙ sym c.in-Some.ensures.named.0)
+    let z = c.deref_mut.result.now in
+    ap (λ (v : ZoneState). is_own v c.args.isolated) c.go_back.ensures.step
+    ∙ ended_once z (Back c.in-Some.way.serial NotCopied) c.in-Some.way.page (source_of (map.get z.placement c.in-Some.way.page)) c.args.isolated (ap (λ (p : Page). p.number) (sym c.page.ensures) ∙ sym c.in-Some.ensures.named.0)
 
 pub returns-clause-settled : goal.returns-clause-settled
 returns-clause-settled g c =
-    ended_in c.self.inside.tables c.args.self.now c.go_back.new.self c.args.isolated c.in-Some.way.page c.in-Some.way.serial c.in-Some.way.source c.in-Some.way.target _ _ c.self.view_is
-    (ap (λ (p : Page). p.number) (sym c.page.ensures) ∙ sym c.in-Some.ensures.named.0) (sym c.serial.ensures ∙ sym c.in-Some.ensures.named.1) c.in-Some.ensures.placed c.go_back.ensures.settled
+    let z = c.deref_mut.result.now in
+    let placed = ap (λ (v : ZoneState). map.get v.placement c.in-Some.way.page) (c.deref_mut.ensures.value ∙ sym c.deref.ensures) ∙ c.in-Some.ensures.placed in
+    ended_in z c.args.self.now c.go_back.new.self c.args.isolated c.in-Some.way.page c.in-Some.way.serial c.in-Some.way.source c.in-Some.way.target _ _ (c.deref_mut.ensures.value ∙ c.self.view_is)
+    (ap (λ (p : Page). p.number) (sym c.page.ensures) ∙ sym c.in-Some.ensures.named.0) (sym c.serial.ensures ∙ sym c.in-Some.ensures.named.1) placed c.go_back.ensures.settled
