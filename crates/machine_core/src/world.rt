@@ -134,7 +134,6 @@ impl<const W: usize, I: Ledger, N: Ledger, M: Ledger, B: Ledger> World<W, I, N, 
         scan: ScanSeat<I, N>,
         ends: EndSeat<M, B>,
     ) -> Result<World<W, I, N, M, B>, ZoneError>
-        requires size { W ≤ 65536 }
         requires zone { (number places : ℕ) × (zone ≡ opened_with W number blocks places) }
         requires valid { IsValidZone zone }
         requires scan { scan ≡ fresh_scan_seat }

@@ -28,6 +28,8 @@ use zone_tables::ZoneTables;
 #[derive(Drop)]
 pub struct BareZone<const W: usize> {
     tables: Box<ZoneTables<W>>,
+    // A page has at most 65,536 words.
+    ghost size: { W ≤ 65536 },
 }
 
 impl<const W: usize> Model for BareZone<W> {

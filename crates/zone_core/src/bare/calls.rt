@@ -2,18 +2,16 @@
 //! name, and in its row of the tables of calls. One that names no address is the same whichever client makes it, so its contract
 //! says client 0.
 
-ghost use Rattle.std.specs.Prelude.{◌≡◌, ◌^◌, Some, IsTrue, IfOk, OnOk, OnErr};
+ghost use Rattle.std.specs.Prelude.{◌≡◌, ◌^◌, Some, IsTrue, IfOk, OnOk};
 ghost use Rattle.std.specs.Result.{result_err};
 ghost use Rattle.state_core.specs.Access.{value_at};
-ghost use Rattle.state_core.specs.Calls.{refusal_of, answer_of, after, is_access};
+ghost use Rattle.state_core.specs.Calls.{answer_of, is_access};
 ghost use Rattle.state_core.specs.Clear.{IsClear};
 ghost use Rattle.state_core.specs.HandingOut.{is_run, lowest_run};
-ghost use Rattle.state_core.specs.Valid.{IsValidZone};
 ghost use Rattle.state_core.specs.Pairs.{HaveMet};
 ghost use Rattle.state_core.specs.ZoneState.{lowest_free_frame, lowest_unused_page};
 ghost use Rattle.state_core.specs.declared.call.ZoneCall.TheVariants as call;
 ghost use Rattle.zone_core.specs.Made.{IsMade};
-ghost use Rattle.zone_core.specs.ZoneIdentity.{HasIdentity};
 
 use crate::bare::BareZone;
 use frame_core::{Address, BlockNo, ClientNo, FrameNo, Order, PageNo, WordOf};
@@ -22,14 +20,10 @@ use state_core::{ZoneAnswer, ZoneCallOf as Call, ZoneError};
 impl<const W: usize> BareZone<W> {
     /// Makes a call of a client, and may refuse it. A call that names no address is the same whichever client makes it.
     pub fn make(&mut self, client: ClientNo, call: Call<W>) -> Result<ZoneAnswer, ZoneError>
-        ensures refused { result_err result ≡ refusal_of call.entry self.old }
-        ensures err { OnErr result (self.new ≡ self.old) }
+        ensures made { IsMade call.entry client self.old self.new result }
         ensures answer { IfOk result (λ answer. answer ≡ answer_of call.entry self.old) }
-        ensures ok { OnOk result (self.new ≡ after call.entry client self.old) }
         // A load or a store doesn't make a pair.
         ensures met { OnOk result (IsTrue (is_access call.entry) → HaveMet self.old → HaveMet self.new) }
-        ensures identity { HasIdentity self.old.number self.old.blocks self.new }
-        ensures valid { IsValidZone self.new }
     {
         match call {
             Call::Map { address, unmovable } => {

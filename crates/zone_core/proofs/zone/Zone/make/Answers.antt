@@ -1,16 +1,9 @@
-use Rattle.zone_core.specs.Made.{IsMade}
 use Rattle.zone_core.proofs.StaysBooked.{booked_made}
 use Rattle.zone_core.proofs.zone.Zone.make.Goals as goal
 
 pub invariant_of-self : goal.invariant_of-self
 invariant_of-self g c =
-    let made : IsMade c.args.call c.args.client c.self.inside.bare c.make.new.self c.make.result = record {
-      refused = c.make.ensures.refused;
-      err = c.make.ensures.err;
-      ok = c.make.ensures.ok;
-      identity = c.make.ensures.identity;
-      valid = c.make.ensures.valid;
-    } in
+    let made = c.make.ensures.made in
     (booked_made made c.self.invariant.2 c.self.invariant.0, c.self.invariant.1, made.valid)
 
 pub returns-clause-met : goal.returns-clause-met
