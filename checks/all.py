@@ -1,8 +1,9 @@
 """Runs the checks of this folder, or those that are named, and says what each shows and how long it took.
 
-    python3 checks/all.py [--program PATH] [NAME..]
+    python3 checks/all.py [--of sources|program] [--program PATH] [NAME..]
 
-All of them run, also after one that fails. Ends with status 1 where one failed."""
+All of them run, also after one that fails. Ends with status 1 where one failed. `--of sources` runs those that look at sources
+alone, for which nothing has to be proved, and `--of program` the others."""
 
 import argparse
 import ast
@@ -13,7 +14,13 @@ import time
 
 FOLDER = pathlib.Path(__file__).resolve().parent
 SHARED = ("all", "runs", "machine", "c_programs", "c_machine")  # what isn't a check
+OF_SOURCES = ("list_that_asks_for_memory", "seat_of_another_opening", "wrong_bodies")
 SECONDS = 1800  # that a check may take
+
+
+def chosen_names(checks, of):
+    """The names of all checks, or of those of the sources or of the program."""
+    return [name for name in checks if of is None or (of == "sources") == (name in OF_SOURCES)]
 
 
 def shows(check):
@@ -44,13 +51,14 @@ def wrong_end(command):
 def main():
     checks = {path.stem: path for path in sorted(FOLDER.glob("*.py")) if path.stem not in SHARED}
     parser = argparse.ArgumentParser(description=__doc__, formatter_class=argparse.RawDescriptionHelpFormatter)
+    parser.add_argument("--of", choices=("sources", "program"), help="those of the sources alone, or the others")
     parser.add_argument("--program", metavar="PATH", help="the program, where not that of the gate")
     parser.add_argument("names", nargs="*", metavar="NAME", help=", ".join(checks))
     given = parser.parse_args()
     if unknown := [name for name in given.names if name not in checks]:
         parser.error(f"there is no check {unknown[0]}, but {', '.join(checks)}")
     options = ["--program", given.program] if given.program else []
-    chosen = [checks[name] for name in given.names or checks]
+    chosen = [checks[name] for name in given.names or chosen_names(checks, given.of)]
     begin = time.monotonic()
     failed = [check.stem for check in chosen if not is_passed(check, options)]
     told = f"{len(failed)} of {len(chosen)} failed: {', '.join(failed)}" if failed else f"{len(chosen)} passed"
