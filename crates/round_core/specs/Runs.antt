@@ -1,9 +1,10 @@
 -- What the threads of a round start with, and how they ran.
-use Rattle.std.specs.Prelude.{◌≡◌, ◌+◌, ◌<◌, ◌≤◌, ℕ, true, false, [], All, map, Some, IfSome, OnSome, length, vec_len, vec_capacity}
+use Rattle.std.specs.Prelude.{◌≡◌, ◌+◌, ◌<◌, ◌≤◌, ℕ, true, false, [], All, map, Option, Some, IfSome, IfNone, OnSome, length, vec_len, vec_capacity}
 use Rattle.std.specs.VecDeque.{deque_capacity}
 use Rattle.hand_core.specs.PageEnds.{Giver}
 use Rattle.hand_core.specs.CopyEnds.{has_ended}
 use Rattle.zone_core.specs.Seats.{ScanSeat, EndSeat}
+use Rattle.round_core.specs.Counts.{CountsOn}
 use Rattle.round_core.specs.Crews.{IsUnused, IsUnsent, AreListed}
 use Rattle.round_core.specs.Rounds.{answer_at}
 use Rattle.round_core.specs.declared.memory.CopierResults.{CopierResults}
@@ -59,3 +60,10 @@ pub record IsRunOver (stops_at : ℕ → Stop → Type 0) (unpinned : Type 0) (s
   pub stops : IfSome ran.stop (stops_at scan_new.count)
   pub back : OnSome ran.stop (unpinned → ends_new.back ≡ ends.back)
   pub rounds : scan_new.rounds ≡ scan.rounds + 1
+
+-- what came of running the threads of a round, by the seats before and after it. Where one of them can't be started, the scan seat is
+-- as it was
+pub record IsRunOrNot (stops_at : ℕ → Stop → Type 0) (unpinned : Type 0) (scan scan_new : ScanSeat) (ends ends_new : EndSeat) (result : Option RoundRun) : Type 0 where
+  pub ran : IfSome result (IsRunOver stops_at unpinned scan scan_new ends ends_new)
+  pub none : IfNone result (scan_new ≡ scan)
+  pub counts : CountsOn ends ends_new

@@ -1,8 +1,8 @@
-ghost use Rattle.std.specs.Prelude.{◌≡◌, ◌+◌, ◌*◌, ◌<◌, ◌≤◌, ◌↔◌, ℕ, true, map, Some, IsSome, IsOk, IfOk, IfErr, OnOk, OnSome, IfSome, IfNone, length};
-ghost use Rattle.round_core.specs.Counts.{AreCounted, CountsOn};
+ghost use Rattle.std.specs.Prelude.{◌≡◌, ◌+◌, ◌*◌, ◌<◌, ◌≤◌, ◌↔◌, ℕ, true, map, Some, IsSome, IsOk, IfOk, IfErr, OnOk, OnSome, length};
+ghost use Rattle.round_core.specs.Counts.{AreCounted};
 ghost use Rattle.round_core.specs.Kept.{AreAllEnded};
 ghost use Rattle.round_core.specs.Rounds.{AreShared, IsRound, IsRefusedEarly, IsAfter, IsWant};
-ghost use Rattle.round_core.specs.Runs.{IsReady, AreJoined, HasRun, IsRunOver};
+ghost use Rattle.round_core.specs.Runs.{IsReady, AreJoined, HasRun, IsRunOrNot};
 
 use crate::crew::{RoundRun, run};
 use crate::error::RoundError;
@@ -136,9 +136,7 @@ fn in_scope<
     requires memory { IsReady seats.old.scan.count memory }
     requires parts { 1 < seats.old.ends.parts }
     requires begins { K.begins_at seats.old.scan.count }
-    ensures ran { IfSome result (IsRunOver K.stops_at K.unpinned seats.old.scan seats.new.scan seats.old.ends seats.new.ends) }
-    ensures none { IfNone result (seats.new.scan ≡ seats.old.scan) }
-    ensures ends { CountsOn seats.old.ends seats.new.ends }
+    ensures { IsRunOrNot K.stops_at K.unpinned seats.old.scan seats.new.scan seats.old.ends seats.new.ends result }
 {
     let lent = &mut *seats;
     let (lent, ran) = thread::scope(
@@ -148,9 +146,7 @@ fn in_scope<
             requires memory { IsReady lent.now.scan.count memory }
             requires parts { 1 < lent.now.ends.parts }
             requires begins { K.begins_at lent.now.scan.count }
-            ensures ran { IfSome result.1 (IsRunOver K.stops_at K.unpinned lent.entry.now.scan result.0.now.scan lent.entry.now.ends result.0.now.ends) }
-            ensures none { IfNone result.1 (result.0.now.scan ≡ lent.entry.now.scan) }
-            ensures ends { CountsOn lent.entry.now.ends result.0.now.ends }
+            ensures ran { IsRunOrNot K.stops_at K.unpinned lent.entry.now.scan result.0.now.scan lent.entry.now.ends result.0.now.ends result.1 }
             ensures lent { result.0.ghost_name ≡ lent.entry.ghost_name }
         {
             let ran = run(scope, rt, shared, lent, memory, gate);

@@ -1,8 +1,7 @@
-ghost use Rattle.std.specs.Prelude.{◌≡◌, ◌+◌, ◌<◌, ◌≤◌, ℕ, false, All, IfOk, IfErr, OnSome, IfSome, IfNone, vec_len, []};
+ghost use Rattle.std.specs.Prelude.{◌≡◌, ◌+◌, ◌<◌, ◌≤◌, ℕ, false, All, IfOk, IfErr, OnSome, vec_len, []};
 ghost use Rattle.std.specs.VecDeque.{deque_capacity};
 ghost use Rattle.hand_core.specs.CopyEnds.{has_ended};
-ghost use Rattle.round_core.specs.Runs.{IsFresh, IsUnstarted, IsEmpty, IsReady, AreJoined, IsRunOver};
-ghost use Rattle.round_core.specs.Counts.{CountsOn};
+ghost use Rattle.round_core.specs.Runs.{IsFresh, IsUnstarted, IsEmpty, IsReady, AreJoined, IsRunOver, IsRunOrNot};
 
 use crate::committer::{Committed, Committer, start_committer};
 use crate::copier::{Carried, Copier, start_copier};
@@ -230,9 +229,7 @@ pub(crate) fn run<
     requires memory { IsReady seats.old.scan.count memory }
     requires parts { 1 < seats.old.ends.parts }
     requires begins { K.begins_at seats.old.scan.count }
-    ensures ran { IfSome result (IsRunOver K.stops_at K.unpinned seats.old.scan seats.new.scan seats.old.ends seats.new.ends) }
-    ensures none { IfNone result (seats.new.scan ≡ seats.old.scan) }
-    ensures ends { CountsOn seats.old.ends seats.new.ends }
+    ensures { IsRunOrNot K.stops_at K.unpinned seats.old.scan seats.new.scan seats.old.ends seats.new.ends result }
 {
     let Memory {
         copier_parts,
