@@ -3,7 +3,7 @@
     python3 checks/all.py [--of sources|program] [--program PATH] [NAME..]
 
 All of them run, also after one that fails. Ends with status 1 where one failed. `--of sources` runs those that look at sources
-alone, for which nothing has to be proved, and `--of program` the others."""
+alone, for which nothing has to be built, and `--of program` the others."""
 
 import argparse
 import ast
@@ -14,7 +14,7 @@ import time
 
 FOLDER = pathlib.Path(__file__).resolve().parent
 SHARED = ("all", "runs", "machine", "c_programs", "c_machine")  # what isn't a check
-OF_SOURCES = ("list_that_asks_for_memory", "seat_of_another_opening", "wrong_bodies")
+OF_SOURCES = ("types_with_allocators", "wrong_bodies")  # nothing is built for these
 SECONDS = 1800  # that a check may take
 
 

@@ -1,29 +1,18 @@
 """The list of a journal can't ask for memory, no list of a zone can, and neither can the box of a zone's tables.
 
 A `Vec` has the allocator that it was made with. So a body that has one can clone it or let it grow, and where it drops what
-it made, no clause sees that. The lists of a zone are of the type `FixedVec`, of which only its own file reaches the `Vec`.
+it made, no clause sees that. The lists of a zone are of the type `FixedVec`, of which only its own file reaches the `Vec`, and
+`types_with_allocators.py` looks that a zone has no other type that has an allocator, but for the box.
+
 What asks for memory doesn't compile elsewhere, and the must-fail edits are for what compiles and isn't proved. So this check
 plants such lines in `Journal::push`, and in `BareZone::number` for the box, in copies of the repository. Each has to be refused,
-and nothing else, which takes no proof. It also looks that the crates of a zone name no other type that has an allocator, but for
-that box, in three lines. What lends the allocator of a box is no method: it has to name `Box`."""
+and nothing else, which takes no proof."""
 
 import collections
 import pathlib
-import re
 import tempfile
 
 import runs
-
-ZONE = "frame_core table_core scan_core state_core zone_tables zone_core".split()
-REACHES = "crates/frame_core/src/fixed_vec.rt"
-BOXES = "crates/zone_core/src/bare.rt"
-BOX = [
-    "    tables: Box<ZoneTables<W>>,\n",
-    ") -> Result<Box<ZoneTables<W>>, ZoneError>\n",
-    "    Box::new(alloc, tables).or(Err(ZoneError::Memory))\n",
-]
-OWNERS = re.compile(r"\b(Vec|VecDeque|Box|String|Rc|Arc|HashMap|BTreeMap|HashSet|BTreeSet|BinaryHeap|LinkedList)\b")
-FIELDS = re.compile(r"^(?:pub )?(?:struct|enum|union) .*?^}", re.DOTALL | re.MULTILINE)
 
 # A line of a function, and what each line that asks for memory is refused for where it stands before that.
 Place = collections.namedtuple("Place", "file before asks")
@@ -39,7 +28,7 @@ PLACES = [
         },
     ),
     Place(
-        BOXES,
+        "crates/zone_core/src/bare.rt",
         "        self.tables.number()\n",
         {
             "let _copy = self.tables.clone();": "the method `clone` exists for `Box<ZoneTables<W>>`, but its bounds are not met",
@@ -47,30 +36,6 @@ PLACES = [
         },
     ),
 ]
-
-
-def is_without(text):
-    """Whether a file names no type with an allocator, and none of its types has one in a field."""
-    code = re.sub(r"//.*", "", text)
-    return not OWNERS.search(code) and not any("Global" in fields for fields in FIELDS.findall(code))
-
-
-def text_of(path):
-    """What a file says, but for the lines that name the box of a zone's tables where each stands once in its file."""
-    text = path.read_text()
-    if path != runs.ROOT / BOXES:
-        return text
-    for line in BOX:
-        if text.count(line) != 1:
-            raise runs.Failed(f"{BOXES} has not this line once: {line.strip()}")
-        text = text.replace(line, "")
-    return text
-
-
-def owners():
-    """The files of a zone's crates that name a type with an allocator, but for that of `FixedVec`."""
-    files = (path for crate in ZONE for path in sorted(runs.ROOT.glob(f"crates/{crate}/src/**/*.rt")))
-    return [name for path in files if (name := str(path.relative_to(runs.ROOT))) != REACHES and not is_without(text_of(path))]
 
 
 def refused(place):
@@ -91,8 +56,6 @@ def refused(place):
 
 
 def main():
-    if found := owners():
-        raise runs.Failed("\n".join(["a zone has a type with an allocator:", *found]))
     for place in PLACES:
         errors = refused(place)
         if len(errors) != len(place.asks) or not all(any(wanted in error for error in errors) for wanted in place.asks.values()):
