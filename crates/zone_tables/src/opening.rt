@@ -1,5 +1,9 @@
-ghost use Rattle.std.specs.Prelude.{◌≡◌, ◌≤◌, [], None, IfOk, IfErr};
+ghost use Rattle.std.specs.Prelude.{◌≡◌, ◌<◌, ◌≤◌, ◌*◌, [], None, false, replicate, IfOk, IfErr};
 ghost use Rattle.frame_core.specs.Journal.{told_places};
+ghost use Rattle.frame_core.specs.Page.{blank_words};
+ghost use Rattle.scan_core.specs.Frames.{all_free};
+ghost use Rattle.table_core.specs.Tables.{IsBlank};
+ghost use Rattle.zone_tables.specs.Notes.{unused_note};
 ghost use Rattle.state_core.specs.Valid.{IsValidZone};
 ghost use Rattle.state_core.specs.Opening.{IsOpenable, IsSize, opened_told, opened_with};
 
@@ -12,7 +16,7 @@ use crate::zone::ZoneTables;
 use frame_core::{WordsOf, ZoneNo};
 use scan_core::{Fingers, Frames};
 use state_core::ZoneError;
-use std::alloc::Global;
+use std::alloc::{AllocError, Global};
 use table_core::Tables;
 
 impl<const W: usize> ZoneTables<W> {
@@ -63,27 +67,18 @@ impl<const W: usize> ZoneTables<W> {
         ensures valid { IfOk result (λ zone. IsValidZone zone) }
     {
         let count = 512 * blocks;
-        let Ok(frames) = Frames::open(alloc, blocks) else {
+        let Ok(held) = open_blocks(alloc, count) else {
             return Err(ZoneError::Memory);
         };
-        let Ok(notes) = Notes::open(alloc, count) else {
+        let Ok(noted) = open_notes(alloc, count) else {
             return Err(ZoneError::Memory);
         };
-        let Ok(handed_out) = HandedOut::open(alloc, count) else {
+        let Ok(memory) = open_memory(alloc, blocks) else {
             return Err(ZoneError::Memory);
         };
-        let Ok(cleared) = Cleared::open(alloc, count) else {
-            return Err(ZoneError::Memory);
-        };
-        let Ok(moves) = Moves::open(alloc, count) else {
-            return Err(ZoneError::Memory);
-        };
-        let Ok(tables) = Tables::open(alloc, blocks) else {
-            return Err(ZoneError::Memory);
-        };
-        let Ok(words) = WordsOf::open(alloc, count) else {
-            return Err(ZoneError::Memory);
-        };
+        let (frames, tables, words) = memory;
+        let (notes, moves) = noted;
+        let (handed_out, cleared) = held;
         Ok(ZoneTables {
             number,
             blocks,
@@ -99,4 +94,43 @@ impl<const W: usize> ZoneTables<W> {
             history,
         })
     }
+}
+
+/// The frames, the tables of the addresses and the words of the pages.
+fn open_memory<const W: usize>(
+    alloc: Global,
+    blocks: u32,
+) -> Result<(Frames, Tables, WordsOf<W>), AllocError>
+    requires size { W ≤ 65536 }
+    requires blocks { (0 < blocks) × (blocks ≤ 8) }
+    ensures frames { IfOk result (λ memory. memory.0 ≡ all_free blocks) }
+    ensures tables { IfOk result (λ memory. IsBlank memory.1.entries × (memory.1.frames ≡ 512 * blocks)) }
+    ensures words { IfOk result (λ memory. memory.2 ≡ replicate (512 * blocks) (blank_words W)) }
+{
+    let frames = Frames::open(alloc, blocks)?;
+    let tables = Tables::open(alloc, blocks)?;
+    let words = WordsOf::open(alloc, 512 * blocks)?;
+    Ok((frames, tables, words))
+}
+
+/// What is noted of each page, and which pages are moving.
+fn open_notes(alloc: Global, count: u32) -> Result<(Notes, Moves), AllocError>
+    requires { count ≤ 4096 }
+    ensures notes { IfOk result (λ noted. noted.0 ≡ replicate count unused_note) }
+    ensures moves { IfOk result (λ noted. noted.1 ≡ record { pages = replicate count 0; isolated = 0; moved = 0; back = 0 }) }
+{
+    let notes = Notes::open(alloc, count)?;
+    let moves = Moves::open(alloc, count)?;
+    Ok((notes, moves))
+}
+
+/// Which blocks are handed out, and whether each of them is clear of words of pages.
+fn open_blocks(alloc: Global, frames: u32) -> Result<(HandedOut, Cleared), AllocError>
+    requires { frames ≤ 4096 }
+    ensures handed_out { IfOk result (λ held. held.0 ≡ replicate frames None) }
+    ensures cleared { IfOk result (λ held. held.1 ≡ replicate frames false) }
+{
+    let handed_out = HandedOut::open(alloc, frames)?;
+    let cleared = Cleared::open(alloc, frames)?;
+    Ok((handed_out, cleared))
 }
