@@ -57,7 +57,6 @@ impl WorldError {
 
 /// A zone with its seats, its isolated pages, and four hands, over pages of `W` words. Each hand is empty, or has a page or its
 /// copy. After `open` no call takes memory.
-#[derive(Drop)]
 pub struct World<const W: usize, I: Ledger, N: Ledger, M: Ledger, B: Ledger> {
     zone: ZoneOf<W, I, M, B>,
     scan: ScanSeat<I, N>,
@@ -65,6 +64,19 @@ pub struct World<const W: usize, I: Ledger, N: Ledger, M: Ledger, B: Ledger> {
     waiting: VecDeque<IsolatedOf<W>>,
     hands: Hands<W>,
     is_open: bool,
+}
+
+impl<const W: usize, I: Ledger, N: Ledger, M: Ledger, B: Ledger> Drop for World<W, I, N, M, B> {
+    fn drop(self) {
+        let World {
+            zone: _zone,
+            scan: _scan,
+            ends: _ends,
+            waiting: _waiting,
+            hands: _hands,
+            is_open: _,
+        } = self;
+    }
 }
 
 impl<const W: usize, I: Ledger, N: Ledger, M: Ledger, B: Ledger> Model for World<W, I, N, M, B> {
@@ -400,7 +412,8 @@ impl<const W: usize, I: Ledger, N: Ledger, M: Ledger, B: Ledger> World<W, I, N, 
             scan,
             ends,
             waiting,
-            ..
+            hands: _hands,
+            is_open: _,
         } = self;
         Ok((zone, Seats { scan, ends }, Rest { waiting }))
     }

@@ -25,11 +25,16 @@ use zone_tables::ZoneTables;
 
 /// A zone of 1 to 8 pageblocks, whose pages have `W` words, without ledgers. So its type doesn't name its opening, and its calls take no
 /// seats. What is said of refusals, of memory and of the two kinds of journal at `ZoneOf` holds here too.
-#[derive(Drop)]
 pub struct BareZone<const W: usize> {
     tables: Box<ZoneTables<W>>,
     // A page has at most 65,536 words.
     ghost size: { W ≤ 65536 },
+}
+
+impl<const W: usize> Drop for BareZone<W> {
+    fn drop(self) {
+        let BareZone { tables: _tables } = self;
+    }
 }
 
 impl<const W: usize> Model for BareZone<W> {

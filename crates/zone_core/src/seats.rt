@@ -41,12 +41,22 @@ pub enum Answered {
 
 /// The seat of a zone's scanner. It counts the pages that were isolated with it and the rounds that were begun with it,
 /// and notes the last answer of `isolate_next` since the latest round began. Each opened zone has exactly one.
-#[derive(Drop)]
 pub struct ScanSeat<I: Ledger, N: Ledger> {
     isolated: Share<I>,
     rounds: Book<N>,
     begun: Share<N>,
     last: Option<Answered>,
+}
+
+impl<I: Ledger, N: Ledger> Drop for ScanSeat<I, N> {
+    fn drop(self) {
+        let ScanSeat {
+            isolated: _isolated,
+            rounds: _rounds,
+            begun: _begun,
+            last: _,
+        } = self;
+    }
 }
 
 impl<I: Ledger, N: Ledger> Model for ScanSeat<I, N> {
@@ -62,11 +72,20 @@ impl<I: Ledger, N: Ledger> Model for ScanSeat<I, N> {
 
 /// A seat of those who end moves. It counts the pages that were moved and put back with it. A zone is opened with one that has
 /// all 64 parts.
-#[derive(Drop)]
 pub struct EndSeat<M: Ledger, B: Ledger> {
     parts: u64,
     moved: Share<M>,
     back: Share<B>,
+}
+
+impl<M: Ledger, B: Ledger> Drop for EndSeat<M, B> {
+    fn drop(self) {
+        let EndSeat {
+            parts: _,
+            moved: _moved,
+            back: _back,
+        } = self;
+    }
 }
 
 impl<M: Ledger, B: Ledger> Model for EndSeat<M, B> {

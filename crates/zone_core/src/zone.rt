@@ -34,12 +34,22 @@ use std::sync::ledger::{Book, Ledger};
 ///
 /// A zone is opened in one of two kinds, and every clause is for both. `open` keeps each record of the journal, in 65,536 places at
 /// most. `open_told` keeps none of them: they exist for contracts alone, and there is room for 2^53.
-#[derive(Drop)]
 pub struct Zone<const W: usize, I: Ledger, M: Ledger, B: Ledger> {
     pub(crate) bare: BareZone<W>,
     pub(crate) isolated: Book<I>,
     pub(crate) moved: Book<M>,
     pub(crate) back: Book<B>,
+}
+
+impl<const W: usize, I: Ledger, M: Ledger, B: Ledger> Drop for Zone<W, I, M, B> {
+    fn drop(self) {
+        let Zone {
+            bare: _bare,
+            isolated: _isolated,
+            moved: _moved,
+            back: _back,
+        } = self;
+    }
 }
 
 impl<const W: usize, I: Ledger, M: Ledger, B: Ledger> Model for Zone<W, I, M, B> {
