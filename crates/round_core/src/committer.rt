@@ -138,8 +138,7 @@ pub(crate) fn start_committer<
         move || -> Committed<M, B>
             requires copies { has_ended copies ≡ false }
             requires part { (seat.parts ≡ 1) × (seat.back ≡ 0) }
-            ensures part { result.seat.parts ≡ 1 }
-            ensures back { K.unpinned → result.seat.back ≡ 0 }
+            ensures { (result.seat.parts ≡ 1) × (K.unpinned → result.seat.back ≡ 0) }
         { commit_all(rt, shared, copies, gathered, seat, gate) },
     );
     match started {

@@ -3,7 +3,7 @@ ghost use Rattle.std.specs.VecDeque.{deque_capacity};
 ghost use Rattle.frame_core.specs.Serials.{HasSerialsFrom};
 ghost use Rattle.round_core.specs.Counts.{CountsBack};
 ghost use Rattle.round_core.specs.Crews.{IsNext};
-ghost use Rattle.round_core.specs.Rounds.{answer_at};
+ghost use Rattle.round_core.specs.Scanning.{HasStopped};
 
 use crate::division::Division;
 use crate::gate::{Gate, Point, SCANNER, tell_all};
@@ -35,8 +35,7 @@ pub(crate) fn scan_all<K: Keeping, I: Ledger, N: Ledger, M: Ledger, B: Ledger, G
     requires begins { K.begins_at scan.old.count }
     ensures giver { giver.new ≡ record giver.old { given = giver.new.given } }
     ensures count { OnOk result (IsNext scan.new.count giver.new) }
-    ensures stopped { IfOk result (λ stop. scan.new.last ≡ Some (answer_at stop)) }
-    ensures stops { IfOk result (λ stop. K.stops_at scan.new.count stop) }
+    ensures stopped { IfOk result (HasStopped K.stops_at scan.new) }
     ensures rounds { scan.new.rounds ≡ scan.old.rounds + 1 }
     ensures ends { CountsBack ends.old ends.new }
     ensures back { OnOk result (ends.new.back ≡ ends.old.back) }

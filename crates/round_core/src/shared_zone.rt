@@ -118,7 +118,6 @@ impl<K: Keeping, I: Ledger, M: Ledger, B: Ledger> ZoneGuard<'_, K, I, M, B> {
 }
 
 /// A zone under one lock, which keeps what `K` says of it.
-#[derive(Drop)]
 pub struct KeptZone<K: Keeping, I: Ledger, M: Ledger, B: Ledger> {
     room: Mutex<Room<K, I, M, B>>,
     ended: Condvar,
@@ -127,18 +126,26 @@ pub struct KeptZone<K: Keeping, I: Ledger, M: Ledger, B: Ledger> {
     ghost in_range: { (0 < blocks) × (blocks ≤ 8) },
 }
 
+impl<K: Keeping, I: Ledger, M: Ledger, B: Ledger> Drop for KeptZone<K, I, M, B> {
+    fn drop(self) {
+        let KeptZone {
+            room: _room,
+            ended: _ended,
+            blocks: _,
+        } = self;
+    }
+}
+
 /// A zone under one lock that anyone may use: it keeps nothing but that the zone is valid.
 pub type SharedZone<K, I, M, B> = KeptZone<Open<K>, I, M, B>;
 
 impl<K: Keeping, I: Ledger, M: Ledger, B: Ledger> KeptZone<K, I, M, B> {
     ghost use Rattle.std.specs.Prelude.{◌≡◌, ◌+◌, ◌<◌, ◌≤◌, [], length, Some, None, IfSome, IfNone, OnSome};
     ghost use Rattle.std.specs.VecDeque.{deque_capacity};
-    ghost use Rattle.frame_core.specs.Serials.{HasSerialsFrom};
     ghost use Rattle.zone_core.specs.Seats.{seat_begun};
     ghost use Rattle.round_core.specs.Kept.{LockInvariant};
     ghost use Rattle.round_core.specs.Counts.{CountsBack};
-    ghost use Rattle.round_core.specs.Rounds.{answer_at};
-    ghost use Rattle.round_core.specs.Scanning.{HasBegun};
+    ghost use Rattle.round_core.specs.Scanning.{HasBegun, HasIsolated};
     ghost use Rattle.zone_core.specs.ZoneIdentity.{HasIdentity};
 
     /// Puts a zone under a lock. Its number and its pageblocks are those of `K`.
@@ -187,7 +194,12 @@ impl<K: Keeping, I: Ledger, M: Ledger, B: Ledger> KeptZone<K, I, M, B> {
         ensures keeps { K.keeps result.0 }
         ensures told { K.told result.0.records ≡ result.1 }
     {
-        let Room { zone, stub, .. } = self.room.into_inner();
+        let KeptZone {
+            room,
+            ended: _ended,
+            blocks: _,
+        } = self;
+        let Room { zone, stub, .. } = room.into_inner();
         (zone, stub)
     }
 
@@ -229,11 +241,8 @@ impl<K: Keeping, I: Ledger, M: Ledger, B: Ledger> KeptZone<K, I, M, B> {
     ) -> Option<Stop>
         requires begins { K.begins_at seat.old.count }
         requires pages { (pages.old.items ≡ []) × (0 < deque_capacity pages.old) }
-        ensures serials { HasSerialsFrom seat.old.count pages.new.items }
-        ensures count { seat.new.count ≡ seat.old.count + length pages.new.items }
+        ensures isolated { HasIsolated K.stops_at seat.old seat.new pages.new.items result }
         ensures rounds { seat.new.rounds ≡ seat.old.rounds + 1 }
-        ensures stopped { IfSome result (λ stop. seat.new.last ≡ Some (answer_at stop)) }
-        ensures stops { IfSome result (λ stop. K.stops_at seat.new.count stop) }
         ensures goes_on { IfNone result (HasBegun K.begins_at seat.new.count) }
         ensures room { deque_capacity pages.new ≡ deque_capacity pages.old }
     {
@@ -253,11 +262,8 @@ impl<K: Keeping, I: Ledger, M: Ledger, B: Ledger> KeptZone<K, I, M, B> {
     ) -> Option<Stop>
         requires goes_on { HasBegun K.begins_at seat.old.count }
         requires pages { (pages.old.items ≡ []) × (0 < deque_capacity pages.old) }
-        ensures serials { HasSerialsFrom seat.old.count pages.new.items }
-        ensures count { seat.new.count ≡ seat.old.count + length pages.new.items }
+        ensures isolated { HasIsolated K.stops_at seat.old seat.new pages.new.items result }
         ensures rounds { seat.new.rounds ≡ seat.old.rounds }
-        ensures stopped { IfSome result (λ stop. seat.new.last ≡ Some (answer_at stop)) }
-        ensures stops { IfSome result (λ stop. K.stops_at seat.new.count stop) }
         ensures goes_on { IfNone result (HasBegun K.begins_at seat.new.count) }
         ensures room { deque_capacity pages.new ≡ deque_capacity pages.old }
     {

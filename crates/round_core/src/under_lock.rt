@@ -4,13 +4,12 @@ ghost use Rattle.std.specs.Prelude.{◌≡◌, ◌+◌, ◌<◌, ◌≤◌, [], 
 ghost use Rattle.std.specs.VecDeque.{deque_capacity};
 ghost use Rattle.frame_core.specs.Moves.{isolated};
 ghost use Rattle.state_core.specs.Valid.{IsValidZone};
-ghost use Rattle.frame_core.specs.Serials.{HasSerialsFrom};
 ghost use Rattle.zone_core.specs.Seats.{seat_begun};
-ghost use Rattle.zone_core.specs.ZoneIdentity.{HasIdentity};
 ghost use Rattle.state_core.specs.Ending.{put_back_to_source};
 ghost use Rattle.round_core.specs.Counts.{CountsBack};
+ghost use Rattle.round_core.specs.Kept.{LeavesKept};
 ghost use Rattle.round_core.specs.PuttingBack.{all_put_back};
-ghost use Rattle.round_core.specs.Rounds.{answer_at};
+ghost use Rattle.round_core.specs.Scanning.{HasIsolated, HasStopped};
 
 use crate::keeping::Keeping;
 use crate::round::Stop;
@@ -28,11 +27,8 @@ pub(crate) fn begin_round<K: Keeping, I: Ledger, N: Ledger, M: Ledger, B: Ledger
     requires keeps { K.keeps zone.old }
     requires begins { K.begins_at scan.old.count }
     ensures seat { scan.new ≡ seat_begun scan.old }
-    ensures keeps { K.keeps_scanning zone.new }
-    ensures told { K.told zone.new.records ≡ K.told zone.old.records }
+    ensures kept { LeavesKept K.keeps_scanning K.told zone.old zone.new }
     ensures count { isolated zone.new.records ≡ scan.new.count }
-    ensures identity { HasIdentity zone.old.number zone.old.blocks zone.new }
-    ensures valid { IsValidZone zone.new }
 {
     zone.begin_round(scan);
 }
@@ -47,17 +43,11 @@ pub(crate) fn isolate_pages<K: Keeping, I: Ledger, N: Ledger, M: Ledger, B: Ledg
     requires keeps { K.keeps_scanning zone.old }
     requires count { isolated zone.old.records ≡ scan.old.count }
     requires empty { (pages.old.items ≡ []) × (0 < deque_capacity pages.old) }
-    ensures serials { HasSerialsFrom scan.old.count pages.new.items }
-    ensures count { scan.new.count ≡ scan.old.count + length pages.new.items }
+    ensures isolated { HasIsolated K.stops_at scan.old scan.new pages.new.items result }
     ensures rounds { scan.new.rounds ≡ scan.old.rounds }
-    ensures stopped { IfSome result (λ stop. scan.new.last ≡ Some (answer_at stop)) }
-    ensures keeps { K.keeps zone.new }
-    ensures told { K.told zone.new.records ≡ K.told zone.old.records }
-    ensures stops { IfSome result (λ stop. K.stops_at scan.new.count stop) }
+    ensures kept { LeavesKept K.keeps K.told zone.old zone.new }
     ensures more { IfNone result (scan.old.count < scan.new.count) }
     ensures room { deque_capacity pages.new ≡ deque_capacity pages.old }
-    ensures identity { HasIdentity zone.old.number zone.old.blocks zone.new }
-    ensures valid { IsValidZone zone.new }
 {
     while pages.len() < pages.capacity() {
         match isolate_page::<K, I, N, M, B>(zone, scan) {
@@ -81,12 +71,8 @@ fn isolate_page<K: Keeping, I: Ledger, N: Ledger, M: Ledger, B: Ledger>(
     ensures same { OnErr result (scan.new.count ≡ scan.old.count) }
     ensures counted { isolated zone.new.records ≡ scan.new.count }
     ensures rounds { scan.new.rounds ≡ scan.old.rounds }
-    ensures stopped { IfErr result (λ stop. scan.new.last ≡ Some (answer_at stop)) }
-    ensures keeps { K.keeps_scanning zone.new }
-    ensures told { K.told zone.new.records ≡ K.told zone.old.records }
-    ensures stops { IfErr result (K.stops_at scan.new.count) }
-    ensures identity { HasIdentity zone.old.number zone.old.blocks zone.new }
-    ensures valid { IsValidZone zone.new }
+    ensures stopped { IfErr result (HasStopped K.stops_at scan.new) }
+    ensures kept { LeavesKept K.keeps_scanning K.told zone.old zone.new }
 {
     match zone.isolate_next(scan) {
         Ok(Next::Page(page)) => Ok(page),
@@ -104,13 +90,10 @@ pub(crate) fn commit_copies<K: Keeping, I: Ledger, M: Ledger, B: Ledger>(
 ) -> Option<Serial>
     requires valid { IsValidZone zone.old }
     requires keeps { K.keeps zone.old }
-    ensures keeps { K.keeps zone.new }
-    ensures told { K.told zone.new.records ≡ K.told zone.old.records }
+    ensures kept { LeavesKept K.keeps K.told zone.old zone.new }
     ensures back { K.unpinned → seat.new.back ≡ seat.old.back }
     ensures copies { copies.new.items ≡ [] }
     ensures parts { seat.new.parts ≡ seat.old.parts }
-    ensures identity { HasIdentity zone.old.number zone.old.blocks zone.new }
-    ensures valid { IsValidZone zone.new }
 {
     while let Some(copy) = copies.pop_front() {
         stranger = least(stranger, commit_copy::<K, I, M, B>(zone, seat, copy));
@@ -126,12 +109,9 @@ fn commit_copy<K: Keeping, I: Ledger, M: Ledger, B: Ledger>(
 ) -> Option<Serial>
     requires valid { IsValidZone zone.old }
     requires keeps { K.keeps zone.old }
-    ensures keeps { K.keeps zone.new }
-    ensures told { K.told zone.new.records ≡ K.told zone.old.records }
+    ensures kept { LeavesKept K.keeps K.told zone.old zone.new }
     ensures back { K.unpinned → seat.new.back ≡ seat.old.back }
     ensures parts { seat.new.parts ≡ seat.old.parts }
-    ensures identity { HasIdentity zone.old.number zone.old.blocks zone.new }
-    ensures valid { IsValidZone zone.new }
 {
     match zone.commit(seat, copy) {
         Ok(_) => None,
@@ -147,15 +127,12 @@ pub(crate) fn put_back_pages<K: Keeping, I: Ledger, M: Ledger, B: Ledger>(
 ) -> Option<Serial>
     requires valid { IsValidZone zone.old }
     requires keeps { K.keeps zone.old }
-    ensures keeps { K.keeps zone.new }
-    ensures told { K.told zone.new.records ≡ K.told zone.old.records }
+    ensures kept { LeavesKept K.keeps K.told zone.old zone.new }
     ensures put_back { result ≡ None → zone.new ≡ all_put_back zone.old pages.old.items }
     ensures back { result ≡ None → seat.new.back ≡ seat.old.back + length pages.old.items }
     ensures seat { CountsBack seat.old seat.new }
     ensures pages { pages.new.items ≡ [] }
     ensures room { deque_capacity pages.new ≡ deque_capacity pages.old }
-    ensures identity { HasIdentity zone.old.number zone.old.blocks zone.new }
-    ensures valid { IsValidZone zone.new }
 {
     let mut stranger = None;
     while let Some(page) = pages.pop_front() {
@@ -172,13 +149,10 @@ fn put_back_page<K: Keeping, I: Ledger, M: Ledger, B: Ledger>(
 ) -> Option<Serial>
     requires valid { IsValidZone zone.old }
     requires keeps { K.keeps zone.old }
-    ensures keeps { K.keeps zone.new }
-    ensures told { K.told zone.new.records ≡ K.told zone.old.records }
+    ensures kept { LeavesKept K.keeps K.told zone.old zone.new }
     ensures put_back { result ≡ None → zone.new ≡ put_back_to_source zone.old page.serial page.page.number Cause.NotCopied }
     ensures back { result ≡ None → seat.new.back ≡ seat.old.back + 1 }
     ensures seat { CountsBack seat.old seat.new }
-    ensures identity { HasIdentity zone.old.number zone.old.blocks zone.new }
-    ensures valid { IsValidZone zone.new }
 {
     match zone.put_back(seat, page) {
         Ok(()) => None,

@@ -1,9 +1,8 @@
-use Rattle.std.proofs.Common.{◌≡◌, ◌+◌, ◌<◌, length, false, Some, IfSome, IfNone}
+use Rattle.std.proofs.Common.{◌≡◌, ◌+◌, ◌<◌, length, false, IfSome, IfNone}
 use Rattle.std.specs.VecDeque.{deque_capacity}
 use Rattle.frame_core.specs.Serials.{HasSerialsFrom}
 use Rattle.round_core.specs.Counts.{CountsBack}
-use Rattle.round_core.specs.Rounds.{answer_at}
-use Rattle.round_core.specs.Scanning.{HasBegun}
+use Rattle.round_core.specs.Scanning.{HasBegun, HasStopped}
 use Rattle.round_core.proofs.scanner.scan_all.Given as goal
 
 abbrev pub invariant-loop : goal.invariant-loop
@@ -17,7 +16,6 @@ invariant-loop g l = record {
   rounds : l.scan.rounds ≡ l.fn.scan.rounds + 1;
   ends : CountsBack l.fn.ends l.ends;
   back : l.ends.back ≡ l.fn.ends.back;
-  stopped : IfSome l.stop (λ stop. l.scan.last ≡ Some (answer_at stop));
-  stops : IfSome l.stop (λ stop. g.K.Keeping.stops_at l.scan.count stop);
+  stopped : IfSome l.stop (HasStopped g.K.Keeping.stops_at l.scan);
   goes_on : IfNone l.stop (HasBegun g.K.Keeping.begins_at l.scan.count);
 }

@@ -38,27 +38,36 @@ returns-in-Ok-Page-clause-counted g c =
     ∙ ap (λ n. n + 1) c.requires.count
     ∙ sym (ap (λ (s : ScanSeat). s.count) seat)
 
-pub returns-in-Ok-Page-clause-keeps : goal.returns-in-Ok-Page-clause-keeps
-returns-in-Ok-Page-clause-keeps g c =
+pub returns-in-Ok-Page-clause-kept : goal.returns-in-Ok-Page-clause-kept
+returns-in-Ok-Page-clause-kept g c =
     let zone = c.args.zone.now in
-    subst g.K.Keeping.keeps_scanning (sym (c.in-Ok-Page.ensures.ok ∙ stepped zone c.in-Ok-Page.ensures.refused)) (g.K.Keeping.scans zone c.requires.valid c.requires.keeps)
+    let scanned = c.in-Ok-Page.ensures.ok ∙ stepped zone c.in-Ok-Page.ensures.refused in
+    record {
+      kept = subst g.K.Keeping.keeps_scanning (sym scanned) (g.K.Keeping.scans zone c.requires.valid c.requires.keeps);
+      receipts = ap (λ (z : ZoneState). g.K.Keeping.told z.records) scanned ∙ scan_tells_none g.K.Keeping.told g.K.Keeping.tells_none zone c.requires.valid;
+      identity = c.in-Ok-Page.ensures.identity;
+      valid = c.in-Ok-Page.ensures.valid;
+    }
 
-pub returns-in-Ok-Page-clause-told : goal.returns-in-Ok-Page-clause-told
-returns-in-Ok-Page-clause-told g c =
+pub returns-in-Ok-Met-clause-kept : goal.returns-in-Ok-Met-clause-kept
+returns-in-Ok-Met-clause-kept g c =
     let zone = c.args.zone.now in
-    ap (λ (z : ZoneState). g.K.Keeping.told z.records) (c.in-Ok-Page.ensures.ok ∙ stepped zone c.in-Ok-Page.ensures.refused)
-    ∙ scan_tells_none g.K.Keeping.told g.K.Keeping.tells_none zone c.requires.valid
+    let scanned = c.in-Ok-Met.ensures.ok ∙ stepped zone c.in-Ok-Met.ensures.refused in
+    record {
+      kept = subst g.K.Keeping.keeps_scanning (sym scanned) (g.K.Keeping.scans zone c.requires.valid c.requires.keeps);
+      receipts = ap (λ (z : ZoneState). g.K.Keeping.told z.records) scanned ∙ scan_tells_none g.K.Keeping.told g.K.Keeping.tells_none zone c.requires.valid;
+      identity = c.in-Ok-Met.ensures.identity;
+      valid = c.in-Ok-Met.ensures.valid;
+    }
 
-pub returns-in-Ok-Met-clause-keeps : goal.returns-in-Ok-Met-clause-keeps
-returns-in-Ok-Met-clause-keeps g c =
-    let zone = c.args.zone.now in
-    subst g.K.Keeping.keeps_scanning (sym (c.in-Ok-Met.ensures.ok ∙ stepped zone c.in-Ok-Met.ensures.refused)) (g.K.Keeping.scans zone c.requires.valid c.requires.keeps)
-
-pub returns-in-Ok-Met-clause-stops : goal.returns-in-Ok-Met-clause-stops
-returns-in-Ok-Met-clause-stops g c =
+pub returns-in-Ok-Met-clause-stopped : goal.returns-in-Ok-Met-clause-stopped
+returns-in-Ok-Met-clause-stopped g c =
     let zone = c.args.zone.now in
     let refused = c.in-Ok-Met.ensures.refused in
     let met = sym c.in-Ok-Met.field-0-is ∙ c.in-Ok-Met.ensures.answer in
     let seat = c.in-Ok-Met.ensures.seat ∙ ap (seat_noted c.args.scan.now) c.in-Ok-Met.field-0-is in
-    subst (λ n. g.K.Keeping.stops_at n Stopped.Met) (c.requires.count ∙ sym (ap (λ (s : ScanSeat). s.count) seat))
-    (subst (λ refusal. g.K.Keeping.stops_at (isolated zone.records) (stop_for refusal)) (sym refused) (g.K.Keeping.stops zone c.requires.valid c.requires.keeps (met_stops zone refused met)))
+    record {
+      answered = ap (λ (s : ScanSeat). s.last) seat;
+      allowed = subst (λ n. g.K.Keeping.stops_at n Stopped.Met) (c.requires.count ∙ sym (ap (λ (s : ScanSeat). s.count) seat))
+          (subst (λ refusal. g.K.Keeping.stops_at (isolated zone.records) (stop_for refusal)) (sym refused) (g.K.Keeping.stops zone c.requires.valid c.requires.keeps (met_stops zone refused met)));
+    }

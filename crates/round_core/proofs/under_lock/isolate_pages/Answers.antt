@@ -12,15 +12,12 @@ loop-zone-preserved g c =
     let pushed = c.push_back_reserved.ensures.items in
     let longer = ap (length {A = IsolatedPage}) pushed ∙ length-append pages (p ∷ []) in
     let count = c.in-Ok.ensures.count in
-    let counted = old.count in
+    let before = old.count in
     record {
       serials = subst (HasSerialsFrom c.args.scan.now.count) (sym pushed) (serials-snoc c.args.scan.now.count pages p old.serials (c.in-Ok.ensures.serial ∙ old.count));
-      count = omega (arith, count, counted, longer);
+      count = omega (arith, count, before, longer);
       rounds = search rules;
-      identity = search rules;
-      valid = search rules;
-      keeps = search rules;
-      clients = search rules;
-      told = search rules;
+      counted = search rules;
+      kept = search rules;
       room = c.push_back_reserved.ensures.capacity ∙ old.room;
     }

@@ -1,9 +1,8 @@
 use Rattle.std.proofs.Common.{◌≡◌, ◌+◌, ◌-◌, length}
 use Rattle.std.specs.VecDeque.{deque_capacity}
 use Rattle.frame_core.specs.Moves.{isolated}
-use Rattle.state_core.specs.Valid.{IsValidZone}
 use Rattle.frame_core.specs.Serials.{HasSerialsFrom}
-use Rattle.zone_core.specs.ZoneIdentity.{HasIdentity}
+use Rattle.round_core.specs.Kept.{LeavesKept}
 use Rattle.round_core.proofs.under_lock.isolate_pages.Given as goal
 
 abbrev pub invariant-loop-zone : goal.invariant-loop-zone
@@ -11,11 +10,8 @@ invariant-loop-zone g l = record {
   serials : HasSerialsFrom l.fn.scan.count l.pages.items;
   count : l.scan.count ≡ l.fn.scan.count + length l.pages.items;
   rounds : l.scan.rounds ≡ l.fn.scan.rounds;
-  identity : HasIdentity l.fn.zone.number l.fn.zone.blocks l.zone;
-  valid : IsValidZone l.zone;
-  keeps : g.K.Keeping.keeps_scanning l.zone;
-  clients : g.K.Keeping.told l.zone.records ≡ g.K.Keeping.told l.fn.zone.records;
-  told : isolated l.zone.records ≡ l.scan.count;
+  counted : isolated l.zone.records ≡ l.scan.count;
+  kept : LeavesKept g.K.Keeping.keeps_scanning g.K.Keeping.told l.fn.zone l.zone;
   room : deque_capacity l.pages ≡ deque_capacity l.fn.pages;
 }
 

@@ -1,7 +1,6 @@
 use Rattle.std.proofs.Common.{◌≡◌, ◌+◌, ◌≤◌, length, None}
 use Rattle.std.specs.VecDeque.{deque_capacity}
-use Rattle.state_core.specs.Valid.{IsValidZone}
-use Rattle.zone_core.specs.ZoneIdentity.{HasIdentity}
+use Rattle.round_core.specs.Kept.{LeavesKept}
 use Rattle.round_core.specs.PuttingBack.{all_put_back}
 use Rattle.round_core.proofs.under_lock.put_back_pages.Given as goal
 
@@ -14,10 +13,7 @@ invariant-loop-page g l = record {
   left : l.stranger ≡ None → length l.pages.items + l.seat.back ≡ l.fn.seat.back + length l.fn.pages.items;
   put_back : l.stranger ≡ None → all_put_back l.zone l.pages.items ≡ all_put_back l.fn.zone l.fn.pages.items;
   room : deque_capacity l.pages ≡ deque_capacity l.fn.pages;
-  identity : HasIdentity l.fn.zone.number l.fn.zone.blocks l.zone;
-  valid : IsValidZone l.zone;
-  keeps : g.K.Keeping.keeps l.zone;
-  told : g.K.Keeping.told l.zone.records ≡ g.K.Keeping.told l.fn.zone.records;
+  kept : LeavesKept g.K.Keeping.keeps g.K.Keeping.told l.fn.zone l.zone;
 }
 
 abbrev pub decreases-loop-page : goal.decreases-loop-page
