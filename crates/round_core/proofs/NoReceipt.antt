@@ -1,22 +1,35 @@
--- The steps of a round are no receipts.
-use Rattle.std.proofs.Common.{◌≡◌, ℕ, Bool, true, false, if◌then◌else◌, List, ◌∷◌, refl, nat_eq}
+-- The steps of a round are no receipts, and what they leave is what the lock keeps.
+use Rattle.std.proofs.Common.{◌≡◌, ℕ, Bool, true, false, if◌then◌else◌, List, ◌∷◌, refl, sym, ap, subst, ◌∙◌, nat_eq, Option}
 use Rattle.frame_core.specs.declared.record.Cause.{Cause}
 use Rattle.frame_core.specs.declared.record.Cause.TheVariants.{Pinned}
 use Rattle.frame_core.specs.declared.record.Record.{Record}
 use Rattle.frame_core.specs.declared.record.Record.TheVariants.{Isolate, Moved, Back}
 use Rattle.frame_core.specs.History.{pins}
 use Rattle.frame_core.specs.Moves.{isolated}
+use Rattle.hand_core.specs.Told.{Told}
 use Rattle.zone_core.specs.ByHand.{scan_step}
+use Rattle.zone_core.specs.ZoneIdentity.{HasIdentity}
 use Rattle.zone_core.proofs.Scanning.{by_scan}
 use Rattle.state_core.specs.Ending.{committed, moved_to_target, put_back_to_source}
 use Rattle.state_core.specs.Valid.{IsValidZone}
 use Rattle.state_core.specs.ZoneState.{ZoneState}
 use Rattle.round_core.specs.Calls.{is_of_round}
+use Rattle.round_core.specs.Kept.{LeavesKept}
 
-module _ {A : Type 0} (told : List Record → A) (none : (entry : Record) (records : List Record) → is_of_round entry ≡ true → told (entry ∷ records) ≡ told records) (z : ZoneState) where
+module _ (told : List Record → Option Told) (none : (entry : Record) (records : List Record) → is_of_round entry ≡ true → told (entry ∷ records) ≡ told records) (z : ZoneState) where
   -- the scanner isolates a page, or stops
-  pub scan_tells_none : IsValidZone z → told (scan_step z).records ≡ told z.records
+  scan_tells_none : IsValidZone z → told (scan_step z).records ≡ told z.records
   scan_tells_none law = by_scan z law (λ w. told w.records ≡ told z.records) (λ e. refl) (λ pair t. none (Isolate (isolated z.records) pair.page) z.records refl)
+
+  -- what it leaves is what the lock keeps
+  pub scan_leaves : {z_new : ZoneState} (keeps : ZoneState → Type 0) → ((w : ZoneState) → IsValidZone w → keeps w → keeps (scan_step w)) → z_new ≡ scan_step z
+      → IsValidZone z → keeps z → HasIdentity z.number z.blocks z_new → IsValidZone z_new → LeavesKept keeps told z z_new
+  scan_leaves keeps scans scanned law kept identity valid = record {
+    kept = subst keeps (sym scanned) (scans z law kept);
+    receipts = ap (λ (w : ZoneState). told w.records) scanned ∙ scan_tells_none law;
+    identity = identity;
+    valid = valid;
+  }
 
   -- the move of a page ends
   pub back_tells_none : (page serial : ℕ) (cause : Cause) → told (put_back_to_source z serial page cause).records ≡ told z.records

@@ -62,7 +62,7 @@ pub record IsRunOver (stops_at : ℕ → Stop → Type 0) (unpinned : Type 0) (s
   pub rounds : scan_new.rounds ≡ scan.rounds + 1
 
 -- what came of running the threads of a round, by the seats before and after it: it ran, or one of them couldn't be started, and then
--- the scan seat is as it was. The end seat counts on, or counts what it did
+-- the scan seat is as it was. The end seat counts no fewer pages than before
 pub record IsRunOrNot (stops_at : ℕ → Stop → Type 0) (unpinned : Type 0) (scan scan_new : ScanSeat) (ends ends_new : EndSeat) (result : Option RoundRun) : Type 0 where
   pub ran : IfSome result (IsRunOver stops_at unpinned scan scan_new ends ends_new)
   pub none : IfNone result (scan_new ≡ scan)

@@ -126,6 +126,7 @@ pub struct KeptZone<K: Keeping, I: Ledger, M: Ledger, B: Ledger> {
     ghost in_range: { (0 < blocks) × (blocks ≤ 8) },
 }
 
+// Written out, so that the crates above have nothing to prove of its parts.
 impl<K: Keeping, I: Ledger, M: Ledger, B: Ledger> Drop for KeptZone<K, I, M, B> {
     fn drop(self) {
         let KeptZone {

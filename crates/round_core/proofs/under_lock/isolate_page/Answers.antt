@@ -11,7 +11,7 @@ use Rattle.zone_core.specs.Seats.{ScanSeat, seat_noted}
 use Rattle.round_core.specs.Rounds.{stop_for}
 use Rattle.round_core.specs.declared.round.Stop.TheVariants as Stopped
 use Rattle.zone_core.proofs.Steps.{stepped, met_stops}
-use Rattle.round_core.proofs.NoReceipt.{scan_tells_none}
+use Rattle.round_core.proofs.NoReceipt.{scan_leaves}
 use Rattle.round_core.proofs.under_lock.isolate_page.Goals as goal
 
 serial_is : (z : ZoneState) (pair : Option Pair) (p : IsolatedPage) → Page p ≡ next_answer z pair → p.serial ≡ isolated z.records
@@ -42,23 +42,15 @@ pub returns-in-Ok-Page-clause-kept : goal.returns-in-Ok-Page-clause-kept
 returns-in-Ok-Page-clause-kept g c =
     let zone = c.args.zone.now in
     let scanned = c.in-Ok-Page.ensures.ok ∙ stepped zone c.in-Ok-Page.ensures.refused in
-    record {
-      kept = subst g.K.Keeping.keeps_scanning (sym scanned) (g.K.Keeping.scans zone c.requires.valid c.requires.keeps);
-      receipts = ap (λ (z : ZoneState). g.K.Keeping.told z.records) scanned ∙ scan_tells_none g.K.Keeping.told g.K.Keeping.tells_none zone c.requires.valid;
-      identity = c.in-Ok-Page.ensures.identity;
-      valid = c.in-Ok-Page.ensures.valid;
-    }
+    scan_leaves g.K.Keeping.told g.K.Keeping.tells_none zone g.K.Keeping.keeps_scanning g.K.Keeping.scans scanned c.requires.valid c.requires.keeps
+    c.in-Ok-Page.ensures.identity c.in-Ok-Page.ensures.valid
 
 pub returns-in-Ok-Met-clause-kept : goal.returns-in-Ok-Met-clause-kept
 returns-in-Ok-Met-clause-kept g c =
     let zone = c.args.zone.now in
     let scanned = c.in-Ok-Met.ensures.ok ∙ stepped zone c.in-Ok-Met.ensures.refused in
-    record {
-      kept = subst g.K.Keeping.keeps_scanning (sym scanned) (g.K.Keeping.scans zone c.requires.valid c.requires.keeps);
-      receipts = ap (λ (z : ZoneState). g.K.Keeping.told z.records) scanned ∙ scan_tells_none g.K.Keeping.told g.K.Keeping.tells_none zone c.requires.valid;
-      identity = c.in-Ok-Met.ensures.identity;
-      valid = c.in-Ok-Met.ensures.valid;
-    }
+    scan_leaves g.K.Keeping.told g.K.Keeping.tells_none zone g.K.Keeping.keeps_scanning g.K.Keeping.scans scanned c.requires.valid c.requires.keeps
+    c.in-Ok-Met.ensures.identity c.in-Ok-Met.ensures.valid
 
 pub returns-in-Ok-Met-clause-stopped : goal.returns-in-Ok-Met-clause-stopped
 returns-in-Ok-Met-clause-stopped g c =
