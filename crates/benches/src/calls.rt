@@ -1,21 +1,24 @@
 //! Stores and loads of a zone whose journal is told, and stores, one by one and in bulk, beside those of zones whose journals are kept.
 
-ghost use Rattle.zone_core.specs.Books.{AreFor};
+ghost use Rattle.std.specs.Prelude.{◌≤◌};
 
 mod bulk;
 
-use crate::opening::{open, open_told, page};
+use crate::opening::page;
 use crate::times::nanos_since;
-use bitflags::Flags;
-use frame_core::{Address, ClientNo, PageFlags, WordNo};
+use frame_core::{Address, ClientNo, WordNo, ZoneNo};
 use std::alloc::Global;
 use std::io;
-use std::marker::Brand;
-use std::sync::ledger::Ledger;
 use std::time::{Clock, Instant};
-use zone_core::{Blanks, Zone};
+use zone_core::BareZone;
 
-/// The stores that a kept journal has places for, besides the map of their page.
+/// The pageblocks of the zone of stores.
+const BLOCKS: u32 = 8;
+
+/// The places of a journal that is kept.
+const PLACES: u32 = 65_536;
+
+/// The stores that it has places for, besides the map of their page.
 const KEPT_STORES: u32 = 65_535;
 
 /// What becomes of the records of a zone's journal.
@@ -23,6 +26,20 @@ const KEPT_STORES: u32 = 65_535;
 enum Journal {
     Told,
     Kept,
+}
+
+impl Journal {
+    /// A zone of this many pageblocks with such a journal. It has no pages.
+    fn open<const W: usize>(self, alloc: Global, blocks: u32) -> Option<BareZone<W>>
+        requires { W ≤ 65536 }
+    {
+        let number = ZoneNo::new(0)?;
+        let opened = match self {
+            Journal::Told => BareZone::open_told(alloc, number, blocks),
+            Journal::Kept => BareZone::open(alloc, number, blocks, PLACES),
+        };
+        opened.ok()
+    }
 }
 
 /// Who stores to a word of a page, and loads it.
@@ -35,24 +52,19 @@ struct User {
 
 impl User {
     /// The user whose page is mapped in a zone that has none.
-    fn of<I: Ledger, M: Ledger, B: Ledger>(zone: &mut Zone<I, M, B>) -> Option<User> {
+    fn of(zone: &mut BareZone<8>) -> Option<User> {
         let user = User {
             client: ClientNo::new(0)?,
             address: page(0)?,
             word: WordNo::new(0)?,
         };
-        let _frame = zone
-            .map(user.client, user.address, PageFlags::empty())
-            .ok()?;
+        let unmovable = false;
+        let _mapped = zone.map(user.client, user.address, unmovable).ok()?;
         Some(user)
     }
 
     /// Stores this number of values, one after the other. How many were accepted.
-    fn store_all<I: Ledger, M: Ledger, B: Ledger>(
-        &self,
-        zone: &mut Zone<I, M, B>,
-        values: u32,
-    ) -> u32 {
+    fn store_all(&self, zone: &mut BareZone<8>, values: u32) -> u32 {
         let mut stored = 0u32;
         for value in 0..values {
             let call = zone.store(self.client, self.address, self.word, u64::from(value));
@@ -62,11 +74,7 @@ impl User {
     }
 
     /// Stores this number of values and loads each. How many loads gave what was stored.
-    fn use_all<I: Ledger, M: Ledger, B: Ledger>(
-        &self,
-        zone: &mut Zone<I, M, B>,
-        values: u32,
-    ) -> u32 {
+    fn use_all(&self, zone: &mut BareZone<8>, values: u32) -> u32 {
         let mut same = 0u32;
         for value in 0..values {
             same = same.saturating_add(u32::from(self.keeps(zone, u64::from(value))));
@@ -75,7 +83,7 @@ impl User {
     }
 
     /// Whether a load gives the value that was just stored.
-    fn keeps<I: Ledger, M: Ledger, B: Ledger>(&self, zone: &mut Zone<I, M, B>, value: u64) -> bool {
+    fn keeps(&self, zone: &mut BareZone<8>, value: u64) -> bool {
         zone.store(self.client, self.address, self.word, value)
             .is_ok()
             && zone.load(self.client, self.address, self.word) == Ok(value)
@@ -85,29 +93,14 @@ impl User {
 /// Stores and loads by turns, so many of each, of a zone whose journal is told, and writes how many loads gave what was stored. The
 /// first line is written after the first two calls: then the memory of the program can be looked at.
 pub fn show_calls<R: Print + Alloc>(rt: &R, alloc: Global, values: u32) -> io::Result<()> {
-    call_told::<Brand, Brand, Brand, Brand, R>(rt, alloc, values, Blanks::new())
-}
-
-fn call_told<I: Ledger, N: Ledger, M: Ledger, B: Ledger, R: Print + Alloc>(
-    rt: &R,
-    alloc: Global,
-    values: u32,
-    blanks: Blanks,
-) -> io::Result<()>
-    requires blanks { AreFor blanks I.name I.parts N.name N.parts M.name M.parts B.name B.parts }
-{
-    match open_told::<I, N, M, B>(alloc, blanks) {
-        Some(mut opening) => show_same(rt, &mut opening.zone, values),
+    match Journal::Told.open(alloc, BLOCKS) {
+        Some(mut zone) => show_same(rt, &mut zone, values),
         None => Ok(()),
     }
 }
 
 /// Calls a zone that has no pages.
-fn show_same<I: Ledger, M: Ledger, B: Ledger, R: Print + Alloc>(
-    rt: &R,
-    zone: &mut Zone<I, M, B>,
-    values: u32,
-) -> io::Result<()> {
+fn show_same<R: Print + Alloc>(rt: &R, zone: &mut BareZone<8>, values: u32) -> io::Result<()> {
     let Some(user) = User::of(zone) else {
         return Ok(());
     };
@@ -193,32 +186,14 @@ pub fn show_times<R: Print + Alloc + Clock>(rt: &R, alloc: Global, turns: u32) -
 
 /// How long stores take in a zone that is opened for them.
 fn time<R: Clock>(rt: &R, alloc: Global, journal: Journal) -> io::Result<Timed> {
-    time_opened::<Brand, Brand, Brand, Brand, R>(rt, alloc, journal, Blanks::new())
-}
-
-fn time_opened<I: Ledger, N: Ledger, M: Ledger, B: Ledger, R: Clock>(
-    rt: &R,
-    alloc: Global,
-    journal: Journal,
-    blanks: Blanks,
-) -> io::Result<Timed>
-    requires blanks { AreFor blanks I.name I.parts N.name N.parts M.name M.parts B.name B.parts }
-{
-    let opened = match journal {
-        Journal::Told => open_told::<I, N, M, B>(alloc, blanks),
-        Journal::Kept => open::<I, N, M, B>(alloc, blanks),
-    };
-    match opened {
-        Some(mut opening) => time_stores(rt, &mut opening.zone),
+    match journal.open(alloc, BLOCKS) {
+        Some(mut zone) => time_stores(rt, &mut zone),
         None => Ok(Timed::NOTHING),
     }
 }
 
 /// How long stores take in a zone that was just opened, as many as a kept journal has places for.
-fn time_stores<I: Ledger, M: Ledger, B: Ledger, R: Clock>(
-    rt: &R,
-    zone: &mut Zone<I, M, B>,
-) -> io::Result<Timed> {
+fn time_stores<R: Clock>(rt: &R, zone: &mut BareZone<8>) -> io::Result<Timed> {
     let Some(user) = User::of(zone) else {
         return Ok(Timed::NOTHING);
     };

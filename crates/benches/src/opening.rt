@@ -24,20 +24,6 @@ pub struct Opening<I: Ledger, N: Ledger, M: Ledger, B: Ledger> {
     pub seats: Seats<I, N, M, B>,
 }
 
-/// Opens zone 0 with a journal that is told. It has no pages.
-pub fn open_told<I: Ledger, N: Ledger, M: Ledger, B: Ledger>(
-    alloc: Global,
-    blanks: Blanks,
-) -> Option<Opening<I, N, M, B>>
-    requires blanks { AreFor blanks I.name I.parts N.name N.parts M.name M.parts B.name B.parts }
-{
-    let number = ZoneNo::new(0)?;
-    let opened = Zone::<I, M, B>::open_told::<N>(alloc, number, BLOCKS, blanks);
-    let (zone, scan, ends) = opened.ok()?;
-    let seats = Seats { scan, ends };
-    Some(Opening { zone, seats })
-}
-
 /// Opens zone 0. It has no pages.
 pub fn open<I: Ledger, N: Ledger, M: Ledger, B: Ledger>(
     alloc: Global,

@@ -1,21 +1,16 @@
 //! The buffers: pages of a zone, by the blocks that they hold. Each call of the zone is counted.
 
-ghost use Rattle.zone_core.specs.Books.{AreFor};
-
 use crate::file::WORDS;
 use crate::trouble::Trouble;
-use bitflags::Flags;
-use frame_core::{Address, BlockNo, ClientNo, FrameNo, PageFlags, SpaceNo, VPage, WordOf, ZoneNo};
+use frame_core::{Address, ClientNo, FrameNo, Order, SpaceNo, VPage, WordOf, ZoneNo};
 use std::alloc::Global;
-use std::sync::ledger::Ledger;
-use zone_core::{Answered, Blanks, Look, Seats, ZoneError, ZoneOf, compact};
+use zone_core::{BareZone, Look, ZoneError};
 
 const PAGEBLOCKS: u32 = 8;
 
 #[derive(Drop)]
-pub struct Buffers<I: Ledger, N: Ledger, M: Ledger, B: Ledger> {
-    zone: ZoneOf<WORDS, I, M, B>,
-    seats: Seats<I, N, M, B>,
+pub struct Buffers {
+    zone: BareZone<WORDS>,
     client: ClientNo,
     space: SpaceNo,
     /// The word that is the header of a block.
@@ -23,20 +18,15 @@ pub struct Buffers<I: Ledger, N: Ledger, M: Ledger, B: Ledger> {
     calls: u64,
 }
 
-impl<I: Ledger, N: Ledger, M: Ledger, B: Ledger> Buffers<I, N, M, B> {
+impl Buffers {
     /// No buffers, in a zone of 16 MiB whose journal is told.
-    pub fn open(alloc: Global, blanks: Blanks) -> Result<Self, Trouble>
-        requires blanks { AreFor blanks I.name I.parts N.name N.parts M.name M.parts B.name B.parts }
-    {
+    pub fn open(alloc: Global) -> Result<Self, Trouble> {
         let client = ClientNo::new(0).ok_or(Trouble::Range)?;
         let space = SpaceNo::new(0).ok_or(Trouble::Range)?;
         let first = WordOf::new(0).ok_or(Trouble::Range)?;
         let number = ZoneNo::new(0).ok_or(Trouble::Range)?;
-        let opened = ZoneOf::<WORDS, I, M, B>::open_told::<N>(alloc, number, PAGEBLOCKS, blanks);
-        let (zone, scan, ends) = opened?;
         Ok(Buffers {
-            zone,
-            seats: Seats { scan, ends },
+            zone: BareZone::open_told(alloc, number, PAGEBLOCKS)?,
             client,
             space,
             first,
@@ -47,7 +37,11 @@ impl<I: Ledger, N: Ledger, M: Ledger, B: Ledger> Buffers<I, N, M, B> {
     /// Makes a fresh buffer for a block.
     pub fn map(&mut self, block: VPage) -> Result<FrameNo, ZoneError> {
         self.count();
-        self.zone.map(self.client, address(self.space, block), PageFlags::empty())
+        let unmovable = false;
+        let (_page, frame) = self
+            .zone
+            .map(self.client, address(self.space, block), unmovable)?;
+        Ok(frame)
     }
 
     /// Gives the buffer of a block up.
@@ -111,28 +105,27 @@ impl<I: Ledger, N: Ledger, M: Ledger, B: Ledger> Buffers<I, N, M, B> {
         self.zone.look(address(self.space, block))
     }
 
-    /// Hands out a large buffer of 2 MiB: the lowest whole pageblock.
-    pub fn take_large(&mut self) -> Result<BlockNo, ZoneError> {
+    /// Hands out a large buffer of 2 MiB: the lowest whole pageblock, by its first frame.
+    pub fn take_large(&mut self) -> Result<FrameNo, ZoneError> {
         self.count();
-        self.zone.take_huge()
+        self.zone.take_order(Order::of_pageblock())
     }
 
     /// Takes a large buffer back.
-    pub fn give_large(&mut self, large: BlockNo) -> Result<(), ZoneError> {
+    pub fn give_large(&mut self, large: FrameNo) -> Result<(), ZoneError> {
         self.count();
-        self.zone.give_huge(large)
+        self.zone.give_order(large, Order::of_pageblock())
     }
 
     /// Runs a round on this thread.
-    pub fn compact(&mut self) -> Result<Answered, ZoneError> {
-        compact(&mut self.zone, &mut self.seats)
+    pub fn compact(&mut self) {
+        self.zone.compact();
     }
 
     /// How many times a buffer was moved so far.
     pub fn moved(&mut self) -> Result<u32, ZoneError> {
         self.count();
-        let audit = self.zone.audit(&mut self.seats.scan, &mut self.seats.ends)?;
-        Ok(audit.moved)
+        Ok(self.zone.audit()?.moved)
     }
 
     /// How many records the journal has.

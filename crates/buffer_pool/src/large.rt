@@ -1,9 +1,8 @@
 use crate::pool::Pool;
 use crate::trouble::Trouble;
-use std::sync::ledger::Ledger;
 use zone_core::ZoneError;
 
-impl<I: Ledger, N: Ledger, M: Ledger, B: Ledger> Pool<I, N, M, B> {
+impl Pool {
     /// Asks for a large buffer while a long transaction has a buffer pinned, and sees whether this one stayed in its frame.
     pub fn ask_pinned(&mut self) -> Result<(), Trouble> {
         let block = self.draw_resident()?;
@@ -20,7 +19,7 @@ impl<I: Ledger, N: Ledger, M: Ledger, B: Ledger> Pool<I, N, M, B> {
     fn ask(&mut self) -> Result<(), ZoneError> {
         self.take()?;
         if self.large.is_none() {
-            let _stopped = self.buffers.compact()?;
+            self.buffers.compact();
             self.tally.rounds = self.tally.rounds.saturating_add(1);
             self.take()?;
         }

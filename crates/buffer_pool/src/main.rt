@@ -15,15 +15,10 @@ mod trouble;
 
 use run::{Outcome, run};
 use std::io;
-use std::marker::Brand;
 use trouble::Trouble;
-use zone_core::Blanks;
 
 fn main(rt: HostRuntime) -> io::Result<()> {
-    show(
-        &rt,
-        run::<Brand, Brand, Brand, Brand>(rt.alloc(), Blanks::new()),
-    )
+    show(&rt, run(rt.alloc()))
 }
 
 fn show<R: Print>(rt: &R, outcome: Result<Outcome, Trouble>) -> io::Result<()> {

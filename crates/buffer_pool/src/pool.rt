@@ -1,37 +1,32 @@
 //! The pool: which blocks of the file have a buffer.
 
-ghost use Rattle.zone_core.specs.Books.{AreFor};
-
 use crate::buffers::Buffers;
 use crate::draws::Draws;
 use crate::file::{BLOCKS, File};
 use crate::tally::Tally;
 use crate::trouble::Trouble;
-use frame_core::{BlockNo, VPage};
+use frame_core::{FrameNo, VPage};
 use std::alloc::Global;
-use std::sync::ledger::Ledger;
-use zone_core::Blanks;
 
 /// How many blocks have no buffer, once the pool is filled.
 const OUTSIDE: u32 = 100;
 
 #[derive(Drop)]
-pub struct Pool<I: Ledger, N: Ledger, M: Ledger, B: Ledger> {
-    pub buffers: Buffers<I, N, M, B>,
+pub struct Pool {
+    pub buffers: Buffers,
     pub file: File,
     /// The blocks that have a buffer.
     resident: Vec<VPage>,
     pub draws: Draws,
-    pub large: Option<BlockNo>,
+    /// The first frame of the large buffer that is in use.
+    pub large: Option<FrameNo>,
     pub tally: Tally,
 }
 
-impl<I: Ledger, N: Ledger, M: Ledger, B: Ledger> Pool<I, N, M, B> {
+impl Pool {
     /// A pool without buffers.
-    pub fn open(alloc: Global, blanks: Blanks) -> Result<Self, Trouble>
-        requires blanks { AreFor blanks I.name I.parts N.name N.parts M.name M.parts B.name B.parts }
-    {
-        let buffers = Buffers::open(alloc, blanks)?;
+    pub fn open(alloc: Global) -> Result<Self, Trouble> {
+        let buffers = Buffers::open(alloc)?;
         Ok(Pool {
             buffers,
             file: File::new(),

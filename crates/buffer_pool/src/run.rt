@@ -1,11 +1,7 @@
-ghost use Rattle.zone_core.specs.Books.{AreFor};
-
 use crate::pool::Pool;
 use crate::tally::Tally;
 use crate::trouble::Trouble;
 use std::alloc::Global;
-use std::sync::ledger::Ledger;
-use zone_core::Blanks;
 
 /// How many times a large buffer is asked for.
 const TURNS: u32 = 100;
@@ -26,20 +22,13 @@ pub struct Outcome {
 }
 
 /// Opens a pool, and uses it.
-pub fn run<I: Ledger, N: Ledger, M: Ledger, B: Ledger>(
-    alloc: Global,
-    blanks: Blanks,
-) -> Result<Outcome, Trouble>
-    requires blanks { AreFor blanks I.name I.parts N.name N.parts M.name M.parts B.name B.parts }
-{
-    let mut pool = Pool::<I, N, M, B>::open(alloc, blanks)?;
+pub fn run(alloc: Global) -> Result<Outcome, Trouble> {
+    let mut pool = Pool::open(alloc)?;
     use_pool(&mut pool)
 }
 
 /// Fills a pool, takes all turns, and looks at the buffers that are left.
-fn use_pool<I: Ledger, N: Ledger, M: Ledger, B: Ledger>(
-    pool: &mut Pool<I, N, M, B>,
-) -> Result<Outcome, Trouble> {
+fn use_pool(pool: &mut Pool) -> Result<Outcome, Trouble> {
     pool.fill()?;
     for _ in 0..TURNS {
         turn(pool)?;
@@ -49,18 +38,14 @@ fn use_pool<I: Ledger, N: Ledger, M: Ledger, B: Ledger>(
 }
 
 /// Transactions before and after a large buffer is given back, and the request for the next.
-fn turn<I: Ledger, N: Ledger, M: Ledger, B: Ledger>(
-    pool: &mut Pool<I, N, M, B>,
-) -> Result<(), Trouble> {
+fn turn(pool: &mut Pool) -> Result<(), Trouble> {
     pool.serve(TRANSACTIONS)?;
     pool.give_back()?;
     pool.serve(TRANSACTIONS)?;
     pool.ask_pinned()
 }
 
-fn count<I: Ledger, N: Ledger, M: Ledger, B: Ledger>(
-    pool: &mut Pool<I, N, M, B>,
-) -> Result<Outcome, Trouble> {
+fn count(pool: &mut Pool) -> Result<Outcome, Trouble> {
     Ok(Outcome {
         tally: pool.tally,
         moved: pool.buffers.moved()?,

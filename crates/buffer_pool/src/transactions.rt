@@ -2,10 +2,9 @@ use crate::file::{WORDS, word_of};
 use crate::pool::Pool;
 use crate::trouble::Trouble;
 use frame_core::{VPage, WordOf};
-use std::sync::ledger::Ledger;
 use zone_core::ZoneError;
 
-impl<I: Ledger, N: Ledger, M: Ledger, B: Ledger> Pool<I, N, M, B> {
+impl Pool {
     /// Makes so many transactions.
     pub fn serve(&mut self, transactions: u32) -> Result<(), Trouble> {
         for _ in 0..transactions {

@@ -1,10 +1,12 @@
 -- Pages that C carries: what it gets of one that is isolated, and what it brings back.
-use Rattle.std.specs.Prelude.{◌≡◌, ℕ, List, length, nat_eq, is_some, if◌then◌else◌, Option, Some, None}
+use Rattle.std.specs.Prelude.{◌≡◌, ℕ, Bool, List, length, nat_eq, is_some, if◌then◌else◌, Option, Some, None}
+use Rattle.std.specs.FinMap as map
 use Rattle.frame_core.specs.Moves.{isolated}
 use Rattle.state_core.specs.Carrying.{flags_of, words_now}
 use Rattle.state_core.specs.Ending.{IsOwnCopy}
 use Rattle.state_core.specs.Isolating.{isolate_refusal}
 use Rattle.state_core.specs.Pairs.{next_pair}
+use Rattle.state_core.specs.Valid.{is_under}
 use Rattle.state_core.specs.ZoneState.{ZoneState}
 use Rattle.state_core.specs.declared.error.ZoneError.{ZoneError}
 use Rattle.state_core.specs.declared.error.ZoneError.TheVariants.{Range, Stranger}
@@ -12,6 +14,10 @@ use Rattle.state_core.specs.declared.round.Pair.{Pair}
 use Rattle.frame_core.specs.Page.{IsolatedPage}
 use Rattle.compactd_c.specs.Answers.{number_for}
 use Rattle.compactd_c.specs.declared.carrying.Carried.{Carried}
+
+-- a page is moving under this serial
+abbrev pub is_moving : ZoneState → ℕ → ℕ → Bool
+is_moving z number serial = is_under (map.get z.placement number) serial
 
 -- an isolation is refused where C has room for another number of words than a page has, and where the zone refuses it
 abbrev pub isolate_refused : ZoneState → ℕ → Option ZoneError

@@ -5,5 +5,4 @@ pub mod Kinds
 pub mod Looks
 pub mod Owned
 pub mod Records
-pub mod Rounds
 pub mod Told

@@ -2,7 +2,7 @@
 
 ghost use Rattle.std.specs.Prelude.{◌≡◌, ◌↔◌, true, false, length, IsTrue, None, Some};
 ghost use Rattle.compactd_c.specs.Answers.{answer, left};
-ghost use Rattle.compactd_c.specs.Rounds.{is_moving, all_moved};
+ghost use Rattle.compactd_c.specs.Carried.{is_moving};
 ghost use Rattle.frame_core.specs.Moves.{out};
 ghost use Rattle.frame_core.specs.declared.record.Cause.{Cause};
 ghost use Rattle.state_core.specs.Ending.{put_back_to_source};
@@ -12,6 +12,7 @@ ghost use Rattle.state_core.specs.Pairs.{HaveMet};
 ghost use Rattle.state_core.specs.Rounds.{round_begun};
 ghost use Rattle.state_core.specs.ZoneState.{ZoneState, is_quiet};
 ghost use Rattle.state_core.specs.declared.error.ZoneError.{ZoneError};
+ghost use Rattle.zone_core.specs.OneThread.{all_moved};
 
 use crate::calls::{CLOSED, numbered};
 use crate::pool::Pool;

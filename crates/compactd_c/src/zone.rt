@@ -17,12 +17,12 @@ ghost use Rattle.state_core.specs.Pairs.{HaveMet, next_pair};
 ghost use Rattle.state_core.specs.Rounds.{round_begun};
 ghost use Rattle.state_core.specs.ZoneState.{is_quiet};
 ghost use Rattle.zone_core.specs.Counted.{IsCounted};
+ghost use Rattle.zone_core.specs.OneThread.{all_moved};
 ghost use Rattle.compactd_c.specs.Asked.{address_of, is_address, is_client, is_block, ranged, refusal_for, answer_for, after_asked};
 ghost use Rattle.compactd_c.specs.Kinds.{IsPageSize};
 ghost use Rattle.compactd_c.specs.Looks.{look_refusal, audit_refusal};
 ghost use Rattle.compactd_c.specs.Records.{record_refused};
-ghost use Rattle.compactd_c.specs.Rounds.{is_moving, moved_next, all_moved};
-ghost use Rattle.compactd_c.specs.Carried.{IsOwn, carried_of, words_of, isolate_refused, commit_refused};
+ghost use Rattle.compactd_c.specs.Carried.{IsOwn, is_moving, carried_of, words_of, isolate_refused, commit_refused};
 
 use crate::asked::{Asked, address, word_of};
 use crate::carrying::Carried;
@@ -34,7 +34,7 @@ use frame_core::{
 use state_core::{Audit, Ended, Info, Look, Next, ZoneAnswer, ZoneError};
 use std::alloc::Global;
 use std::marker::Model;
-use zone_core::BareZone;
+use zone_core::{Answered, BareZone};
 
 /// The two kinds of zones.
 #[derive(Drop)]
@@ -312,10 +312,11 @@ impl Zone {
         ensures full { (result ≡ false) ↔ (isolate_refusal self.new ≡ Some ZoneError.JournalFull) }
         ensures packed { IsTrue result → is_quiet self.new ≡ true → length (out self.new.records) ≡ 0 → IsPacked self.new }
     {
-        match &mut self.kind {
-            Kind::Small(zone) => compact(zone),
-            Kind::Large(zone) => compact(zone),
-        }
+        let stopped = match &mut self.kind {
+            Kind::Small(zone) => zone.compact(),
+            Kind::Large(zone) => zone.compact(),
+        };
+        stopped == Answered::Met
     }
 
     /// Isolates the next page of a round, whose words go where C wants them. There is none where the scanners have met.
@@ -502,55 +503,6 @@ fn put_back<const W: usize>(
         Ok(()) => Ok(()),
         Err(_) => Err(ZoneError::Stranger),
     }
-}
-
-fn compact<const W: usize>(zone: &mut BareZone<W>) -> bool
-    requires { W ≤ 65536 }
-    ensures zone { zone.new ≡ all_moved (round_begun zone.old) }
-    ensures met { IsTrue result → HaveMet zone.new }
-    ensures full { (result ≡ false) ↔ (isolate_refusal zone.new ≡ Some ZoneError.JournalFull) }
-    ensures packed { IsTrue result → is_quiet zone.new ≡ true → length (out zone.new.records) ≡ 0 → IsPacked zone.new }
-{
-    zone.begin_round();
-    loop {
-        match move_next(zone) {
-            Step::Moved => {}
-            Step::Met => return true,
-            Step::Full => return false,
-        }
-    }
-}
-
-/// What came of a step of a round on one thread.
-#[derive(Clone, Copy, PartialEq, Eq)]
-enum Step {
-    /// The next page was moved.
-    Moved,
-    /// The scanners have met.
-    Met,
-    /// The journal has no room for a move.
-    Full,
-}
-
-/// Isolates the next page of the round, copies it and ends its move.
-fn move_next<const W: usize>(zone: &mut BareZone<W>) -> Step
-    requires { W ≤ 65536 }
-    ensures moved { result ≡ Step.Moved → moved_next zone.old ≡ Some zone.new }
-    ensures none { result ≢ Step.Moved → moved_next zone.old ≡ None }
-    ensures same { result ≢ Step.Moved → zone.new ≡ zone.old }
-    ensures met { result ≡ Step.Met → HaveMet zone.new }
-    ensures full { (result ≡ Step.Full) ↔ (isolate_refusal zone.old ≡ Some ZoneError.JournalFull) }
-    ensures packed { result ≡ Step.Met → is_quiet zone.new ≡ true → length (out zone.new.records) ≡ 0 → IsPacked zone.new }
-{
-    let page = match zone.isolate_next() {
-        Ok(Next::Page(page)) => page,
-        Ok(Next::Met) => return Step::Met,
-        Err(_) => return Step::Full,
-    };
-    let Ok(_ended) = zone.commit(page.copy_into_new()) else {
-        unreachable!();
-    };
-    Step::Moved
 }
 
 /// A block's first frame and its order, if both are in their ranges.

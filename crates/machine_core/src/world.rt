@@ -66,6 +66,7 @@ pub struct World<const W: usize, I: Ledger, N: Ledger, M: Ledger, B: Ledger> {
     is_open: bool,
 }
 
+// Written out, so that the crates above have nothing to prove of its parts.
 impl<const W: usize, I: Ledger, N: Ledger, M: Ledger, B: Ledger> Drop for World<W, I, N, M, B> {
     fn drop(self) {
         let World {

@@ -2,9 +2,8 @@
 
 use crate::cache::Cache;
 use crate::trouble::Trouble;
-use frame_core::BlockNo;
-use std::sync::ledger::Ledger;
-use zone_core::{ZoneError, compact};
+use frame_core::{FrameNo, Order};
+use zone_core::ZoneError;
 
 /// How many frames the cache leaves free when a pageblock is asked for: one in eight more than a pageblock has.
 const ROOM: u32 = 576;
@@ -17,37 +16,35 @@ pub enum Rounds {
     AsNeeded,
 }
 
-impl<I: Ledger, N: Ledger, M: Ledger, B: Ledger> Cache<I, N, M, B> {
-    /// Evicts objects to make room for a pageblock, and hands one out. None where no pageblock is whole then.
-    pub fn take_pageblock(&mut self, rounds: Rounds) -> Result<Option<BlockNo>, Trouble> {
+impl Cache {
+    /// Evicts objects to make room for a pageblock, hands one out, and tells its first frame. None where no pageblock is whole then.
+    pub fn take_pageblock(&mut self, rounds: Rounds) -> Result<Option<FrameNo>, Trouble> {
         self.make_room(ROOM)?;
         if matches!(rounds, Rounds::AsNeeded) {
-            self.make_whole()?;
+            self.make_whole();
         }
-        match self.zone.take_huge() {
-            Ok(block) => Ok(Some(block)),
+        match self.zone.take_order(Order::of_pageblock()) {
+            Ok(first) => Ok(Some(first)),
             Err(ZoneError::NoBlock) => Ok(None),
             Err(error) => Err(Trouble::Zone(error)),
         }
     }
 
     /// Runs a round where no pageblock is whole.
-    fn make_whole(&mut self) -> Result<(), Trouble> {
+    fn make_whole(&mut self) {
         if self.zone.info().whole == 0 {
-            compact(&mut self.zone, &mut self.seats)?;
+            self.zone.compact();
         }
-        Ok(())
     }
 
     /// Takes a pageblock back that was handed out.
-    pub fn give_pageblock(&mut self, block: BlockNo) -> Result<(), Trouble> {
-        self.zone.give_huge(block)?;
+    pub fn give_pageblock(&mut self, first: FrameNo) -> Result<(), Trouble> {
+        self.zone.give_order(first, Order::of_pageblock())?;
         Ok(())
     }
 
     /// How many pages rounds have moved.
     pub fn moves(&mut self) -> Result<u32, Trouble> {
-        let audit = self.zone.audit(&mut self.seats.scan, &mut self.seats.ends)?;
-        Ok(audit.moved)
+        Ok(self.zone.audit()?.moved)
     }
 }

@@ -2,17 +2,14 @@
 
 ghost use Rattle.std.specs.Prelude.{◌≡◌, IfOk, IfSome};
 ghost use Rattle.slot_cache.specs.Object.{object_of};
-ghost use Rattle.zone_core.specs.Books.{AreFor};
 
 use crate::clock::Clock;
 use crate::keys::{KEYS, address_of};
 use crate::object::{Object, length_of, object_of};
 use crate::trouble::Trouble;
-use bitflags::Flags;
-use frame_core::{ClientNo, PageFlags, WordNo, ZoneNo};
+use frame_core::{ClientNo, WordNo, ZoneNo};
 use std::alloc::Global;
-use std::sync::ledger::Ledger;
-use zone_core::{Blanks, Seats, Zone, ZoneError};
+use zone_core::{BareZone, ZoneError};
 
 const BLOCKS: u32 = 8;
 
@@ -21,9 +18,8 @@ const PINNED: u32 = 2;
 
 /// A cache in a zone: each object that is there stands in a slot, a page of its own, whose address tells the key of the object.
 #[derive(Drop)]
-pub struct Cache<I: Ledger, N: Ledger, M: Ledger, B: Ledger> {
-    pub(crate) zone: Zone<I, M, B>,
-    pub(crate) seats: Seats<I, N, M, B>,
+pub struct Cache {
+    pub(crate) zone: BareZone<8>,
     clock: Clock,
     client: ClientNo,
     first: WordNo,
@@ -31,19 +27,15 @@ pub struct Cache<I: Ledger, N: Ledger, M: Ledger, B: Ledger> {
     pub evictions: u32,
 }
 
-impl<I: Ledger, N: Ledger, M: Ledger, B: Ledger> Cache<I, N, M, B> {
+impl Cache {
     /// A cache with no object, over a zone whose journal takes no memory.
-    pub fn open(alloc: Global, blanks: Blanks) -> Result<Self, Trouble>
-        requires blanks { AreFor blanks I.name I.parts N.name N.parts M.name M.parts B.name B.parts }
-    {
+    pub fn open(alloc: Global) -> Result<Self, Trouble> {
         let number = ZoneNo::new(0).ok_or(Trouble::Range)?;
         let client = ClientNo::new(0).ok_or(Trouble::Range)?;
         let first = WordNo::new(0).ok_or(Trouble::Range)?;
         let clock = Clock::new(alloc)?;
-        let (zone, scan, ends) = Zone::<I, M, B>::open_told::<N>(alloc, number, BLOCKS, blanks)?;
         Ok(Cache {
-            zone,
-            seats: Seats { scan, ends },
+            zone: BareZone::open_told(alloc, number, BLOCKS)?,
             clock,
             client,
             first,
@@ -85,7 +77,8 @@ impl<I: Ledger, N: Ledger, M: Ledger, B: Ledger> Cache<I, N, M, B> {
     fn put(&mut self, key: u32) -> Result<(), Trouble> {
         self.make_room(1)?;
         let (address, object) = (address_of(key)?, object_of(key));
-        self.zone.map(self.client, address, PageFlags::empty())?;
+        let unmovable = false;
+        self.zone.map(self.client, address, unmovable)?;
         let words = &object[..length_of(key)];
         self.zone.write(self.client, address, self.first, words)?;
         Ok(())

@@ -13,10 +13,8 @@ mod trouble;
 use blocks::Rounds;
 use std::alloc::Global;
 use std::io;
-use std::marker::Brand;
 use traffic::{Outcome, run};
 use trouble::Trouble;
-use zone_core::Blanks;
 
 fn main(rt: HostRuntime) -> io::Result<()> {
     show(&rt, "without rounds", outcome_of(rt.alloc(), Rounds::Never))?;
@@ -25,7 +23,7 @@ fn main(rt: HostRuntime) -> io::Result<()> {
 
 /// What becomes of the requests in a zone that is opened for them.
 fn outcome_of(alloc: Global, rounds: Rounds) -> Result<Outcome, Trouble> {
-    run::<Brand, Brand, Brand, Brand>(alloc, rounds, Blanks::new())
+    run(alloc, rounds)
 }
 
 fn show<R: Print>(rt: &R, how: &str, outcome: Result<Outcome, Trouble>) -> io::Result<()> {

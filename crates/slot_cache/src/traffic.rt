@@ -1,15 +1,11 @@
 //! The traffic: requests of readers, and pageblocks that are asked for and given back between them.
 
-ghost use Rattle.zone_core.specs.Books.{AreFor};
-
 use crate::blocks::Rounds;
 use crate::cache::Cache;
 use crate::keys::Keys;
 use crate::trouble::Trouble;
-use frame_core::BlockNo;
+use frame_core::FrameNo;
 use std::alloc::Global;
-use std::sync::ledger::Ledger;
-use zone_core::Blanks;
 
 /// How often a pageblock is asked for.
 const ASKED: u32 = 1000;
@@ -39,8 +35,8 @@ pub struct Outcome {
 
 /// A cache and who uses it.
 #[derive(Drop)]
-struct Traffic<I: Ledger, N: Ledger, M: Ledger, B: Ledger> {
-    cache: Cache<I, N, M, B>,
+struct Traffic {
+    cache: Cache,
     keys: Keys,
     /// The key of the object that a slow reader has pinned.
     pinned: Option<u32>,
@@ -49,19 +45,13 @@ struct Traffic<I: Ledger, N: Ledger, M: Ledger, B: Ledger> {
 }
 
 /// Opens a cache, and lets readers use it while pageblocks are asked for and given back.
-pub fn run<I: Ledger, N: Ledger, M: Ledger, B: Ledger>(
-    alloc: Global,
-    rounds: Rounds,
-    blanks: Blanks,
-) -> Result<Outcome, Trouble>
-    requires blanks { AreFor blanks I.name I.parts N.name N.parts M.name M.parts B.name B.parts }
-{
-    let mut traffic = Traffic::<I, N, M, B>::new(Cache::open(alloc, blanks)?);
+pub fn run(alloc: Global, rounds: Rounds) -> Result<Outcome, Trouble> {
+    let mut traffic = Traffic::new(Cache::open(alloc)?);
     traffic.pass_all(rounds)
 }
 
-impl<I: Ledger, N: Ledger, M: Ledger, B: Ledger> Traffic<I, N, M, B> {
-    fn new(cache: Cache<I, N, M, B>) -> Self {
+impl Traffic {
+    fn new(cache: Cache) -> Self {
         Traffic {
             cache,
             keys: Keys::new(),
@@ -82,9 +72,9 @@ impl<I: Ledger, N: Ledger, M: Ledger, B: Ledger> Traffic<I, N, M, B> {
     /// Makes requests before a pageblock is asked for and after that.
     fn pass(&mut self, rounds: Rounds) -> Result<(), Trouble> {
         self.request_all()?;
-        let block = self.cache.take_pageblock(rounds)?;
+        let first = self.cache.take_pageblock(rounds)?;
         self.request_all()?;
-        self.give_back(block)
+        self.give_back(first)
     }
 
     /// Requests objects.
@@ -116,10 +106,10 @@ impl<I: Ledger, N: Ledger, M: Ledger, B: Ledger> Traffic<I, N, M, B> {
     }
 
     /// Counts a pageblock that was handed out, and gives it back.
-    fn give_back(&mut self, block: Option<BlockNo>) -> Result<(), Trouble> {
-        if let Some(block) = block {
+    fn give_back(&mut self, first: Option<FrameNo>) -> Result<(), Trouble> {
+        if let Some(first) = first {
             self.got = self.got.saturating_add(1);
-            self.cache.give_pageblock(block)?;
+            self.cache.give_pageblock(first)?;
         }
         Ok(())
     }

@@ -4,6 +4,7 @@ pub mod Calls
 pub mod Coming
 pub mod EachCall
 pub mod Ending
+mod InTurn
 pub mod Moves
 mod OneThread
 pub mod Packed

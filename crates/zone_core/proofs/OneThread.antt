@@ -1,5 +1,5 @@
 -- What is true between two pages of a round on one thread.
-use Rattle.std.proofs.Common.{◌≡◌, ℕ, Bool, List, [], ◌∷◌, refl, ap, subst, ◌∙◌, Option, Some, None, not, cond}
+use Rattle.std.proofs.Common.{◌≡◌, ℕ, Bool, List, [], ◌∷◌, refl, sym, ap, subst, ◌∙◌, Option, Some, None, not, cond}
 use Rattle.std.specs.Prelude.{is_none}
 use Rattle.std.specs.FinMap as map
 use Rattle.std.proofs.lemmas.Bool.{eq-eqb}
@@ -11,12 +11,13 @@ use Rattle.state_core.specs.declared.placement.Placement.TheVariants.{Moving}
 use Rattle.state_core.specs.declared.round.Pair.{Pair}
 use Rattle.state_core.specs.declared.moves.Next.TheVariants as answer
 use Rattle.state_core.specs.Carrying.{page_now}
-use Rattle.state_core.specs.Ending.{moved_to_target}
+use Rattle.state_core.specs.Ending.{IsOwnCopy, moved_to_target}
 use Rattle.state_core.specs.Isolating.{isolate_refusal, isolated_next, next_answer, next_state}
 use Rattle.state_core.specs.Valid.{IsValidZone}
 use Rattle.state_core.specs.Pairs.{next_pair}
 use Rattle.state_core.specs.Rounds.{round_begun}
 use Rattle.state_core.specs.ZoneState.{ZoneState}
+use Rattle.state_core.proofs.Carried.{own_fresh}
 use Rattle.state_core.proofs.Rounds.{valid_begun}
 use Rattle.zone_core.specs.Alone.{ComesTo, IsAtRest}
 use Rattle.zone_core.specs.ByHand.{scan_pair, scan_step, all_isolated, by_hand}
@@ -99,3 +100,10 @@ pub record IsPageOf (z z_new : ZoneState) (p : IsolatedPage) (o : Option Pair) :
 pub page_scanned : (z z_new : ZoneState) (p : IsolatedPage) (o : Option Pair) → answer.Page p ≡ next_answer z o → z_new ≡ next_state z o → IsPageOf z z_new p o
 page_scanned z z_new p None says left = cc
 page_scanned z z_new p (Some pair) says left = record { pair = pair; found = refl; page = cc; left = left }
+
+-- a page that was just isolated is its own copy
+pub own_isolated : (z z_new : ZoneState) (p : IsolatedPage) (o : Option Pair) → answer.Page p ≡ next_answer z o → z_new ≡ next_state z o → IsOwnCopy z_new p
+own_isolated z z_new p None says left = cc
+own_isolated z z_new p (Some pair) says left =
+    let page : p ≡ _ = cc in
+    subst (λ (w : ZoneState). IsOwnCopy w p) (sym left) (subst (IsOwnCopy (isolated_next z pair)) (sym page) (own_fresh z pair))

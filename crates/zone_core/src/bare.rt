@@ -13,6 +13,7 @@ ghost use Rattle.state_core.specs.ZoneState.{frame_count, noted, keeps_quiet, is
 ghost use Rattle.std.specs.Result.{result_err};
 
 mod calls;
+mod one_thread;
 mod rounds;
 mod tables;
 mod words;
@@ -31,6 +32,7 @@ pub struct BareZone<const W: usize> {
     ghost size: { W ≤ 65536 },
 }
 
+// Written out, so that the crates above have nothing to prove of its parts.
 impl<const W: usize> Drop for BareZone<W> {
     fn drop(self) {
         let BareZone { tables: _tables } = self;

@@ -48,6 +48,7 @@ pub struct ScanSeat<I: Ledger, N: Ledger> {
     last: Option<Answered>,
 }
 
+// Written out, so that the crates above have nothing to prove of its parts.
 impl<I: Ledger, N: Ledger> Drop for ScanSeat<I, N> {
     fn drop(self) {
         let ScanSeat {
@@ -78,6 +79,7 @@ pub struct EndSeat<M: Ledger, B: Ledger> {
     back: Share<B>,
 }
 
+// Written out, so that the crates above have nothing to prove of its parts.
 impl<M: Ledger, B: Ledger> Drop for EndSeat<M, B> {
     fn drop(self) {
         let EndSeat {

@@ -41,6 +41,7 @@ pub struct Zone<const W: usize, I: Ledger, M: Ledger, B: Ledger> {
     pub(crate) back: Book<B>,
 }
 
+// Written out, so that the crates above have nothing to prove of its parts.
 impl<const W: usize, I: Ledger, M: Ledger, B: Ledger> Drop for Zone<W, I, M, B> {
     fn drop(self) {
         let Zone {

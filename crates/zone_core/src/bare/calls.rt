@@ -1,6 +1,5 @@
-//! The calls of clients: each with its tests in their order, and its step. What a call does is said at the method of `Zone` with its
-//! name, and in its row of the tables of calls. One that names no address is the same whichever client makes it, so its contract
-//! says client 0.
+//! The calls of clients: each with its tests in their order, and its step. Its row in the tables of calls says what it answers and what
+//! it does. One that names no address is the same whichever client makes it, so its contract says client 0.
 
 ghost use Rattle.std.specs.Prelude.{◌≡◌, ◌^◌, Some, IsTrue, IfOk, OnOk};
 ghost use Rattle.std.specs.Result.{result_err};
@@ -55,8 +54,12 @@ impl<const W: usize> BareZone<W> {
         }
     }
 
+    /// Makes an address name a fresh page in the lowest free frame, and answers the number of the page and this frame. The page holds
+    /// zeros and has no pin.
+    ///
+    /// Refused as JournalFull, Occupied or NoFrame.
     #[inline(always)]
-    pub(crate) fn map(
+    pub fn map(
         &mut self,
         client: ClientNo,
         address: Address,
@@ -79,8 +82,11 @@ impl<const W: usize> BareZone<W> {
         Ok((page, frame))
     }
 
+    /// Makes an address name a fresh page in a given frame, as `map` does in the lowest, and answers the number of the page.
+    ///
+    /// Refused as Range where the zone has no such frame, as JournalFull, as Occupied, or as NoFrame where the frame isn't free.
     #[inline(always)]
-    pub(crate) fn map_at(
+    pub fn map_at(
         &mut self,
         client: ClientNo,
         address: Address,
@@ -106,6 +112,8 @@ impl<const W: usize> BareZone<W> {
     }
 
     /// Reads a word of the page that an address names: the value that was stored there last, or 0.
+    ///
+    /// Refused as JournalFull, Unmapped or Moving.
     #[inline(always)]
     pub fn load(
         &mut self,
@@ -125,6 +133,8 @@ impl<const W: usize> BareZone<W> {
     }
 
     /// Writes a word of the page that an address names.
+    ///
+    /// Refused as JournalFull, Unmapped or Moving.
     #[inline(always)]
     pub fn store(
         &mut self,
@@ -144,8 +154,11 @@ impl<const W: usize> BareZone<W> {
         Ok(())
     }
 
+    /// Makes an alias name the page of an address too. A page has at most 4 addresses.
+    ///
+    /// Refused as JournalFull, as Unmapped or Moving for the address, as Occupied for the alias, or as ShareFull.
     #[inline(always)]
-    pub(crate) fn share(
+    pub fn share(
         &mut self,
         client: ClientNo,
         address: Address,
@@ -167,8 +180,11 @@ impl<const W: usize> BareZone<W> {
         Ok(())
     }
 
+    /// Makes an address name no page any more. A page that has no address left isn't in use.
+    ///
+    /// Refused as JournalFull, Unmapped or Moving, or as Pinned where it is the last address of a page with a pin.
     #[inline(always)]
-    pub(crate) fn unmap(&mut self, client: ClientNo, address: Address) -> Result<(), ZoneError>
+    pub fn unmap(&mut self, client: ClientNo, address: Address) -> Result<(), ZoneError>
         ensures made { IsMade {W = W} (call.Unmap address) client self.old self.new result }
     {
         if !self.tables.has_room() {
@@ -183,8 +199,12 @@ impl<const W: usize> BareZone<W> {
         Ok(())
     }
 
+    /// Pins the page that an address names, also while the page is moving. It stays where it is until each of its pins is taken off. A
+    /// page has at most 255 pins.
+    ///
+    /// Refused as JournalFull, Unmapped or PinFull.
     #[inline(always)]
-    pub(crate) fn pin(&mut self, client: ClientNo, address: Address) -> Result<(), ZoneError>
+    pub fn pin(&mut self, client: ClientNo, address: Address) -> Result<(), ZoneError>
         ensures made { IsMade {W = W} (call.Pin address) client self.old self.new result }
     {
         if !self.tables.has_room() {
@@ -200,8 +220,11 @@ impl<const W: usize> BareZone<W> {
         Ok(())
     }
 
+    /// Takes a pin off the page that an address names, also while the page is moving.
+    ///
+    /// Refused as JournalFull, Unmapped or NotPinned.
     #[inline(always)]
-    pub(crate) fn unpin(&mut self, client: ClientNo, address: Address) -> Result<(), ZoneError>
+    pub fn unpin(&mut self, client: ClientNo, address: Address) -> Result<(), ZoneError>
         ensures made { IsMade {W = W} (call.Unpin address) client self.old self.new result }
     {
         if !self.tables.has_room() {
@@ -217,8 +240,12 @@ impl<const W: usize> BareZone<W> {
         Ok(())
     }
 
+    /// Hands out the lowest free block of an order, 3 to 9, and answers its first frame. The block has 2^order frames, of which no page
+    /// has one.
+    ///
+    /// Refused as JournalFull, or as NoBlock where no such block is free.
     #[inline(always)]
-    pub(crate) fn take_order(&mut self, order: Order) -> Result<FrameNo, ZoneError>
+    pub fn take_order(&mut self, order: Order) -> Result<FrameNo, ZoneError>
         ensures made { IsMade {W = W} (call.TakeOrder order) 0 self.old self.new result }
         ensures first { IfOk result (λ first. lowest_run self.old order ≡ Some first) }
         ensures run { IfOk result (λ first. IsTrue (is_run self.old order first)) }
@@ -234,8 +261,11 @@ impl<const W: usize> BareZone<W> {
         Ok(first)
     }
 
+    /// Takes back a block that was handed out, by its first frame and its order.
+    ///
+    /// Refused as Range where the zone has no such block, as JournalFull, or as NotHuge where the block isn't handed out.
     #[inline(always)]
-    pub(crate) fn give_order(&mut self, first: FrameNo, order: Order) -> Result<(), ZoneError>
+    pub fn give_order(&mut self, first: FrameNo, order: Order) -> Result<(), ZoneError>
         ensures made { IsMade {W = W} (call.GiveOrder first order) 0 self.old self.new result }
         ensures run { OnOk result (IsTrue (is_run self.new order first)) }
     {
@@ -252,8 +282,11 @@ impl<const W: usize> BareZone<W> {
         Ok(())
     }
 
+    /// Marks a pageblock: the scanners take no frame of it, neither as a source nor as a target.
+    ///
+    /// Refused as Range where the zone has no such pageblock, as JournalFull, or as Marked.
     #[inline(always)]
-    pub(crate) fn mark(&mut self, block: BlockNo) -> Result<(), ZoneError>
+    pub fn mark(&mut self, block: BlockNo) -> Result<(), ZoneError>
         ensures made { IsMade {W = W} (call.Mark block) 0 self.old self.new result }
     {
         if !self.tables.has_pageblock(block) {
@@ -269,8 +302,11 @@ impl<const W: usize> BareZone<W> {
         Ok(())
     }
 
+    /// Takes the mark of a pageblock off.
+    ///
+    /// Refused as Range where the zone has no such pageblock, as JournalFull, or as NotMarked.
     #[inline(always)]
-    pub(crate) fn unmark(&mut self, block: BlockNo) -> Result<(), ZoneError>
+    pub fn unmark(&mut self, block: BlockNo) -> Result<(), ZoneError>
         ensures made { IsMade {W = W} (call.Unmark block) 0 self.old self.new result }
     {
         if !self.tables.has_pageblock(block) {

@@ -5,16 +5,15 @@ use Rattle.zone_core.specs.Alone.{IsAtRest}
 use Rattle.zone_core.specs.ByHand.{by_hand}
 use Rattle.zone_core.specs.Outcome.{IsSame}
 use Rattle.zone_core.proofs.Packed.{packed_exact}
-use Rattle.state_core.specs.Ending.{IsOwnCopy, moved_to_target}
+use Rattle.state_core.specs.Ending.{moved_to_target}
 use Rattle.state_core.specs.Isolating.{isolated_next, next_state}
 use Rattle.state_core.specs.Valid.{IsValidZone}
 use Rattle.state_core.specs.Pairs.{next_pair}
 use Rattle.state_core.specs.Rounds.{round_begun}
 use Rattle.state_core.specs.ZoneState.{ZoneState}
-use Rattle.state_core.proofs.Carried.{own_fresh}
 use Rattle.zone_core.specs.Seats.{ScanSeat, EndSeat, seat_noted}
 use Rattle.zone_core.specs.OneThread.{last_for}
-use Rattle.zone_core.proofs.OneThread.{IsBetween, between_begun, between_moved, unpinned, page_scanned, exact_stopped, refusal_is, last_is}
+use Rattle.zone_core.proofs.OneThread.{IsBetween, between_begun, between_moved, unpinned, own_isolated, page_scanned, exact_stopped, refusal_is, last_is}
 use Rattle.zone_core.proofs.Steps.{met_none, met_stops, full_stops}
 use Rattle.zone_core.proofs.one_thread.compact.Goals as goal
 
@@ -38,7 +37,7 @@ carry-requires g c =
     let start = c.args.zone.now in
     let z = c.loop-page.zone in
     let is = page_scanned z c.isolate_next.new.self c.in-Ok-Page.page (next_pair z) (sym c.in-Ok-Page.field-0-is ∙ c.in-Ok-Page.ensures.answer) c.in-Ok-Page.ensures.ok in
-    let own = subst (λ (w : ZoneState). IsOwnCopy w c.in-Ok-Page.page) (sym is.left) (subst (IsOwnCopy (isolated_next z is.pair)) (sym is.page) (own_fresh z is.pair)) in
+    let own = own_isolated z c.isolate_next.new.self c.in-Ok-Page.page (next_pair z) (sym c.in-Ok-Page.field-0-is ∙ c.in-Ok-Page.ensures.answer) c.in-Ok-Page.ensures.ok in
     let none : pins c.isolate_next.new.self.records c.in-Ok-Page.page.page.number ≡ 0 =
     (λ i. pins (is.left i).records (is.page i).page.number) ∙ unpinned start z c.loop-page.invariant.between is.pair (sym c.in-Ok-Page.ensures.refused) is.found in
     (search rules, (search rules, (own, none)))

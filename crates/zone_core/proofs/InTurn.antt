@@ -3,17 +3,17 @@ use Rattle.std.proofs.Common.{◌≡◌, ℕ, zero, suc, ◌-◌, ◌<◌, ◌�
 use Rattle.std.specs.Prelude.{Bool, true, false, nat_eq, is_some, Option, Some, None}
 use Rattle.frame_core.specs.History.{pins}
 use Rattle.frame_core.specs.Moves.{isolated}
-use Rattle.state_core.specs.Isolating.{isolate_refusal, isolated_next, next_answer, next_state}
-use Rattle.state_core.specs.Ending.{IsOwnCopy, committed}
+use Rattle.state_core.specs.Isolating.{isolate_refusal, isolated_next}
+use Rattle.state_core.specs.Ending.{committed, moved_to_target}
 use Rattle.state_core.specs.Pairs.{next_pair}
+use Rattle.state_core.specs.Valid.{IsValidZone}
 use Rattle.state_core.specs.ZoneState.{ZoneState}
 use Rattle.state_core.specs.declared.error.ZoneError.{ZoneError}
-use Rattle.state_core.specs.declared.moves.Next.TheVariants as answer
 use Rattle.state_core.specs.declared.round.Pair.{Pair}
-use Rattle.state_core.proofs.Carried.{own_fresh}
 use Rattle.state_core.proofs.Facts.{room_and_serial}
-use Rattle.frame_core.specs.Page.{IsolatedPage}
-use Rattle.compactd_c.specs.Rounds.{moved_to, moved_next, going_on, moved_at_most, all_moved}
+use Rattle.zone_core.specs.ByHand.{scan_pair}
+use Rattle.zone_core.specs.OneThread.{moved_to, moved_next, going_on, moved_at_most, all_moved}
+use Rattle.zone_core.proofs.OneThread.{IsBetween, between_moved, unpinned}
 
 -- it stays where it stopped, however many moves it may still make
 pub stays : (most : ℕ) (z : ZoneState) → moved_next z ≡ None → moved_at_most most z ≡ z
@@ -76,9 +76,29 @@ all_further z next moved =
 pub all_done : (z : ZoneState) → moved_next z ≡ None → all_moved z ≡ z
 all_done z stopped = stays z.room z stopped
 
--- a page that was just isolated is its own copy
-pub own_isolated : (z z_new : ZoneState) (p : IsolatedPage) (o : Option Pair) → answer.Page p ≡ next_answer z o → z_new ≡ next_state z o → IsOwnCopy z_new p
-own_isolated z z_new p None says left = cc
-own_isolated z z_new p (Some pair) says left =
-    let page : p ≡ _ = cc in
-    subst (λ (w : ZoneState). IsOwnCopy w p) (sym left) (subst (IsOwnCopy (isolated_next z pair)) (sym page) (own_fresh z pair))
+-- a page without a pin is moved, and not put back
+committed_moved : (z : ZoneState) (serial page : ℕ) → pins z.records page ≡ 0 → committed z serial page ≡ moved_to_target z serial page
+committed_moved z serial page none = cc
+
+between_by : (start z next : ZoneState) → IsBetween start z → (refusal : Option ZoneError) (o : Option Pair) → isolate_refusal z ≡ refusal → next_pair z ≡ o
+    → cond (is_some refusal) None (moved_to z o) ≡ Some next → IsValidZone next → IsBetween start next
+between_by start z next is (Some error) o spare found moved law = absurd cc
+between_by start z next is None None spare found moved law = absurd cc
+between_by start z next is None (Some pair) spare found moved law =
+    let left : moved_to_target (isolated_next z pair) (isolated z.records) pair.page ≡ next =
+    sym (committed_moved (isolated_next z pair) (isolated z.records) pair.page (unpinned start z is pair spare found)) ∙ cc in
+    subst (IsBetween start) left (between_moved start z is pair spare found (subst IsValidZone (sym left) law))
+
+-- between two pages it stays so that no page is moving
+pub between_next : (start z next : ZoneState) → IsBetween start z → moved_next z ≡ Some next → IsValidZone next → IsBetween start next
+between_next start z next is moved law = between_by start z next is (isolate_refusal z) (next_pair z) refl refl moved law
+
+none_by : (z : ZoneState) (refusal : Option ZoneError) (o : Option Pair) → isolate_refusal z ≡ refusal → next_pair z ≡ o
+    → cond (is_some refusal) None (moved_to z o) ≡ None → scan_pair z ≡ None
+none_by z (Some error) o spare found stopped = cc
+none_by z None None spare found stopped = cc
+none_by z None (Some pair) spare found stopped = absurd cc
+
+-- where no page is moved, the scanner stops
+pub no_pair : (z : ZoneState) → moved_next z ≡ None → scan_pair z ≡ None
+no_pair z stopped = none_by z (isolate_refusal z) (next_pair z) refl refl stopped
