@@ -95,7 +95,7 @@ const WITHOUT_ROOM: Table = Table {
 };
 
 impl<K: ZoneIdentity, I: Ledger, N: Ledger, M: Ledger, B: Ledger> Opening<K, I, N, M, B> {
-    /// Makes the calls of tables. The client has a receipt for each that is accepted, which so many are.
+    /// Makes the calls of tables. The client has a receipt for each that is accepted, which so many are, and each stands in the journal.
     pub fn refuses<R: Wait + Abort + AllocGlobal>(
         &mut self,
         rt: &R,
@@ -110,6 +110,7 @@ impl<K: ZoneIdentity, I: Ledger, N: Ledger, M: Ledger, B: Ledger> Opening<K, I, 
         }
         assert!(rt; client.number().get() == 5);
         assert!(rt; client.receipts().len() == accepted);
+        assert!(rt; self.settled(rt, &[client]) == Ok(()));
     }
 }
 

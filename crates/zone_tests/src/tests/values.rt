@@ -1,9 +1,9 @@
-//! A call that is a value does what the method of its name does.
+//! A call that is a value does what the method of its name does, and a client may make it where it names an address.
 
-use super::calls::{Answer, Call};
+use super::calls::{Answer, Call, value_of};
 use super::trial::{Case, Size, tries};
 use super::world::{CallForm, Row, Step};
-use zone_core::ZoneError;
+use zone_core::{ClientCall, ZoneError};
 
 /// Calls on a zone of one pageblock that was just opened, each with its answer. Each that is accepted has one record, and it names the
 /// client.
@@ -53,5 +53,19 @@ pub const ROWS: &[Row<'static>] = &[
 fn calls_that_are_values_do_what_the_methods_do(rt: HostRuntime) {
     for (name, form) in [("methods", CallForm::Method), ("values", CallForm::Value)] {
         tries(&rt, &Case::of_world(name, Size::Eight, form, ROWS));
+    }
+}
+
+#[test]
+fn a_client_may_make_calls_that_name_an_address(rt: HostRuntime) {
+    for (call, may_make) in [
+        (Call::Map((0, 0)), true),
+        (Call::Unpin((0, 0)), true),
+        (Call::TakeOrder(3), false),
+        (Call::GiveOrder(8, 3), false),
+        (Call::Mark(0), false),
+        (Call::Unmark(0), false),
+    ] {
+        assert!(rt; ClientCall::new(value_of(&rt, call)).is_some() == may_make);
     }
 }
