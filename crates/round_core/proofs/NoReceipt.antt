@@ -1,16 +1,12 @@
 -- The steps of a round are no receipts, and what they leave is what the lock keeps.
-use Rattle.std.proofs.Common.{◌≡◌, ℕ, Bool, true, false, if◌then◌else◌, List, ◌∷◌, refl, sym, ap, subst, ◌∙◌, nat_eq, Option}
-use Rattle.frame_core.specs.declared.record.Cause.{Cause}
-use Rattle.frame_core.specs.declared.record.Cause.TheVariants.{Pinned}
+use Rattle.std.proofs.Common.{◌≡◌, true, List, ◌∷◌, refl, sym, ap, subst, ◌∙◌, Option}
 use Rattle.frame_core.specs.declared.record.Record.{Record}
-use Rattle.frame_core.specs.declared.record.Record.TheVariants.{Isolate, Moved, Back}
-use Rattle.frame_core.specs.History.{pins}
+use Rattle.frame_core.specs.declared.record.Record.TheVariants.{Isolate}
 use Rattle.frame_core.specs.Moves.{isolated}
 use Rattle.hand_core.specs.Told.{Told}
 use Rattle.zone_core.specs.ByHand.{scan_step}
 use Rattle.zone_core.specs.ZoneIdentity.{HasIdentity}
 use Rattle.zone_core.proofs.Scanning.{by_scan}
-use Rattle.state_core.specs.Ending.{committed, moved_to_target, put_back_to_source}
 use Rattle.state_core.specs.Valid.{IsValidZone}
 use Rattle.state_core.specs.ZoneState.{ZoneState}
 use Rattle.round_core.specs.Calls.{is_of_round}
@@ -30,14 +26,3 @@ module _ (told : List Record → Option Told) (none : (entry : Record) (records 
     identity = identity;
     valid = valid;
   }
-
-  -- the move of a page ends
-  pub back_tells_none : (page serial : ℕ) (cause : Cause) → told (put_back_to_source z serial page cause).records ≡ told z.records
-  back_tells_none page serial cause = none (Back serial cause) z.records refl
-
-  pub commit_tells_none : (page serial : ℕ) → told (committed z serial page).records ≡ told z.records
-  commit_tells_none page serial = by_pins (nat_eq (pins z.records page) 0)
-    where
-      by_pins : (b : Bool) → told (if b then moved_to_target z serial page else put_back_to_source z serial page Pinned).records ≡ told z.records
-      by_pins true = none (Moved serial) z.records refl
-      by_pins false = back_tells_none page serial Pinned
