@@ -272,7 +272,8 @@ uint32_t compactd_record(compactd_pool *pool, size_t place, compactd_noted *reco
 
 /* Rounds. A round takes the lowest page that can be moved, moves it to the highest free frame, and so on until the two meet. */
 
-/* Makes a whole round on the thread that calls, and tells whether its scanners met; else the journal had no room for a further move.
+/* Makes a whole round on the thread that calls, and tells whether its scanners met; else the journal had no room for a further move, or
+ * the pool has taken 2^32 - 1 pages in its rounds.
  * Refused: CLOSED. */
 uint32_t compactd_compact(compactd_pool *pool, compactd_bool *met);
 
@@ -285,7 +286,7 @@ uint32_t compactd_begin_round(compactd_pool *pool);
 
 /* Isolates the next page of the round, and copies its words, of which there has to be room for as many as a page has. The page is moving
  * from here on, until it is committed or put back.
- * Refused: CLOSED; RANGE where the count isn't that of a page; JOURNAL_FULL where there aren't two places, or 2^32 pages were taken; MET,
+ * Refused: CLOSED; RANGE where the count isn't that of a page; JOURNAL_FULL where there aren't two places, or 2^32 - 1 pages were taken; MET,
  * also where no round was begun. */
 uint32_t compactd_isolate(compactd_pool *pool, compactd_carried *carried, uint64_t *words, size_t count);
 

@@ -293,7 +293,8 @@ public:
         return told;
     }
 
-    // Makes a whole round on this thread. Returns whether its scanners met; else the journal had no room for a further move.
+    // Makes a whole round on this thread. Returns whether its scanners met; else the journal had no room for a further move, or the pool has
+    // taken 2^32 - 1 pages in its rounds.
     bool compact()
     {
         bool met = false;

@@ -354,8 +354,8 @@ impl Pool {
     /// Makes a whole round on this thread: it takes the lowest page that can be moved, moves it to the highest free frame, and so on
     /// until the two meet.
     ///
-    /// Refused as [`Error::JournalFull`] where the journal had no room for a further move; the pages that were moved until then stay
-    /// so.
+    /// Refused as [`Error::JournalFull`] where the journal had no room for a further move, or the pool has taken 2^32 - 1 pages in its
+    /// rounds; the pages that were moved until then stay so.
     pub fn compact(&mut self) -> Result<(), Error> {
         let mut met = false;
         is_done(unsafe { raw::compactd_compact(&mut self.raw, &mut met) });

@@ -4,7 +4,7 @@ ghost use Rattle.std.specs.Prelude.{◌≤◌};
 
 mod bulk;
 
-use crate::opening::page;
+use crate::opening::{BLOCKS, PLACES, page};
 use crate::times::nanos_since;
 use frame_core::{Address, ClientNo, WordNo, ZoneNo};
 use std::alloc::Global;
@@ -12,14 +12,8 @@ use std::io;
 use std::time::{Clock, Instant};
 use zone_core::BareZone;
 
-/// The pageblocks of the zone of stores.
-const BLOCKS: u32 = 8;
-
-/// The places of a journal that is kept.
-const PLACES: u32 = 65_536;
-
-/// The stores that it has places for, besides the map of their page.
-const KEPT_STORES: u32 = 65_535;
+/// The stores that a kept journal has places for, besides the map of their page.
+const KEPT_STORES: u32 = PLACES - 1;
 
 /// What becomes of the records of a zone's journal.
 #[derive(Clone, Copy)]

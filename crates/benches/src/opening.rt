@@ -9,13 +9,14 @@ use std::alloc::Global;
 use std::sync::ledger::Ledger;
 use zone_core::{Blanks, Seats, Zone};
 
-const BLOCKS: u32 = 8;
+/// Its pageblocks.
+pub const BLOCKS: u32 = 8;
 
 /// Its frames.
 pub const FRAMES: u32 = 4096;
 
 /// The places of its journal.
-const PLACES: u32 = 65536;
+pub const PLACES: u32 = 65536;
 
 /// A zone with its seats.
 #[derive(Drop)]

@@ -18,7 +18,8 @@ use crate::calls::{CLOSED, numbered};
 use crate::pool::Pool;
 use std::alloc::Global;
 
-/// Runs a whole round on the thread that calls, and tells whether its scanners met; else the journal had no room for a move.
+/// Runs a whole round on the thread that calls, and tells whether its scanners met; else the journal had no room for a
+/// further move, or the pool has taken 2^32 - 1 pages in its rounds.
 ///
 /// Refused as 51 where the pool is closed.
 #[unsafe(no_mangle)]

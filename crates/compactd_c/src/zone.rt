@@ -1,6 +1,6 @@
 //! A zone whose pages have one of two sizes.
 
-ghost use Rattle.std.specs.Prelude.{◌≡◌, ◌≢◌, ◌≤◌, ◌↔◌, ◌&&◌, nat_lt, true, ℕ, false, length, reverse, slice_get, is_some, Some, None, IsTrue, IsOk, IfOk, IfErr, OnOk, OnErr, IfSome};
+ghost use Rattle.std.specs.Prelude.{◌≡◌, ◌≤◌, ◌↔◌, ◌&&◌, nat_lt, true, ℕ, false, length, reverse, slice_get, is_some, Some, None, IsTrue, IsOk, IfOk, IfErr, OnOk, OnErr, IfSome};
 ghost use Rattle.std.specs.Result.{result_err};
 ghost use Rattle.frame_core.specs.Moves.{out};
 ghost use Rattle.frame_core.specs.declared.record.Cause.{Cause};

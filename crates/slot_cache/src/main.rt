@@ -11,19 +11,13 @@ mod traffic;
 mod trouble;
 
 use blocks::Rounds;
-use std::alloc::Global;
 use std::io;
 use traffic::{Outcome, run};
 use trouble::Trouble;
 
 fn main(rt: HostRuntime) -> io::Result<()> {
-    show(&rt, "without rounds", outcome_of(rt.alloc(), Rounds::Never))?;
-    show(&rt, "with rounds", outcome_of(rt.alloc(), Rounds::AsNeeded))
-}
-
-/// What becomes of the requests in a zone that is opened for them.
-fn outcome_of(alloc: Global, rounds: Rounds) -> Result<Outcome, Trouble> {
-    run(alloc, rounds)
+    show(&rt, "without rounds", run(rt.alloc(), Rounds::Never))?;
+    show(&rt, "with rounds", run(rt.alloc(), Rounds::AsNeeded))
 }
 
 fn show<R: Print>(rt: &R, how: &str, outcome: Result<Outcome, Trouble>) -> io::Result<()> {

@@ -16,7 +16,7 @@ use Rattle.zone_core.specs.OneThread.{moved_to, moved_next, going_on, moved_at_m
 use Rattle.zone_core.proofs.OneThread.{IsBetween, between_moved, unpinned}
 
 -- it stays where it stopped, however many moves it may still make
-pub stays : (most : ℕ) (z : ZoneState) → moved_next z ≡ None → moved_at_most most z ≡ z
+stays : (most : ℕ) (z : ZoneState) → moved_next z ≡ None → moved_at_most most z ≡ z
 stays zero z stopped = refl
 stays (suc most) z stopped = ap (going_on (moved_at_most most) z) stopped
 
@@ -38,7 +38,7 @@ took_by z next None (Some pair) is moved =
     omega (arith, spare.0, ap (λ (w : ZoneState). w.room) left, committed_took (isolated_next z pair) (isolated z.records) pair.page)
 
 -- each move takes places of the journal
-pub took : (z next : ZoneState) → moved_next z ≡ Some next → next.room < z.room
+took : (z next : ZoneState) → moved_next z ≡ Some next → next.room < z.room
 took z next moved = took_by z next (isolate_refusal z) (next_pair z) refl moved
 
 none_left_by : (z : ZoneState) (o : Option ZoneState) → moved_next z ≡ o → z.room ≤ 0 → o ≡ None
@@ -54,7 +54,7 @@ either_way f g z None same = refl
 either_way f g z (Some next) same = same next refl
 
 -- so many moves are enough as the journal has places left: more make no difference
-pub enough : (n m : ℕ) (z : ZoneState) → z.room ≤ n → z.room ≤ m → moved_at_most n z ≡ moved_at_most m z
+enough : (n m : ℕ) (z : ZoneState) → z.room ≤ n → z.room ≤ m → moved_at_most n z ≡ moved_at_most m z
 enough zero zero z low high = refl
 enough zero (suc m) z low high = sym (stays (suc m) z (none_left z low))
 enough (suc n) zero z low high = stays (suc n) z (none_left z high)

@@ -25,7 +25,7 @@ abbrev pub moved_to : ZoneState → Option Pair → Option ZoneState
 moved_to z None = None
 moved_to z (Some pair) = Some (committed (isolated_next z pair) (isolated z.records) pair.page)
 
--- the zone after the next page of the round was moved; none where its scanners have met, or the journal has no room for a move
+-- the zone after the next page of the round was moved; none where its scanners have met, or no page can be isolated
 abbrev pub moved_next : ZoneState → Option ZoneState
 moved_next z = if is_some (isolate_refusal z) then None else moved_to z (next_pair z)
 

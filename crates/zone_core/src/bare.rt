@@ -1,4 +1,4 @@
-//! A zone without ledgers.
+//! A zone without ledgers, as one thread alone has it.
 
 ghost use Rattle.std.specs.Prelude.{◌≡◌, ◌+◌, ◌/◌, ◌^◌, ◌≤◌, ◌&&◌, ℕ, true, Option, Some, None, is_some, if◌then◌else◌, IfOk, IfErr};
 ghost use Rattle.frame_core.specs.declared.record.Record.{Record};
@@ -24,8 +24,9 @@ use std::alloc::Global;
 use std::marker::Model;
 use zone_tables::ZoneTables;
 
-/// A zone of 1 to 8 pageblocks, whose pages have `W` words, without ledgers. So its type doesn't name its opening, and its calls take no
-/// seats. What is said of refusals, of memory and of the two kinds of journal at `ZoneOf` holds here too.
+/// A zone of 1 to 8 pageblocks, whose pages have `W` words, 65,536 at most. It has no ledgers, so its type doesn't name its opening, and its
+/// calls take no seats: it is for programs in which one thread moves pages. What is said of refusals, of memory and of the two kinds of journal
+/// at `ZoneOf` holds here too.
 pub struct BareZone<const W: usize> {
     tables: Box<ZoneTables<W>>,
     // A page has at most 65,536 words.

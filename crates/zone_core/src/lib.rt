@@ -1,7 +1,7 @@
 //! A zone: its frames, the pages in them, the addresses that name these pages, and its journal.
 //!
-//! A `BareZone` is a zone without ledgers: the calls with their tests. A `ZoneOf` is a bare zone with its ledgers, by which those who scan
-//! and those who end moves count with their seats.
+//! A `BareZone` is a zone without ledgers: the calls with their tests, and a round on one thread. A `ZoneOf` is a bare zone with its ledgers, by
+//! which those who scan and those who end moves count with their seats.
 //!
 //! Contracts see a zone as one record, the `ZoneState` of `state_core`: the state of a machine without frame tables, words or
 //! counters. The clauses of each call say when it is refused and which step that machine makes, by the definitions of that
@@ -12,7 +12,7 @@
 //! The words (zone, pageblock, order, isolate, put back, pin) are those of the Linux kernel's memory management. What they
 //! mean here is this project's own profile.
 //!
-//! Besides, a round on one thread, `compact`, and what a round comes to, whatever the order in which its moves end:
+//! Besides, a round on one thread over a zone with seats, `compact`, and what a round comes to, whatever the order in which its moves end:
 //! `specs/ByHand.antt` is the round of one thread. `specs/Outcome.antt` says what a zone comes to once its moving pages have been
 //! moved, and when two zones are the same but for the order of moves. `specs/Alone.antt` is what a lock keeps during a round over a
 //! zone that nobody else has. Two zones that are the same but for the order of moves answer each call alike, refusals too, and are

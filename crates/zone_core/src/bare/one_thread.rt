@@ -19,8 +19,12 @@ use crate::seats::Answered;
 use state_core::Next;
 
 impl<const W: usize> BareZone<W> {
-    /// Runs one round on the thread that calls: each page is isolated, copied and moved before the next one is isolated. Tells why the
-    /// scanner stopped: `Met`, or `JournalFull` where the journal has no room for one more move. A page that was moving before stays so.
+    /// Runs one round on the thread that calls. Each page that can be moved goes up into a free frame, the lowest page first: it is isolated,
+    /// copied and moved before the next one is isolated. A page stays where it is that is pinned or unmovable, or in a marked pageblock, and so
+    /// does one that was moving before.
+    ///
+    /// Answers `Met` once no page that can be moved has a free frame above it, or `JournalFull` where the journal has no room for one more
+    /// move, or no serial is left.
     pub fn compact(&mut self) -> Answered
         requires size { W ≤ 65536 }
         ensures zone { self.new ≡ all_moved (round_begun self.old) }
@@ -41,7 +45,8 @@ impl<const W: usize> BareZone<W> {
         }
     }
 
-    /// Isolates the next page, copies it and moves it. Where the scanner stops in its place, the answer says why.
+    /// Isolates the next page, copies it and moves it, and answers none. Where the scanner stops in place of that, the answer says why, and
+    /// the zone is as before.
     fn move_next(&mut self) -> Option<Answered>
         requires size { W ≤ 65536 }
         ensures moved { result ≡ None → moved_next self.old ≡ Some self.new }
