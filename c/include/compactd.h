@@ -280,7 +280,7 @@ uint32_t compactd_compact(compactd_pool *pool, compactd_bool *met);
 /* A round whose pages the caller carries: compactd_begin_round, then compactd_isolate until it answers MET, and for each page
  * compactd_commit or compactd_put_back, by any thread and in any order. compactd_round.h does this with threads. */
 
-/* Begins a round. One that was begun before ends there; pages that are moving stay so.
+/* Begins a round. One that was begun before ends there; pages that are moving stay so. No record is written.
  * Refused: CLOSED. */
 uint32_t compactd_begin_round(compactd_pool *pool);
 
