@@ -3,7 +3,7 @@ use Rattle.std.proofs.Common.{◌≡◌, ℕ, zero, suc, ◌-◌, ◌<◌, ◌�
 use Rattle.std.specs.Prelude.{Bool, true, false, nat_eq, is_some, Option, Some, None}
 use Rattle.frame_core.specs.History.{pins}
 use Rattle.frame_core.specs.Moves.{isolated}
-use Rattle.state_core.specs.Isolating.{isolate_refusal, isolated_next}
+use Rattle.state_core.specs.Isolating.{isolate_refusal, isolated_next, next_answer, next_state}
 use Rattle.state_core.specs.Ending.{committed, moved_to_target}
 use Rattle.state_core.specs.Pairs.{next_pair}
 use Rattle.state_core.specs.Valid.{IsValidZone}
@@ -11,9 +11,10 @@ use Rattle.state_core.specs.ZoneState.{ZoneState}
 use Rattle.state_core.specs.declared.error.ZoneError.{ZoneError}
 use Rattle.state_core.specs.declared.round.Pair.{Pair}
 use Rattle.state_core.proofs.Facts.{room_and_serial}
-use Rattle.zone_core.specs.ByHand.{scan_pair}
 use Rattle.zone_core.specs.OneThread.{moved_to, moved_next, going_on, moved_at_most, all_moved}
-use Rattle.zone_core.proofs.OneThread.{IsBetween, between_moved, unpinned}
+use Rattle.state_core.specs.declared.moves.Next.TheVariants as answer
+use Rattle.frame_core.specs.Page.{IsolatedPage}
+use Rattle.zone_core.proofs.OneThread.{IsBetween, between_moved, unpinned, page_scanned}
 
 -- it stays where it stopped, however many moves it may still make
 stays : (most : ℕ) (z : ZoneState) → moved_next z ≡ None → moved_at_most most z ≡ z
@@ -93,12 +94,21 @@ between_by start z next is None (Some pair) spare found moved law =
 pub between_next : (start z next : ZoneState) → IsBetween start z → moved_next z ≡ Some next → IsValidZone next → IsBetween start next
 between_next start z next is moved law = between_by start z next is (isolate_refusal z) (next_pair z) refl refl moved law
 
-none_by : (z : ZoneState) (refusal : Option ZoneError) (o : Option Pair) → isolate_refusal z ≡ refusal → next_pair z ≡ o
-    → cond (is_some refusal) None (moved_to z o) ≡ None → scan_pair z ≡ None
-none_by z (Some error) o spare found stopped = cc
-none_by z None None spare found stopped = cc
-none_by z None (Some pair) spare found stopped = absurd cc
+-- no page is moved where the scanners have met, or none can be isolated
+pub met_moves_none : (z : ZoneState) → next_pair z ≡ None → moved_next z ≡ None
+met_moves_none z none = by_refusal (isolate_refusal z)
+  where
+    by_refusal : (r : Option ZoneError) → cond (is_some r) None (moved_to z (next_pair z)) ≡ None
+    by_refusal None = ap (moved_to z) none
+    by_refusal (Some error) = refl
 
--- where no page is moved, the scanner stops
-pub no_pair : (z : ZoneState) → moved_next z ≡ None → scan_pair z ≡ None
-no_pair z stopped = none_by z (isolate_refusal z) (next_pair z) refl refl stopped
+pub full_moves_none : (z : ZoneState) (error : ZoneError) → isolate_refusal z ≡ Some error → moved_next z ≡ None
+full_moves_none z error refused = ap (λ (r : Option ZoneError). cond (is_some r) None (moved_to z (next_pair z))) refused
+
+-- the page that was isolated next is committed
+pub moved_by : (z scanned next : ZoneState) (p : IsolatedPage) → isolate_refusal z ≡ None → answer.Page p ≡ next_answer z (next_pair z)
+    → scanned ≡ next_state z (next_pair z) → next ≡ committed scanned p.serial p.page.number → moved_next z ≡ Some next
+moved_by z scanned next p spare says left ends =
+    let is = page_scanned z scanned p (next_pair z) says left in
+    ap (λ (r : Option ZoneError). cond (is_some r) None (moved_to z (next_pair z))) spare ∙ ap (moved_to z) is.found
+    ∙ ap Some (sym (ends ∙ (λ i. committed (is.left i) (is.page i).serial (is.page i).page.number)))

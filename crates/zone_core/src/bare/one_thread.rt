@@ -1,6 +1,6 @@
 //! A round on the thread that calls.
 
-ghost use Rattle.std.specs.Prelude.{◌≡◌, ◌≤◌, true, length, None, Some, IfSome};
+ghost use Rattle.std.specs.Prelude.{◌≡◌, true, length};
 ghost use Rattle.frame_core.specs.Moves.{out};
 ghost use Rattle.state_core.specs.Isolating.{isolate_refusal};
 ghost use Rattle.state_core.specs.Packed.{IsPacked};
@@ -10,7 +10,7 @@ ghost use Rattle.state_core.specs.Valid.{IsValidZone};
 ghost use Rattle.state_core.specs.ZoneState.{is_quiet};
 ghost use Rattle.zone_core.specs.Alone.{IsAtRest};
 ghost use Rattle.zone_core.specs.ByHand.{by_hand};
-ghost use Rattle.zone_core.specs.OneThread.{last_for, moved_next, all_moved};
+ghost use Rattle.zone_core.specs.OneThread.{last_for, all_moved};
 ghost use Rattle.zone_core.specs.Outcome.{IsSame};
 ghost use Rattle.zone_core.specs.ZoneIdentity.{HasIdentity};
 
@@ -26,7 +26,6 @@ impl<const W: usize> BareZone<W> {
     /// Answers `Met` once no page that can be moved has a free frame above it, or `JournalFull` where the journal has no room for one more
     /// move, or no serial is left.
     pub fn compact(&mut self) -> Answered
-        requires size { W ≤ 65536 }
         ensures zone { self.new ≡ all_moved (round_begun self.old) }
         // Where no page was moving, it is the zone after a round by hand, but for the order in which moves ended.
         ensures exact { IsAtRest self.old → IsSame (by_hand self.old) self.new }
@@ -37,33 +36,16 @@ impl<const W: usize> BareZone<W> {
         ensures identity { HasIdentity self.old.number self.old.blocks self.new }
         ensures valid { IsValidZone self.new }
     {
-        self.begin_round();
+        self.tables.begin_round();
         loop {
-            if let Some(stopped) = self.move_next() {
-                return stopped;
-            }
+            let page = match self.isolate_next() {
+                Ok(Next::Page(page)) => page,
+                Ok(Next::Met) => return Answered::Met,
+                Err(_) => return Answered::JournalFull,
+            };
+            let Ok(_) = self.commit(page.copy_into_new()) else {
+                unreachable!();
+            };
         }
-    }
-
-    /// Isolates the next page, copies it and moves it, and answers none. Where the scanner stops in place of that, the answer says why, and
-    /// the zone is as before.
-    fn move_next(&mut self) -> Option<Answered>
-        requires size { W ≤ 65536 }
-        ensures moved { result ≡ None → moved_next self.old ≡ Some self.new }
-        ensures stopped { IfSome result (λ answered. (answered ≡ last_for (isolate_refusal self.old)) × (moved_next self.old ≡ None) × (self.new ≡ self.old)) }
-        ensures met { result ≡ Some Answered.Met → HaveMet self.new }
-        ensures packed { result ≡ Some Answered.Met → is_quiet self.new ≡ true → length (out self.new.records) ≡ 0 → IsPacked self.new }
-        ensures identity { HasIdentity self.old.number self.old.blocks self.new }
-        ensures valid { IsValidZone self.new }
-    {
-        let page = match self.isolate_next() {
-            Ok(Next::Page(page)) => page,
-            Ok(Next::Met) => return Some(Answered::Met),
-            Err(_) => return Some(Answered::JournalFull),
-        };
-        let Ok(_) = self.commit(page.copy_into_new()) else {
-            unreachable!();
-        };
-        None
     }
 }
