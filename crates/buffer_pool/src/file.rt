@@ -43,7 +43,7 @@ impl File {
     }
 }
 
-/// A word of a block behind its header. No two of them are alike, in one block or in two.
+/// A word of a block after its header. No two of them are alike, in one block or in two.
 pub fn word_of(block: VPage, at: u32) -> u64 {
     u64::from(block.get()) * 512 + u64::from(at)
 }

@@ -21,20 +21,15 @@ pub struct Outcome {
     pub moved: u32,
 }
 
-/// Opens a pool, and uses it.
+/// Opens and fills a pool, takes all turns, and looks at the buffers that are left.
 pub fn run(alloc: Global) -> Result<Outcome, Trouble> {
     let mut pool = Pool::open(alloc)?;
-    use_pool(&mut pool)
-}
-
-/// Fills a pool, takes all turns, and looks at the buffers that are left.
-fn use_pool(pool: &mut Pool) -> Result<Outcome, Trouble> {
     pool.fill()?;
     for _ in 0..TURNS {
-        turn(pool)?;
+        turn(&mut pool)?;
     }
     pool.see_left()?;
-    count(pool)
+    count(&mut pool)
 }
 
 /// Transactions before and after a large buffer is given back, and the request for the next.

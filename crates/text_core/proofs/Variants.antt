@@ -1,5 +1,5 @@
 -- Facts about the variants of options and results.
-use Rattle.std.proofs.Common.{◌≡◌, ℕ, false, IsTrue, List, [], ◌∷◌, length, refl, arith, Option, Some, None, Result, Ok, Err}
+use Rattle.std.proofs.Common.{◌≡◌, ℕ, false, IsTrue, List, refl, Option, Some, None, Result, Ok, Err}
 use Rattle.std.specs.Prelude.{IfErr, IfSome, IsOk, OnOk}
 
 pub at_ok : {T E : Type 0} {P : Type 0} (r : Result T E) → IsOk r → OnOk r P → P
@@ -30,7 +30,3 @@ if_known (Some x) P f = f x refl
 pub known_weaker : (o : Option (List ℕ)) (P Q : List ℕ → Type 0) → ((x : List ℕ) → o ≡ Some x → P x → Q x) → IfSome o P → IfSome o Q
 known_weaker None P Q f p = tt
 known_weaker (Some x) P Q f p = f x refl p
-
-pub nil_of_length : (xs : List ℕ) → length xs ≡ 0 → xs ≡ []
-nil_of_length [] e = refl
-nil_of_length (x ∷ xs) e = absurd (omega arith)

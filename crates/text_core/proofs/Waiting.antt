@@ -140,9 +140,6 @@ owes_more box answers first now a owes one = record {
   };
 }
 
-pub marked_none : IsMarked [] []
-marked_none = record { counted = refl; within = λ n h. absurd (omega arith) }
-
 -- one more reply has its line
 pub marked_more : (bytes lines text : List ℕ) (line : ℕ) → IsMarked bytes lines → IsOneLine text → IsMarked (bytes ++ text) (lines ++ line ∷ [])
 marked_more bytes lines text line m one =
