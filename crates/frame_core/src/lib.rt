@@ -5,8 +5,9 @@
 //! flags and its words, an isolated page as such a page under its serial, and the words of all frames as a list with a row of
 //! words for each frame.
 //!
-//! A journal has one record for each accepted call. It is kept, in memory that is taken once, or it is told: then contracts alone
-//! see its records, and it never fills. They see it as its records, the newest first, and the number of places that are left. What
+//! A journal has a record of each load and store, and of each other accepted call that changes a page, an address, a mark or which
+//! blocks are handed out. It is kept, in memory that is taken once, or it is told: then contracts alone see its records, and it never
+//! fills. They see it as its records, the newest first, and the number of places that are left. What
 //! the records say is defined in `specs/`: in `Access` the records of a call that reads or writes several words; in `History` the
 //! page that an address names, the last value of a word, and pins; in `Moves` the isolated pages; in `Ends` that each page that was
 //! isolated ends once; in `Truth` that loads gave what was stored; in `Blocks` the blocks that are handed out and those that are

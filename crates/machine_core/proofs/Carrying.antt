@@ -230,19 +230,12 @@ own_mapped z client address unmovable frame law free = by_page (lowest_unused_pa
 own_called : {W : ℕ} (call : ZoneCall W) (client : ℕ) (z : ZoneState) → IsValidZone z → refusal_of call z ≡ None → (p : IsolatedPage) → IsOwnCopy z p → IsOwnCopy (after call client z) p
 own_called (Map address unmovable) client z law accepted = own_mapped z client address unmovable _ law (frame_left z address accepted)
 own_called (MapAt address unmovable frame) client z law accepted = own_mapped z client address unmovable frame law (frame_left_at z address frame accepted)
-own_called (Load address word) client z law accepted = own_loaded z client address word
 own_called (Store address word value) client z law accepted = let at = accessed_at z address accepted in own_stored z client address word value at.0 at.1
-own_called (Share address alias) client z law accepted = own_shared z client address alias
 own_called (Unmap address) client z law accepted =
     let room = passed (not (has_room z)) JournalFull _ accepted in
     let at = at_then _ (option_or_none (placement_refusal (placement_at z address)) _ room.1) in
     own_unmapped z client address at.0 at.1
-own_called (Pin address) client z law accepted = own_pinned z client address
-own_called (Unpin address) client z law accepted = own_unpinned z client address
-own_called (TakeOrder order) client z law accepted = own_block_taken z _ order
-own_called (GiveOrder first order) client z law accepted = own_block_given z first order
-own_called (Mark block) client z law accepted = own_marked z block
-own_called (Unmark block) client z law accepted = own_unmarked z block
+own_called _ client z law accepted = λ p own. record { own = own.own; same = own.same }
 
 -- words that are read or written in bulk, one after the other
 read_leaves : (z : ZoneState) (client : ℕ) (address : Address) (from count : ℕ) → LeavesMoves z (loaded_all z client address from count)

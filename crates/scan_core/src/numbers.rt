@@ -68,21 +68,6 @@ impl NumberSet {
         self.clear(number / 64, 1 << (number % 64));
     }
 
-    /// Puts in a number below 4,096 where `member` says so, and takes it out where not.
-    #[inline(always)]
-    pub fn set_member(&mut self, number: u32, member: bool)
-        requires { number < 4096 }
-        ensures { (other : ℕ) → set.contains self.new other ≡ (if nat_eq other number then member else set.contains self.old other) }
-    {
-        if member {
-            if !self.contains(number) {
-                self.insert(number);
-            }
-        } else if self.contains(number) {
-            self.remove(number);
-        }
-    }
-
     /// The lowest number of the set, if it has one.
     pub fn lowest(&self) -> Option<u32>
         ensures lowest { result ≡ lowest (set.contains self.now) capacity }

@@ -18,8 +18,7 @@ use Rattle.state_core.specs.ZoneState.{ZoneState}
 use Rattle.zone_core.specs.Outcome.{IsSame}
 use Rattle.zone_core.proofs.Records.{isolated_same}
 use Rattle.zone_core.specs.Fingers.{IsSameInRound}
-use Rattle.zone_core.proofs.Calls.{look_agrees, info_agrees}
-use Rattle.zone_core.proofs.EachCall.{answers_agree, refusals_agree, same_after}
+use Rattle.zone_core.proofs.Calls.{look_agrees, info_agrees, answers_agree, refusals_agree, same_after}
 use Rattle.zone_core.proofs.Moves.{LeavesFingers, begun_agrees, committed_agrees, committed_leaves, ended_agrees, isolate_agrees}
 use Rattle.zone_core.proofs.Moves.{next_agrees, page_of_agrees, pair_agrees, put_back_agrees, stays_in_round}
 use Rattle.machine_core.specs.declared.hand.Finished.{Finished}

@@ -21,12 +21,8 @@ use Rattle.state_core.specs.Carrying.{page_now, relocated}
 use Rattle.state_core.specs.Rounds.{round_begun}
 use Rattle.state_core.specs.Isolating.{isolated_next}
 use Rattle.state_core.specs.Mapping.{placed}
-use Rattle.state_core.specs.HandingOut.{block_taken, block_given}
-use Rattle.state_core.specs.Marking.{block_marked, block_unmarked}
 use Rattle.state_core.specs.Access.{loaded, stored}
-use Rattle.state_core.specs.Sharing.{shared}
 use Rattle.state_core.specs.Unmapping.{is_last, without_page, unmapped}
-use Rattle.state_core.specs.Pinning.{pinned, unpinned}
 use Rattle.state_core.specs.ZoneState.{ZoneState, placement_at, noted}
 use Rattle.state_core.proofs.Facts.{skipped, page_named}
 use Rattle.state_core.proofs.Entries.{get_insert_same, get_insert_other, get_remove_other}
@@ -57,19 +53,6 @@ own_begun z p own = record { own = own.own; same = own.same }
 pub own_loaded : (z : ZoneState) (client : ℕ) (address : Address) (word : ℕ) (p : IsolatedPage) → IsOwnCopy z p → IsOwnCopy (loaded z client address word) p
 own_loaded z client address word p own = record { own = own.own; same = own.same }
 
--- a block that is handed out or taken back, and a mark, leave each copy one of the zone
-pub own_block_taken : (z : ZoneState) (first order : ℕ) (p : IsolatedPage) → IsOwnCopy z p → IsOwnCopy (block_taken z first order) p
-own_block_taken z first order p own = record { own = own.own; same = own.same }
-
-pub own_block_given : (z : ZoneState) (first order : ℕ) (p : IsolatedPage) → IsOwnCopy z p → IsOwnCopy (block_given z first order) p
-own_block_given z first order p own = record { own = own.own; same = own.same }
-
-pub own_marked : (z : ZoneState) (block : ℕ) (p : IsolatedPage) → IsOwnCopy z p → IsOwnCopy (block_marked z block) p
-own_marked z block p own = record { own = own.own; same = own.same }
-
-pub own_unmarked : (z : ZoneState) (block : ℕ) (p : IsolatedPage) → IsOwnCopy z p → IsOwnCopy (block_unmarked z block) p
-own_unmarked z block p own = record { own = own.own; same = own.same }
-
 -- a page that is nowhere or in a frame isn't a moving one
 apart_from : (z : ZoneState) (page : ℕ) (o : Option Placement) (p : IsolatedPage) → map.get z.placement page ≡ o → is_under o p.serial ≡ false → is_own z p ≡ true → p.page.number ≢ page
 apart_from z page o p at off own same = both_ways _ (ap (λ x. is_under x p.serial) (ap (map.get z.placement) same ∙ at) ∙ off) (own_under z p own)
@@ -77,15 +60,6 @@ apart_from z page o p at off own same = both_ways _ (ap (λ x. is_under x p.seri
 -- two serials are of two pages
 serials_apart : (z : ZoneState) (p q : IsolatedPage) → is_own z p ≡ true → is_own z q ≡ true → q.serial ≢ p.serial → p.page.number ≢ q.page.number
 serials_apart z p q own_p own_q ne same = ne (one_serial _ q.serial p.serial (own_under z q own_q) (ap (λ n. is_under (map.get z.placement n) p.serial) (sym same) ∙ own_under z p own_p))
-
-pub own_shared : (z : ZoneState) (client : ℕ) (address alias : Address) (p : IsolatedPage) → IsOwnCopy z p → IsOwnCopy (shared z client address alias) p
-own_shared z client address alias p own = record { own = own.own; same = own.same }
-
-pub own_pinned : (z : ZoneState) (client : ℕ) (address : Address) (p : IsolatedPage) → IsOwnCopy z p → IsOwnCopy (pinned z client address) p
-own_pinned z client address p own = record { own = own.own; same = own.same }
-
-pub own_unpinned : (z : ZoneState) (client : ℕ) (address : Address) (p : IsolatedPage) → IsOwnCopy z p → IsOwnCopy (unpinned z client address) p
-own_unpinned z client address p own = record { own = own.own; same = own.same }
 
 pub own_unmapped : (z : ZoneState) (client : ℕ) (address : Address) (frame : ℕ) → placement_at z address ≡ Some (At frame) → (p : IsolatedPage) → IsOwnCopy z p → IsOwnCopy (unmapped z client address) p
 own_unmapped z client address frame at p own = by_last (is_last z address) where

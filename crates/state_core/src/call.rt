@@ -1,5 +1,5 @@
 ghost use Rattle.std.specs.Prelude.{◌≡◌, IsTrue};
-ghost use Rattle.state_core.specs.Calls.{answers, record_of};
+ghost use Rattle.state_core.specs.Calls.{answers, is_of_client, record_of};
 ghost use Rattle.state_core.specs.declared.call.ZoneAnswer.{ZoneAnswer};
 
 use frame_core::{Address, BlockNo, ClientNo, FrameNo, Order, PageNo, Record, WordOf};
@@ -79,6 +79,20 @@ pub enum ZoneAnswer {
 }
 
 impl<const W: usize> ZoneCall<W> {
+    /// Whether a client may make the call beside a round: it names an address.
+    #[inline(always)]
+    pub(crate) fn is_of_client(&self) -> bool
+        ensures { result ≡ is_of_client self.now }
+    {
+        match self {
+            ZoneCall::TakeOrder { .. }
+            | ZoneCall::GiveOrder { .. }
+            | ZoneCall::Mark { .. }
+            | ZoneCall::Unmark { .. } => false,
+            _ => true,
+        }
+    }
+
     /// The record that the call leaves in the journal, made by this client and answered so. The answer has to be one to such a call.
     pub fn record(self, client: ClientNo, answer: ZoneAnswer) -> Record
         requires { IsTrue (answers self answer) }

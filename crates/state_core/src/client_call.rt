@@ -30,13 +30,10 @@ impl<const W: usize> ClientCall<W> {
         ensures valid { IsSome result ↔ IsTrue (is_of_client call.entry) }
         ensures value { IfSome result (λ c. c ≡ call.entry) }
     {
-        match call {
-            ZoneCall::TakeOrder { .. }
-            | ZoneCall::GiveOrder { .. }
-            | ZoneCall::Mark { .. }
-            | ZoneCall::Unmark { .. } => None,
-            _ => Some(ClientCall { call }),
+        if !call.is_of_client() {
+            return None;
         }
+        Some(ClientCall { call })
     }
 
     /// The call.

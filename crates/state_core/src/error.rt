@@ -1,6 +1,8 @@
 ghost use Rattle.std.specs.Prelude.{◌≡◌};
 ghost use Rattle.state_core.specs.ErrorNumber.{number_of};
+ghost use Rattle.state_core.specs.declared.error.ZoneError.TheVariants.{Memory};
 
+use std::alloc::AllocError;
 use std::error::Error;
 use std::fmt;
 use std::fmt::{Display, Formatter};
@@ -49,7 +51,7 @@ pub enum ZoneError {
 }
 
 impl ZoneError {
-    /// The number, 1 to 18, that a script prints for it.
+    /// Its number, 1 to 18, which is also what a script prints.
     pub fn number(&self) -> u16
         ensures { result ≡ number_of self.now }
     {
@@ -97,6 +99,14 @@ impl ZoneError {
             ZoneError::Marked => "the pageblock is marked already",
             ZoneError::NotMarked => "the pageblock is not marked",
         }
+    }
+}
+
+impl From<AllocError> for ZoneError {
+    ghost from_gives = { λ _ error. error ≡ Memory };
+
+    fn from(_error: AllocError) -> ZoneError {
+        ZoneError::Memory
     }
 }
 

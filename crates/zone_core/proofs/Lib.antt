@@ -2,7 +2,6 @@ pub mod Alone
 pub mod ByHand
 pub mod Calls
 pub mod Coming
-pub mod EachCall
 pub mod Ending
 mod InTurn
 pub mod Moves

@@ -10,7 +10,7 @@ use Rattle.frame_core.specs.declared.record.Record.TheVariants as entry
 use Rattle.frame_core.specs.History.{page_at, pins}
 use Rattle.frame_core.specs.Moves.{isolated, moved, put_back}
 use Rattle.state_core.specs.declared.call.ZoneCall.{ZoneCall}
-use Rattle.state_core.specs.declared.call.ZoneCall.TheVariants.{Map, MapAt, Load, Store, Share, Unmap, Pin, Unpin, TakeOrder, GiveOrder, Mark, Unmark}
+use Rattle.state_core.specs.declared.call.ZoneCall.TheVariants.{Load, Store, Unmap}
 use Rattle.state_core.specs.declared.error.ZoneError.{ZoneError}
 use Rattle.state_core.specs.declared.moves.Ended.TheVariants as ended
 use Rattle.state_core.specs.declared.moves.Next.{Next}
@@ -19,14 +19,13 @@ use Rattle.state_core.specs.declared.round.Pair.{Pair}
 use Rattle.state_core.specs.declared.round.RoundStart.{RoundStart}
 use Rattle.state_core.specs.Access.{loaded, stored, value_at}
 use Rattle.state_core.specs.Bulk.{loaded_all, stored_all}
-use Rattle.state_core.specs.Calls.{after}
+use Rattle.state_core.specs.Calls.{after, answer_of, record_of}
 use Rattle.state_core.specs.Ending.{ended_as, committed, moved_to_target, put_back_to_source}
-use Rattle.state_core.specs.HandingOut.{lowest_run}
 use Rattle.state_core.specs.Isolating.{next_answer, next_state, Scans}
 use Rattle.state_core.specs.Valid.{IsValidZone}
 use Rattle.state_core.specs.Pairs.{HaveMet, next_pair}
 use Rattle.state_core.specs.Unmapping.{is_last, without_page}
-use Rattle.state_core.specs.ZoneState.{ZoneState, is_quiet, is_quiet_since, keeps_quiet, lowest_unused_page, noted}
+use Rattle.state_core.specs.ZoneState.{ZoneState, is_quiet, is_quiet_since, keeps_quiet, noted}
 use Rattle.frame_core.specs.Page.{IsolatedPage}
 use Rattle.state_core.proofs.Quiet.{begun_more, quiet_ended, quiet_kept}
 use Rattle.state_core.proofs.StaysMet.{met_loaded, met_stored}
@@ -103,20 +102,12 @@ module _ {t m b : ℕ} (client : ℕ) where
 
   -- a call that isn't refused
   pub booked_call : {W : ℕ} (call : ZoneCall W) (v : ZoneState) → HasBegunWithin v → AreBooks t m b v → AreBooks t m b (after call client v)
-  booked_call (Map address unmovable) v begun books = booked_loud _ (entry.Map client address (unwrap_or (lowest_unused_page v) 0)) begun books refl refl refl books.moved books.back refl
-  booked_call (MapAt address unmovable frame) v begun books = booked_loud _ (entry.Map client address (unwrap_or (lowest_unused_page v) 0)) begun books refl refl refl books.moved books.back refl
   booked_call (Load address word) v begun books = booked_loaded v address word begun books
   booked_call (Store address word value) v begun books = booked_stored v address word value begun books
-  booked_call (Share address alias) v begun books = booked_loud _ (entry.Share client address alias) begun books refl refl refl books.moved books.back refl
   booked_call (Unmap address) v begun books =
       let same = same_journal (is_last v address) (noted v (entry.Unmap client address)) (unwrap_or (page_at v.records address) 0) in
       booked_loud _ (entry.Unmap client address) begun books same.0 same.1 refl books.moved books.back refl
-  booked_call (Pin address) v begun books = booked_loud _ (entry.Pin client address) begun books refl refl refl books.moved books.back refl
-  booked_call (Unpin address) v begun books = booked_loud _ (entry.Unpin client address) begun books refl refl refl books.moved books.back refl
-  booked_call (TakeOrder order) v begun books = booked_loud _ (entry.TakeHuge (unwrap_or (lowest_run v order) 0) order) begun books refl refl refl books.moved books.back refl
-  booked_call (GiveOrder first order) v begun books = booked_loud _ (entry.GiveHuge first order) begun books refl refl refl books.moved books.back refl
-  booked_call (Mark block) v begun books = booked_loud _ (entry.Mark block) begun books refl refl refl books.moved books.back refl
-  booked_call (Unmark block) v begun books = booked_loud _ (entry.Unmark block) begun books refl refl refl books.moved books.back refl
+  booked_call call v begun books = booked_loud _ (record_of call client (answer_of call v)) begun books refl refl refl books.moved books.back refl
 
   -- words that are loaded and stored, one after the other
   pub booked_loaded_all : (v : ZoneState) (address : Address) (from count : ℕ) → HasBegunWithin v → AreBooks t m b v → AreBooks t m b (loaded_all v client address from count)

@@ -12,11 +12,11 @@
 //! The words (zone, pageblock, order, isolate, put back, pin) are those of the Linux kernel's memory management. What they
 //! mean here is this project's own profile.
 //!
-//! Besides, a round on one thread over a zone with seats, `compact`, and what a round comes to, whatever the order in which its moves end:
-//! `specs/ByHand.antt` is the round of one thread. `specs/Outcome.antt` says what a zone comes to once its moving pages have been
-//! moved, and when two zones are the same but for the order of moves. `specs/Alone.antt` is what a lock keeps during a round over a
-//! zone that nobody else has. Two zones that are the same but for the order of moves answer each call alike, refusals too, and are
-//! still the same after it: those functions have laws for their contracts, and do nothing.
+//! `compact` is a round on one thread over a zone with seats. `specs/ByHand.antt` is such a round as a definition, and
+//! `specs/Outcome.antt` says what a zone comes to once its moving pages have been moved, whatever the order, and when two zones are
+//! the same but for that order. Two such zones answer each call alike, refusals too, and are still the same after it: the functions
+//! whose names end in `_agree` have these laws for their contracts, and do nothing. `specs/Alone.antt` is what a lock keeps during a
+//! round over a zone that nobody else has.
 #![tactic(auto)]
 
 mod agreement;
@@ -33,10 +33,7 @@ mod sharing;
 mod tables;
 mod zone;
 
-pub use agreement::{
-    blocks_agree, calls_agree, contents_agree, loads_and_stores_agree, looks_agree, maps_agree,
-    marks_agree, moves_agree, pins_agree, rounds_agree, shares_agree, unmaps_agree,
-};
+pub use agreement::{calls_agree, contents_agree, looks_agree, moves_agree, rounds_agree};
 pub use bare::BareZone;
 pub use one_thread::compact;
 pub use outcome::{comes_to_by_hand, each_step_keeps, packs_a_calm_zone};

@@ -19,7 +19,6 @@ ghost use Rattle.state_core.specs.ZoneState.{frame_count, lowest_free_frame, not
 
 use crate::bare::BareZone;
 use crate::seats::{Blanks, EndSeat, ScanSeat};
-use bitflags::Flags;
 use frame_core::{Address, ClientNo, FrameNo, Journal, PageFlags, WordOf, ZoneNo};
 use state_core::{Info, Look, ZoneError};
 use std::alloc::Global;
@@ -167,7 +166,7 @@ impl<const W: usize, I: Ledger, M: Ledger, B: Ledger> Zone<W, I, M, B> {
         ensures identity { HasIdentity self.old.number self.old.blocks self.new }
         ensures valid { IsValidZone self.new }
     {
-        let unmovable = flags.contains(PageFlags::UNMOVABLE);
+        let unmovable = flags.is_unmovable();
         let (_page, frame) = self.bare.map(client, address, unmovable)?;
         Ok(frame)
     }
@@ -189,7 +188,7 @@ impl<const W: usize, I: Ledger, M: Ledger, B: Ledger> Zone<W, I, M, B> {
         ensures identity { HasIdentity self.old.number self.old.blocks self.new }
         ensures valid { IsValidZone self.new }
     {
-        let unmovable = flags.contains(PageFlags::UNMOVABLE);
+        let unmovable = flags.is_unmovable();
         self.bare.map_at(client, address, unmovable, frame)?;
         Ok(())
     }

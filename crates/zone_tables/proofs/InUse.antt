@@ -1,5 +1,5 @@
 -- Which page numbers are in use by their notes, and how many, when one note changes.
-use Rattle.std.proofs.Common.{◌≡◌, ◌≢◌, ℕ, ◌+◌, ◌-◌, ◌<◌, Bool, true, false, not, List, length, inl, inr, refl, sym, ap, ◌∙◌, get_or, arith}
+use Rattle.std.proofs.Common.{◌≡◌, ◌≢◌, ℕ, ◌+◌, ◌-◌, ◌<◌, Bool, true, false, not, List, length, inl, inr, refl, sym, ap, ◌∙◌, arith}
 use Rattle.std.specs.Prelude.{Option, Some, None, is_some, is_none, nat_eq, nat_lt, slice_set, ◌&&◌, if◌then◌else◌}
 use Rattle.std.specs.FinSet as set
 use Rattle.std.specs.Ordering.{nat_cmp}
@@ -8,7 +8,7 @@ use Rattle.frame_core.specs.FixedVec.{with_item}
 use Rattle.std.proofs.lemmas.Bool.{lt-ltb, and_right}
 use Rattle.std.proofs.lemmas.Bool.Decides.{eqb_tells}
 use Rattle.std.proofs.lemmas.List.{length-set}
-use Rattle.std.proofs.lemmas.Option.{slice_get-get_or, slice_get_cases}
+use Rattle.std.proofs.lemmas.Option.{slice_get_cases}
 use Rattle.frame_core.proofs.Lists.{slice_get_set_same, slice_get_set_other}
 use Rattle.frame_core.proofs.Searches.{count_more, count_same}
 use Rattle.frame_core.specs.Below.{count_below}
@@ -57,15 +57,6 @@ module _ (notes : List PageNote) (page : ℕ) (note : PageNote) (within : page <
   kept same =
       ap (count_below (is_in_use (slice_set notes page note))) (length-set notes page note)
       ∙ count_same (is_in_use (slice_set notes page note)) (is_in_use notes) (length notes) (λ q h. in_use_kept same q)
-
--- whether the page number was in use, as a call reads it
-pub was_in_use : (notes v : List PageNote) (place page : ℕ) (note : PageNote) (was : Bool) → notes ≡ v → page < length v → place ≡ page → note ≡ get_or notes place note → was ≡ is_some note.placement → (place < length notes) × (is_in_use notes place ≡ was)
-was_in_use notes v place page note was same page_in at read is =
-    let within : place < length notes = omega (arith, page_in, at, ap length same) in (
-      within,
-      ap (λ o. is_some (option_and_then (λ (n : PageNote). n.placement) o)) (slice_get-get_or notes place note within)
-          ∙ ap (λ (n : PageNote). is_some n.placement) (sym read) ∙ sym is,
-    )
 
 module _ (z : Inside) (counted : IsCounted z) (page : ℕ) (note : PageNote) (within : page < length z.notes.items) where
   -- the numbers that aren't in use, after one was put among them or taken out

@@ -11,7 +11,7 @@ use std::alloc::{AllocError, Global};
 use std::marker::Model;
 
 /// Whether the words of each block were cleared since it was handed out, by its first frame. A block is cleared when it is first
-/// read or written, so that handing it out costs no more than its records.
+/// read or written, so that handing it out writes no word.
 #[derive(Drop)]
 pub struct Cleared {
     blocks: FixedVec<bool>,

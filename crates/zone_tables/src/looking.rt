@@ -12,9 +12,10 @@ use frame_core::{Address, PageNo};
 use state_core::{Look, Placement};
 use table_core::Entry;
 
-/// How a page is used: its pins and its addresses.
+/// A page in use, and how it is used: its pins and its addresses.
 #[derive(Clone, Copy, Debug, PartialEq, Eq)]
 pub struct Uses {
+    pub page: PageNo,
     pub pins: u8,
     /// How many addresses name the page.
     pub maps: u8,
@@ -33,25 +34,18 @@ impl<const W: usize> ZoneTables<W> {
         }
     }
 
-    /// The page of an address that is known to name one.
-    pub(crate) fn page_at(&self, address: &Address) -> PageNo
+    /// The page of an address that is known to name one, and how it is used.
+    pub fn uses_at(&self, address: &Address) -> Uses
         requires { IsSome (page_at self.now.records address.now) }
-        ensures named { page_at self.now.records address.now ≡ Some result }
-        ensures in_use { IsSome (map.get self.now.placement result) }
+        ensures named { page_at self.now.records address.now ≡ Some result.page }
+        ensures in_use { IsSome (map.get self.now.placement result.page) }
+        ensures pins { result.pins ≡ pins_at self.now address.now }
+        ensures maps { result.maps ≡ maps_at self.now address.now }
     {
         let Some(page) = self.page_named(address) else {
             unreachable!();
         };
-        page
-    }
-
-    /// How the page that an address names is used.
-    pub fn uses_at(&self, address: &Address) -> Uses
-        requires { IsSome (page_at self.now.records address.now) }
-        ensures pins { result.pins ≡ pins_at self.now address.now }
-        ensures maps { result.maps ≡ maps_at self.now address.now }
-    {
-        self.uses_of(self.page_at(address))
+        self.uses_of(page)
     }
 
     /// What is known of the page that an address names, if it names one.
@@ -67,7 +61,7 @@ impl<const W: usize> ZoneTables<W> {
         requires { IsSome (map.get self.now.placement page) }
         ensures { result ≡ look_by self.now page (map.get self.now.placement page) }
     {
-        let Uses { pins, maps } = self.uses_of(page);
+        let Uses { pins, maps, .. } = self.uses_of(page);
         match self.notes.placement(page)? {
             Placement::At(frame) => Some(Look::At {
                 frame,
@@ -82,11 +76,13 @@ impl<const W: usize> ZoneTables<W> {
     /// How a page in use is used.
     fn uses_of(&self, page: PageNo) -> Uses
         requires { IsSome (map.get self.now.placement page) }
+        ensures page { result.page ≡ page }
         ensures pins { result.pins ≡ pins self.now.records page }
         ensures maps { result.maps ≡ maps self.now.records page }
     {
         let note = self.notes.get(page);
         Uses {
+            page,
             pins: note.pins,
             maps: note.maps,
         }

@@ -78,7 +78,7 @@ impl<const W: usize> ZoneTables<W> {
         self.frames.fill(frame, page, !unmovable);
         self.tables.set(named, frame);
         self.words.blank(frame);
-        self.notes.put(page, PageNote::fresh(frame, unmovable));
+        self.notes.add(page, PageNote::fresh(frame, unmovable));
         self.history.note(Record::Map {
             client,
             address,

@@ -1,6 +1,6 @@
 //! What a zone notes of its pages.
 
-ghost use Rattle.std.specs.Prelude.{◌≡◌, ℕ, ◌<◌, ◌≤◌, true, nat_lt, length, replicate, slice_get, slice_set, is_none, Some, IsSome, IfOk};
+ghost use Rattle.std.specs.Prelude.{◌≡◌, ℕ, ◌<◌, ◌≤◌, true, false, nat_lt, length, replicate, slice_get, slice_set, is_none, Some, IsSome, IfOk};
 ghost use Rattle.std.specs.FinSet as set;
 ghost use Rattle.frame_core.specs.Below.{count_below, lowest};
 ghost use Rattle.zone_tables.specs.Notes.{placement_of, is_in_use, unused_note};
@@ -72,23 +72,26 @@ impl Notes {
         self.in_use
     }
 
-    /// Replaces the note of a page number.
-    pub fn put(&mut self, page: PageNo, note: PageNote)
-        requires { page < length self.old }
+    /// Notes a page under a number that isn't in use, which is in use then.
+    pub fn add(&mut self, page: PageNo, note: PageNote)
+        requires within { page < length self.old }
+        requires unused { is_in_use self.old page ≡ false }
+        requires placed { IsSome note.placement }
         ensures { self.new ≡ slice_set self.old page note }
     {
-        let index = page.get() as usize;
-        let was = self.notes[index].placement.is_some();
-        let is = note.placement.is_some();
-        self.notes[index] = note;
-        self.unused.set_member(page.get(), !is);
-        if was {
-            if !is {
-                self.in_use -= 1;
-            }
-        } else if is {
-            self.in_use += 1;
-        }
+        self.notes[page.get() as usize] = note;
+        self.unused.remove(page.get());
+        self.in_use += 1;
+    }
+
+    /// Takes a page number out of use.
+    pub fn remove(&mut self, page: PageNo)
+        requires used { is_in_use self.old page ≡ true }
+        ensures { self.new ≡ slice_set self.old page unused_note }
+    {
+        self.notes[page.get() as usize] = PageNote::unused();
+        self.unused.insert(page.get());
+        self.in_use -= 1;
     }
 
     /// Replaces the note of a page that is in use and stays so.

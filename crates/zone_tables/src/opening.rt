@@ -34,9 +34,7 @@ impl<const W: usize> ZoneTables<W> {
         ensures ok { IfOk result (λ zone. zone ≡ opened_with W number blocks places) }
         ensures valid { IfOk result (λ zone. IsValidZone zone) }
     {
-        let Ok(history) = History::open(alloc, places) else {
-            return Err(ZoneError::Memory);
-        };
+        let history = History::open(alloc, places)?;
         Self::with_history(alloc, number, blocks, history)
     }
 
@@ -67,18 +65,9 @@ impl<const W: usize> ZoneTables<W> {
         ensures valid { IfOk result (λ zone. IsValidZone zone) }
     {
         let count = 512 * blocks;
-        let Ok(held) = open_blocks(alloc, count) else {
-            return Err(ZoneError::Memory);
-        };
-        let Ok(noted) = open_notes(alloc, count) else {
-            return Err(ZoneError::Memory);
-        };
-        let Ok(memory) = open_memory(alloc, blocks) else {
-            return Err(ZoneError::Memory);
-        };
-        let (frames, tables, words) = memory;
-        let (notes, moves) = noted;
-        let (handed_out, cleared) = held;
+        let (handed_out, cleared) = open_blocks(alloc, count)?;
+        let (notes, moves) = open_notes(alloc, count)?;
+        let (frames, tables, words) = open_memory(alloc, blocks)?;
         Ok(ZoneTables {
             number,
             blocks,

@@ -1,6 +1,7 @@
 //! Pinning pages, moving ones too.
 
-ghost use Rattle.std.specs.Prelude.{◌≡◌, ◌<◌, ℕ, true, nat_eq, not, ◌&&◌, Some, IsSome, IsTrue};
+ghost use Rattle.std.specs.Prelude.{◌≡◌, ◌<◌, ℕ, true, Some, IsSome, IsTrue};
+ghost use Rattle.std.specs.FinMap as map;
 ghost use Rattle.scan_core.specs.Frames.{holds_at};
 ghost use Rattle.frame_core.specs.History.{page_at};
 ghost use Rattle.state_core.specs.Valid.{IsValidZone};
@@ -11,21 +12,20 @@ ghost use Rattle.zone_tables.specs.Notes.{movable_by};
 
 use crate::note::PageNote;
 use crate::zone::ZoneTables;
-use frame_core::{Address, ClientNo, Record};
+use frame_core::{Address, ClientNo, PageNo, Record};
 use scan_core::Frames;
 use state_core::Placement;
 
 impl<const W: usize> ZoneTables<W> {
     /// Pins the page that an address names.
-    pub fn pin(&mut self, client: ClientNo, address: Address)
+    pub fn pin(&mut self, client: ClientNo, address: Address, page: PageNo)
         requires room { IsTrue (has_room self.old) }
-        requires named { IsSome (page_at self.old.records address) }
+        requires named { page_at self.old.records address ≡ Some page }
+        requires in_use { IsSome (map.get self.old.placement page) }
         requires few { pins_at self.old address < 255 }
         ensures step { self.new ≡ pinned self.old client address }
         ensures valid { IsValidZone self.new }
     {
-        let named = address;
-        let page = self.page_at(&named);
         let note = self.notes.get(page).with_pin();
         say_movable(&mut self.frames, &note);
         self.notes.revise(page, note);
@@ -33,15 +33,14 @@ impl<const W: usize> ZoneTables<W> {
     }
 
     /// Takes a pin off the page that an address names.
-    pub fn unpin(&mut self, client: ClientNo, address: Address)
+    pub fn unpin(&mut self, client: ClientNo, address: Address, page: PageNo)
         requires room { IsTrue (has_room self.old) }
-        requires named { IsSome (page_at self.old.records address) }
+        requires named { page_at self.old.records address ≡ Some page }
+        requires in_use { IsSome (map.get self.old.placement page) }
         requires some { 0 < pins_at self.old address }
         ensures step { self.new ≡ unpinned self.old client address }
         ensures valid { IsValidZone self.new }
     {
-        let named = address;
-        let page = self.page_at(&named);
         let note = self.notes.get(page).without_pin();
         say_movable(&mut self.frames, &note);
         self.notes.revise(page, note);

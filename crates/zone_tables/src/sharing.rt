@@ -1,6 +1,7 @@
 //! A second address for a page.
 
-ghost use Rattle.std.specs.Prelude.{◌≡◌, ◌<◌, None, Some, IsTrue};
+ghost use Rattle.std.specs.Prelude.{◌≡◌, ◌<◌, None, Some, IsSome, IsTrue};
+ghost use Rattle.std.specs.FinMap as map;
 ghost use Rattle.frame_core.specs.History.{page_at};
 ghost use Rattle.state_core.specs.Valid.{IsValidZone};
 ghost use Rattle.state_core.specs.Sharing.{maps_at, shared};
@@ -8,20 +9,28 @@ ghost use Rattle.state_core.specs.ZoneState.{has_room, placement_at};
 ghost use Rattle.state_core.specs.declared.placement.Placement.TheVariants.{At};
 
 use crate::zone::ZoneTables;
-use frame_core::{Address, ClientNo, FrameNo, Record};
+use frame_core::{Address, ClientNo, FrameNo, PageNo, Record};
 
 impl<const W: usize> ZoneTables<W> {
     /// Makes an alias name the page of an address too.
-    pub fn share(&mut self, client: ClientNo, address: Address, alias: Address, frame: FrameNo)
+    pub fn share(
+        &mut self,
+        client: ClientNo,
+        address: Address,
+        alias: Address,
+        page: PageNo,
+        frame: FrameNo,
+    )
         requires room { IsTrue (has_room self.old) }
+        requires named { page_at self.old.records address ≡ Some page }
+        requires in_use { IsSome (map.get self.old.placement page) }
         requires frame { placement_at self.old address ≡ Some (At frame) }
         requires vacant { page_at self.old.records alias ≡ None }
         requires few { maps_at self.old address < 4 }
         ensures step { self.new ≡ shared self.old client address alias }
         ensures valid { IsValidZone self.new }
     {
-        let (named, second) = (address, alias);
-        let page = self.page_at(&named);
+        let second = alias;
         self.tables.set(second, frame);
         let note = self.notes.get(page);
         self.notes.revise(page, note.with_address());

@@ -1,6 +1,6 @@
 //! Taking an address from a page. With its last address the page goes out of use.
 
-ghost use Rattle.std.specs.Prelude.{◌≡◌, ◌≢◌, ℕ, Some, IsTrue};
+ghost use Rattle.std.specs.Prelude.{◌≡◌, ◌≢◌, ℕ, Some, IsSome, IsTrue};
 ghost use Rattle.std.specs.FinMap as map;
 ghost use Rattle.frame_core.specs.History.{page_at, maps};
 ghost use Rattle.frame_core.specs.declared.record.Record.TheVariants.{Unmap};
@@ -9,20 +9,19 @@ ghost use Rattle.state_core.specs.Unmapping.{unmapped, without_page};
 ghost use Rattle.state_core.specs.ZoneState.{has_room, placement_at, noted};
 ghost use Rattle.state_core.specs.declared.placement.Placement.TheVariants.{At};
 
-use crate::note::PageNote;
 use crate::zone::ZoneTables;
 use frame_core::{Address, ClientNo, FrameNo, PageNo, Record};
 
 impl<const W: usize> ZoneTables<W> {
     /// Makes an address name no page any more. A page that has no address left isn't in use.
-    pub fn unmap(&mut self, client: ClientNo, address: Address, frame: FrameNo)
+    pub fn unmap(&mut self, client: ClientNo, address: Address, page: PageNo, frame: FrameNo)
         requires room { IsTrue (has_room self.old) }
+        requires named { page_at self.old.records address ≡ Some page }
+        requires in_use { IsSome (map.get self.old.placement page) }
         requires frame { placement_at self.old address ≡ Some (At frame) }
         ensures step { self.new ≡ unmapped self.old client address }
         ensures valid { IsValidZone self.new }
     {
-        let named = address;
-        let page = self.page_at(&named);
         if self.notes.get(page).maps == 1 {
             self.unmap_last(client, address, page, frame);
         } else {
@@ -58,7 +57,7 @@ impl<const W: usize> ZoneTables<W> {
         let named = address;
         self.tables.clear(named);
         self.frames.empty(frame);
-        self.notes.put(page, PageNote::unused());
+        self.notes.remove(page);
         self.history.note(Record::Unmap { client, address });
     }
 }

@@ -149,8 +149,8 @@ impl<const W: usize> BareZone<W> {
         if !self.tables.has_room() {
             return Err(ZoneError::JournalFull);
         }
-        let held = self.tables.frame_of(&address)?;
-        self.tables.write(client, address, held, word, value);
+        let frame = self.tables.frame_of(&address)?;
+        self.tables.write(client, address, frame, word, value);
         Ok(())
     }
 
@@ -173,10 +173,11 @@ impl<const W: usize> BareZone<W> {
         if self.tables.names_page(&alias) {
             return Err(ZoneError::Occupied);
         }
-        if self.tables.uses_at(&address).maps >= 4 {
+        let uses = self.tables.uses_at(&address);
+        if uses.maps >= 4 {
             return Err(ZoneError::ShareFull);
         }
-        self.tables.share(client, address, alias, frame);
+        self.tables.share(client, address, alias, uses.page, frame);
         Ok(())
     }
 
@@ -195,7 +196,7 @@ impl<const W: usize> BareZone<W> {
         if uses.maps == 1 && uses.pins != 0 {
             return Err(ZoneError::Pinned);
         }
-        self.tables.unmap(client, address, frame);
+        self.tables.unmap(client, address, uses.page, frame);
         Ok(())
     }
 
@@ -213,10 +214,11 @@ impl<const W: usize> BareZone<W> {
         if !self.tables.names_page(&address) {
             return Err(ZoneError::Unmapped);
         }
-        if self.tables.uses_at(&address).pins == 255 {
+        let uses = self.tables.uses_at(&address);
+        if uses.pins == 255 {
             return Err(ZoneError::PinFull);
         }
-        self.tables.pin(client, address);
+        self.tables.pin(client, address, uses.page);
         Ok(())
     }
 
@@ -233,10 +235,11 @@ impl<const W: usize> BareZone<W> {
         if !self.tables.names_page(&address) {
             return Err(ZoneError::Unmapped);
         }
-        if self.tables.uses_at(&address).pins == 0 {
+        let uses = self.tables.uses_at(&address);
+        if uses.pins == 0 {
             return Err(ZoneError::NotPinned);
         }
-        self.tables.unpin(client, address);
+        self.tables.unpin(client, address, uses.page);
         Ok(())
     }
 

@@ -1,4 +1,4 @@
-use Rattle.zone_core.proofs.EachCall.{refusals_agree, answers_agree, same_after}
+use Rattle.zone_core.proofs.Calls.{refusals_agree, answers_agree, same_after}
 use Rattle.zone_core.proofs.agreement.calls_agree.Goals as goal
 
 pub returns-clause-refused : goal.returns-clause-refused

@@ -1,5 +1,5 @@
 use Rattle.std.proofs.Common.{◌∙◌, ℕ, ap, sym, arith}
-use Rattle.std.specs.Prelude.{slice_set, unwrap_or}
+use Rattle.std.specs.Prelude.{is_some, slice_set, unwrap_or}
 use Rattle.state_core.specs.Mapping.{placed}
 use Rattle.state_core.proofs.Facts.{spare}
 use Rattle.state_core.proofs.Finding.{some_lowest, unused_is}
@@ -8,6 +8,7 @@ use Rattle.zone_tables.proofs.Facts.{is_sound, Becomes}
 use Rattle.zone_tables.proofs.FreshPage.{Placing, place_holds}
 use Rattle.zone_tables.proofs.ListedAddresses.{count_none, none_left}
 use Rattle.zone_tables.proofs.SearchesAndCounts.{free_seen}
+use Rattle.zone_tables.proofs.Tables.{placement_seen}
 use Rattle.zone_tables.proofs.zone.ZoneTables.place.Given.{Over}
 use Rattle.zone_tables.proofs.zone.ZoneTables.place.Goals as goal
 use Rattle.zone_tables.proofs.zone.ZoneTables.place.Goals.{After-note}
@@ -34,10 +35,15 @@ pub fill-requires : goal.fill-requires
 fill-requires g c =
     free_seen c.self.inside.frames.states c.args.self.now (is_sound c.self.view_is c.self.invariant).frames c.args.frame c.requires.within ∙ c.requires.free
 
-pub put-requires : goal.put-requires
-put-requires g c =
+pub add-requires-clause-within : goal.add-requires-clause-within
+add-requires-clause-within g c =
     let unused = unused_is c.args.self.now c.unused_page-page.result c.unused_page-page.ensures in
     omega (arith, unused.0, (is_sound c.self.view_is c.self.invariant).notes.count)
+
+pub add-requires-clause-unused : goal.add-requires-clause-unused
+add-requires-clause-unused g c =
+    let unused = unused_is c.args.self.now c.unused_page-page.result c.unused_page-page.ensures in
+    ap is_some (placement_seen c.self.inside c.args.self.now c.self.view_is c.unused_page-page.result ∙ unused.1)
 
 placing : {g : Over} (c : After-note g) → Placing c.self.inside c.args.self.now c.args.client c.args.address c.args.unmovable c.unused_page-page.result c.args.frame c.set.new.self c.note.new.self
 placing c =
@@ -50,11 +56,11 @@ placing c =
       history_is = c.note.ensures;
     }
 
-fresh : {g : Over} (c : After-note g) → Becomes (record c.self.inside { frames = c.fill.new.self; tables = c.set.new.self; words = c.blank.new.self; notes = c.put.new.self; history = c.note.new.self })
+fresh : {g : Over} (c : After-note g) → Becomes (record c.self.inside { frames = c.fill.new.self; tables = c.set.new.self; words = c.blank.new.self; notes = c.add.new.self; history = c.note.new.self })
     (placed c.args.self.now c.args.client c.args.address c.args.unmovable c.unused_page-page.result c.args.frame)
 fresh c =
     place_holds c.self.inside c.args.self.now c.args.client c.args.address c.args.unmovable c.unused_page-page.result c.args.frame c.set.new.self c.note.new.self (placing c)
-    c.fill.ensures.page c.blank.ensures.blank (c.put.ensures ∙ ap (slice_set c.self.inside.notes c.unused_page-page.result) c.fresh.ensures)
+    c.fill.ensures.page c.blank.ensures.blank (c.add.ensures ∙ ap (slice_set c.self.inside.notes c.unused_page-page.result) c.fresh.ensures)
 
 pub invariant_of-self : goal.invariant_of-self
 invariant_of-self g c = (fresh c).0

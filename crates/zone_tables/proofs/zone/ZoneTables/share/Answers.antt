@@ -17,31 +17,31 @@ use Rattle.zone_tables.proofs.zone.ZoneTables.share.Goals.{After-note}
 
 pub with_address-requires : goal.with_address-requires
 with_address-requires g c =
-    let seen = note_seen c.self.view_is (is_sound c.self.view_is c.self.invariant) c.page_at-page.ensures.in_use c.get-note.ensures in
-    omega (arith, c.requires.few, ap (λ (o : Option ℕ). maps c.args.self.now.records (unwrap_or o 0)) c.page_at-page.ensures.named, seen.fits.maps)
+    let seen = note_seen c.self.view_is (is_sound c.self.view_is c.self.invariant) c.requires.in_use c.get-note.ensures in
+    omega (arith, c.requires.few, ap (λ (o : Option ℕ). maps c.args.self.now.records (unwrap_or o 0)) c.requires.named, seen.fits.maps)
 
-can : {g : Over} (c : After-note g) → CanShare c.args.self.now c.args.address c.args.alias c.page_at-page.result c.args.frame
+can : {g : Over} (c : After-note g) → CanShare c.args.self.now c.args.address c.args.alias c.args.page c.args.frame
 can c =
     record {
       valid = (is_sound c.self.view_is c.self.invariant).valid;
       spare = spare c.args.self.now c.requires.room;
-      named = c.page_at-page.ensures.named;
-      at = page_stands c.args.self.now c.args.address (At c.args.frame) c.page_at-page.result c.page_at-page.ensures.named c.requires.frame;
+      named = c.requires.named;
+      at = page_stands c.args.self.now c.args.address (At c.args.frame) c.args.page c.requires.named c.requires.frame;
       range = c.set.ensures.range;
       vacant = c.requires.vacant;
-      few = omega (arith, c.requires.few, ap (λ (o : Option ℕ). maps c.args.self.now.records (unwrap_or o 0)) c.page_at-page.ensures.named);
+      few = omega (arith, c.requires.few, ap (λ (o : Option ℕ). maps c.args.self.now.records (unwrap_or o 0)) c.requires.named);
     }
 
-known : {g : Over} (c : After-note g) → Noting c.self.inside c.args.self.now c.page_at-page.result (Share c.args.client c.args.address c.args.alias) c.get-note.result (record c.get-note.result { maps = c.get-note.result.maps + 1 }) c.self.inside.frames c.set.new.self c.note.new.self
+known : {g : Over} (c : After-note g) → Noting c.self.inside c.args.self.now c.args.page (Share c.args.client c.args.address c.args.alias) c.get-note.result (record c.get-note.result { maps = c.get-note.result.maps + 1 }) c.self.inside.frames c.set.new.self c.note.new.self
 known c =
-    sharing c.self.inside c.args.self.now (is_sound c.self.view_is c.self.invariant) c.self.view_is c.args.client c.args.address c.args.alias c.page_at-page.result c.args.frame (can c)
+    sharing c.self.inside c.args.self.now (is_sound c.self.view_is c.self.invariant) c.self.view_is c.args.client c.args.address c.args.alias c.args.page c.args.frame (can c)
     c.get-note.result c.set.new.self c.note.new.self c.get-note.ensures c.set.ensures.set c.set.ensures.frames c.note.ensures
 
 pub invariant_of-self : goal.invariant_of-self
-invariant_of-self g c = (noting_holds (known c) (c.revise.ensures ∙ ap (slice_set c.self.inside.notes c.page_at-page.result) c.with_address.ensures)).0
+invariant_of-self g c = (noting_holds (known c) (c.revise.ensures ∙ ap (slice_set c.self.inside.notes c.args.page) c.with_address.ensures)).0
 
 pub returns-clause-step : goal.returns-clause-step
-returns-clause-step g c = (noting_holds (known c) (c.revise.ensures ∙ ap (slice_set c.self.inside.notes c.page_at-page.result) c.with_address.ensures)).1
+returns-clause-step g c = (noting_holds (known c) (c.revise.ensures ∙ ap (slice_set c.self.inside.notes c.args.page) c.with_address.ensures)).1
 
 pub returns-clause-valid : goal.returns-clause-valid
 returns-clause-valid g c = (invariant_of-self g c).valid
@@ -49,23 +49,23 @@ returns-clause-valid g c = (invariant_of-self g c).valid
 pub set-requires-clause-within : goal.set-requires-clause-within
 set-requires-clause-within g c =
     let sound = is_sound c.self.view_is c.self.invariant in
-    let at = page_stands c.args.self.now c.args.address (At c.args.frame) c.page_at-page.result c.page_at-page.ensures.named c.requires.frame in
-    omega (arith, frame_within c.args.self.now sound.valid c.page_at-page.result (At c.args.frame) at, sound.tables)
+    let at = page_stands c.args.self.now c.args.address (At c.args.frame) c.args.page c.requires.named c.requires.frame in
+    omega (arith, frame_within c.args.self.now sound.valid c.args.page (At c.args.frame) at, sound.tables)
 
 pub set-requires-clause-room : goal.set-requires-clause-room
 set-requires-clause-room g c =
     let sound = is_sound c.self.view_is c.self.invariant in
-    let at = page_stands c.args.self.now c.args.address (At c.args.frame) c.page_at-page.result c.page_at-page.ensures.named c.requires.frame in
-    omega (arith, c.requires.few, ap (λ (o : Option ℕ). maps c.args.self.now.records (unwrap_or o 0)) c.page_at-page.ensures.named, count_names c.self.inside.tables.entries c.args.self.now sound.entries sound.valid c.page_at-page.result c.args.frame at)
+    let at = page_stands c.args.self.now c.args.address (At c.args.frame) c.args.page c.requires.named c.requires.frame in
+    omega (arith, c.requires.few, ap (λ (o : Option ℕ). maps c.args.self.now.records (unwrap_or o 0)) c.requires.named, count_names c.self.inside.tables.entries c.args.self.now sound.entries sound.valid c.args.page c.args.frame at)
 
 pub revise-requires-clause-used : goal.revise-requires-clause-used
-revise-requires-clause-used g c = use_seen c.self.inside c.self.view_is c.page_at-page.result c.page_at-page.ensures.in_use
+revise-requires-clause-used g c = use_seen c.self.inside c.self.view_is c.args.page c.requires.in_use
 
 pub revise-requires-clause-stays : goal.revise-requires-clause-stays
-revise-requires-clause-stays g c = note_stays c.self.view_is c.self.invariant c.page_at-page.result c.page_at-page.ensures.in_use c.get-note.ensures c.with_address.result (ap (λ (n : PageNote). n.placement) c.with_address.ensures)
+revise-requires-clause-stays g c = note_stays c.self.view_is c.self.invariant c.args.page c.requires.in_use c.get-note.ensures c.with_address.result (ap (λ (n : PageNote). n.placement) c.with_address.ensures)
 
 pub set-requires-clause-resting : goal.set-requires-clause-resting
 set-requires-clause-resting g c =
     let sound = is_sound c.self.view_is c.self.invariant in
-    let at = page_stands c.args.self.now c.args.address (At c.args.frame) c.page_at-page.result c.page_at-page.ensures.named c.requires.frame in
-    page_rests c.self.inside.tables.entries c.args.self.now sound.entries sound.valid c.page_at-page.result c.args.frame at
+    let at = page_stands c.args.self.now c.args.address (At c.args.frame) c.args.page c.requires.named c.requires.frame in
+    page_rests c.self.inside.tables.entries c.args.self.now sound.entries sound.valid c.args.page c.args.frame at

@@ -8,30 +8,30 @@ use Rattle.zone_tables.proofs.zone.ZoneTables.unmap.Goals as goal
 
 pub unmap_last-requires : goal.unmap_last-requires
 unmap_last-requires g c =
-    let seen = note_seen c.self.view_is (is_sound c.self.view_is c.self.invariant) c.page_at-page.ensures.in_use c.get.ensures in
-    let at = page_stands c.args.self.now c.args.address (At c.args.frame) c.page_at-page.result c.page_at-page.ensures.named c.requires.frame in
-    (omega arith, (c.requires.room, (c.page_at-page.ensures.named, (at, sym seen.fits.maps ∙ c.if-get-eq1.true))))
+    let seen = note_seen c.self.view_is (is_sound c.self.view_is c.self.invariant) c.requires.in_use c.get.ensures in
+    let at = page_stands c.args.self.now c.args.address (At c.args.frame) c.args.page c.requires.named c.requires.frame in
+    (omega arith, (c.requires.room, (c.requires.named, (at, sym seen.fits.maps ∙ c.if-get-eq1.true))))
 
 pub unmap_one-requires : goal.unmap_one-requires
 unmap_one-requires g c =
-    let seen = note_seen c.self.view_is (is_sound c.self.view_is c.self.invariant) c.page_at-page.ensures.in_use c.get.ensures in
-    let at = page_stands c.args.self.now c.args.address (At c.args.frame) c.page_at-page.result c.page_at-page.ensures.named c.requires.frame in
-    (omega arith, (c.requires.room, (c.page_at-page.ensures.named, ((c.args.frame, at), λ one. c.if-get-eq1.false (seen.fits.maps ∙ one)))))
+    let seen = note_seen c.self.view_is (is_sound c.self.view_is c.self.invariant) c.requires.in_use c.get.ensures in
+    let at = page_stands c.args.self.now c.args.address (At c.args.frame) c.args.page c.requires.named c.requires.frame in
+    (omega arith, (c.requires.room, (c.requires.named, ((c.args.frame, at), λ one. c.if-get-eq1.false (seen.fits.maps ∙ one)))))
 
 pub returns-then-get-eq1-clause-step : goal.returns-then-get-eq1-clause-step
 returns-then-get-eq1-clause-step g c =
     let sound = is_sound c.self.view_is c.self.invariant in
-    let seen = note_seen c.self.view_is sound c.page_at-page.ensures.in_use c.get.ensures in
-    let at = page_stands c.args.self.now c.args.address (At c.args.frame) c.page_at-page.result c.page_at-page.ensures.named c.requires.frame in
+    let seen = note_seen c.self.view_is sound c.requires.in_use c.get.ensures in
+    let at = page_stands c.args.self.now c.args.address (At c.args.frame) c.args.page c.requires.named c.requires.frame in
     c.unmap_last.ensures.step
-    ∙ sym (unmapped_last c.args.self.now c.args.client c.args.address c.page_at-page.result c.args.frame
-    (record { valid = sound.valid; spare = spare c.args.self.now c.requires.room; named = c.page_at-page.ensures.named; at = at }) (sym seen.fits.maps ∙ c.if-get-eq1.true))
+    ∙ sym (unmapped_last c.args.self.now c.args.client c.args.address c.args.page c.args.frame
+    (record { valid = sound.valid; spare = spare c.args.self.now c.requires.room; named = c.requires.named; at = at }) (sym seen.fits.maps ∙ c.if-get-eq1.true))
 
 pub returns-else-get-eq1-clause-step : goal.returns-else-get-eq1-clause-step
 returns-else-get-eq1-clause-step g c =
     let sound = is_sound c.self.view_is c.self.invariant in
-    let seen = note_seen c.self.view_is sound c.page_at-page.ensures.in_use c.get.ensures in
-    let at = page_stands c.args.self.now c.args.address (At c.args.frame) c.page_at-page.result c.page_at-page.ensures.named c.requires.frame in
+    let seen = note_seen c.self.view_is sound c.requires.in_use c.get.ensures in
+    let at = page_stands c.args.self.now c.args.address (At c.args.frame) c.args.page c.requires.named c.requires.frame in
     c.unmap_one.ensures.step
-    ∙ sym (unmapped_still c.args.self.now c.args.client c.args.address c.page_at-page.result c.args.frame
-    (record { valid = sound.valid; spare = spare c.args.self.now c.requires.room; named = c.page_at-page.ensures.named; at = at }) (λ one. c.if-get-eq1.false (seen.fits.maps ∙ one)))
+    ∙ sym (unmapped_still c.args.self.now c.args.client c.args.address c.args.page c.args.frame
+    (record { valid = sound.valid; spare = spare c.args.self.now c.requires.room; named = c.requires.named; at = at }) (λ one. c.if-get-eq1.false (seen.fits.maps ∙ one)))

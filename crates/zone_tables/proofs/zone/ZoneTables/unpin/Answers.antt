@@ -16,33 +16,33 @@ use Rattle.zone_tables.proofs.zone.ZoneTables.unpin.Goals.{After-note}
 
 pub without_pin-note-requires : goal.without_pin-note-requires
 without_pin-note-requires g c =
-    let seen = note_seen c.self.view_is (is_sound c.self.view_is c.self.invariant) c.page_at-page.ensures.in_use c.get.ensures in
-    omega (arith, c.requires.some, ap (λ (o : Option ℕ). pins c.args.self.now.records (unwrap_or o 0)) c.page_at-page.ensures.named, seen.fits.pins)
+    let seen = note_seen c.self.view_is (is_sound c.self.view_is c.self.invariant) c.requires.in_use c.get.ensures in
+    omega (arith, c.requires.some, ap (λ (o : Option ℕ). pins c.args.self.now.records (unwrap_or o 0)) c.requires.named, seen.fits.pins)
 
 pub say_movable-requires : goal.say_movable-requires
 say_movable-requires g c frame at =
     let sound = is_sound c.self.view_is c.self.invariant in
-    let seen = note_seen c.self.view_is sound c.page_at-page.ensures.in_use c.get.ensures in
-    ap is_holding_state (held_by c.self.inside.frames.states c.args.self.now sound.frames c.page_at-page.result frame (sym seen.placement ∙ sym (ap (λ (n : PageNote). n.placement) c.without_pin-note.ensures) ∙ at))
+    let seen = note_seen c.self.view_is sound c.requires.in_use c.get.ensures in
+    ap is_holding_state (held_by c.self.inside.frames.states c.args.self.now sound.frames c.args.page frame (sym seen.placement ∙ sym (ap (λ (n : PageNote). n.placement) c.without_pin-note.ensures) ∙ at))
 
-known : {g : Over} (c : After-note g) → Noting c.self.inside c.args.self.now c.page_at-page.result (Unpin c.args.client c.args.address) c.get.result (record c.get.result { pins = c.get.result.pins - 1 }) c.say_movable.new.frames c.self.inside.tables c.note.new.self
+known : {g : Over} (c : After-note g) → Noting c.self.inside c.args.self.now c.args.page (Unpin c.args.client c.args.address) c.get.result (record c.get.result { pins = c.get.result.pins - 1 }) c.say_movable.new.frames c.self.inside.tables c.note.new.self
 known c =
-    unpinning c.self.inside c.args.self.now (is_sound c.self.view_is c.self.invariant) c.self.view_is c.page_at-page.result c.page_at-page.ensures.in_use c.get.result c.get.ensures
-    c.args.client c.args.address c.page_at-page.ensures.named (spare c.args.self.now c.requires.room) c.say_movable.new.frames c.note.new.self
+    unpinning c.self.inside c.args.self.now (is_sound c.self.view_is c.self.invariant) c.self.view_is c.args.page c.requires.in_use c.get.result c.get.ensures
+    c.args.client c.args.address c.requires.named (spare c.args.self.now c.requires.room) c.say_movable.new.frames c.note.new.self
     (c.say_movable.ensures ∙ ap (λ (n : PageNote). record c.self.inside.frames { movable = movable_by c.self.inside.frames.movable n }) c.without_pin-note.ensures)
     c.note.ensures
 
 pub invariant_of-self : goal.invariant_of-self
-invariant_of-self g c = (noting_holds (known c) (c.revise.ensures ∙ ap (slice_set c.self.inside.notes c.page_at-page.result) c.without_pin-note.ensures)).0
+invariant_of-self g c = (noting_holds (known c) (c.revise.ensures ∙ ap (slice_set c.self.inside.notes c.args.page) c.without_pin-note.ensures)).0
 
 pub returns-clause-step : goal.returns-clause-step
-returns-clause-step g c = (noting_holds (known c) (c.revise.ensures ∙ ap (slice_set c.self.inside.notes c.page_at-page.result) c.without_pin-note.ensures)).1
+returns-clause-step g c = (noting_holds (known c) (c.revise.ensures ∙ ap (slice_set c.self.inside.notes c.args.page) c.without_pin-note.ensures)).1
 
 pub returns-clause-valid : goal.returns-clause-valid
 returns-clause-valid g c = (invariant_of-self g c).valid
 
 pub revise-requires-clause-used : goal.revise-requires-clause-used
-revise-requires-clause-used g c = use_seen c.self.inside c.self.view_is c.page_at-page.result c.page_at-page.ensures.in_use
+revise-requires-clause-used g c = use_seen c.self.inside c.self.view_is c.args.page c.requires.in_use
 
 pub revise-requires-clause-stays : goal.revise-requires-clause-stays
-revise-requires-clause-stays g c = note_stays c.self.view_is c.self.invariant c.page_at-page.result c.page_at-page.ensures.in_use c.get.ensures c.without_pin-note.result (ap (λ (n : PageNote). n.placement) c.without_pin-note.ensures)
+revise-requires-clause-stays g c = note_stays c.self.view_is c.self.invariant c.args.page c.requires.in_use c.get.ensures c.without_pin-note.result (ap (λ (n : PageNote). n.placement) c.without_pin-note.ensures)
