@@ -15,7 +15,7 @@ use Rattle.frame_core.specs.Moves.{isolated, out}
 use Rattle.frame_core.specs.Page.{IsolatedPage}
 use Rattle.frame_core.specs.Serials.{serials_of}
 use Rattle.state_core.specs.declared.call.ZoneCall.{ZoneCall}
-use Rattle.state_core.specs.declared.call.ZoneCall.TheVariants.{Map, MapAt, Load, Store, Share, Unmap, Pin, Unpin, TakeOrder, GiveOrder, Mark, Unmark}
+use Rattle.state_core.specs.declared.call.ZoneCall.TheVariants.{Map, MapAt, Store, Unmap}
 use Rattle.state_core.specs.declared.error.ZoneError.{ZoneError}
 use Rattle.state_core.specs.declared.error.ZoneError.TheVariants.{Range, JournalFull, Occupied, NoFrame}
 use Rattle.machine_core.specs.declared.hand.Hand.TheVariants as hand
@@ -42,7 +42,7 @@ use Rattle.state_core.specs.HandingOut.{block_taken}
 use Rattle.machine_core.specs.World.{WorldState, IsOrderly, isolated_by}
 use Rattle.state_core.specs.ZoneState.{ZoneState, frame_count, has_room, is_free, placement_at, lowest_free_frame, lowest_unused_page}
 use Rattle.state_core.proofs.Finding.{some_lowest, unused_left, unused_is}
-use Rattle.state_core.proofs.Carried.{own_begun, own_loaded, own_stored, own_placed, own_isolated, own_fresh, own_shared, own_unmapped, own_pinned, own_unpinned, own_block_taken, own_block_given, own_marked, own_unmarked}
+use Rattle.state_core.proofs.Carried.{own_begun, own_loaded, own_stored, own_placed, own_isolated, own_fresh, own_unmapped}
 use Rattle.state_core.proofs.Facts.{not_none}
 use Rattle.machine_core.proofs.Orderly.{orderly_with_zone, orderly_round_opened, orderly_noted, orderly_isolated}
 
@@ -284,7 +284,7 @@ module _ (zone next : ZoneState) (scan : ScanSeat) (ends : EndSeat) (is_open : B
   pub carried_taken : {T : Type 0} (first : T → ℕ) (order : ℕ) (result : Result T ZoneError) → IsValidZone next → OnErr result (next ≡ zone) → IfOk result (λ block. next ≡ block_taken zone (first block) order) → IsCarried next scan ends is_open list held capacity
   carried_taken first order (Err error) law err ok = unchanged err
   carried_taken first order (Ok block) law err ok =
-      changed (block_taken zone (first block) order) ok law (record { same_out = refl; migrate = refl; free = refl; blocks = refl }) (own_block_taken zone (first block) order)
+      changed (block_taken zone (first block) order) ok law (record { same_out = refl; migrate = refl; free = refl; blocks = refl }) (λ p own. record { own = own.own; same = own.same })
 
   pub carried_read : {T : Type 0} (kept : Type 0) (client : ℕ) (address : Address) (from count : ℕ) (result : Result T ZoneError) → IsValidZone next → OnErr result ((next ≡ zone) × kept) → OnOk result (next ≡ loaded_all zone client address from count) → IsCarried next scan ends is_open list held capacity
   carried_read kept client address from count (Err error) law err ok = unchanged err.0
