@@ -16,7 +16,7 @@ use std::alloc::{AllocError, Global};
 ///
 /// Refused as Range unless there are 1 to 4 senders and a `cap` of 1 to 64, else as Memory where there isn't enough.
 pub fn done_open<R>(
-    _rt: &R,
+    rt: &R,
     alloc: Global,
     senders: usize,
     cap: usize,
@@ -26,10 +26,7 @@ pub fn done_open<R>(
     ensures senders { IfOk result (λ ends. vec_len ends.0 ≡ senders) }
     ensures fresh { IfOk result (λ ends. (number : ℕ) → number < senders → slice_get ends.0.items number ≡ Some (record { queue = ends.1.queue; most = 1; number = number; sent = []; marked = false; closed = false })) }
 {
-    if senders == 0 || senders > 4 || cap == 0 || cap > 64 {
-        return Err(HandError::Range);
-    }
-    opened(alloc, senders, cap, 1).map_err(|_| HandError::Memory)
+    done_open_in_batches(rt, alloc, senders, cap, 1)
 }
 
 /// Opens a queue as `done_open` does, with room for `cap` copies in batches of at most `most` copies: for as many batches as keep it

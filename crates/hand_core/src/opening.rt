@@ -21,7 +21,7 @@ pub type Takers = Vec<Taker>;
 ///
 /// Refused as Range unless there are 1 to 4 takers and a `cap` of 1 to 64, else as Memory where there isn't enough.
 pub fn open<R>(
-    _rt: &R,
+    rt: &R,
     alloc: Global,
     base: Serial,
     takers: usize,
@@ -32,10 +32,7 @@ pub fn open<R>(
     ensures takers { IfOk result (λ ends. vec_len ends.1 ≡ takers) }
     ensures fresh { IfOk result (λ ends. All (λ t. t ≡ record { hand_over = ends.0.hand_over; taken = []; in_hand = []; ended = false }) ends.1.items) }
 {
-    if takers == 0 || takers > 4 || cap == 0 || cap > 64 {
-        return Err(HandError::Range);
-    }
-    opened(alloc, base, takers, cap, 1).map_err(|_| HandError::Memory)
+    open_in_batches(rt, alloc, base, takers, cap, 1)
 }
 
 /// Opens a hand-over as `open` does, with room for `cap` pages in batches of at most `most` pages: for as many batches as keep it
