@@ -1,7 +1,7 @@
 use crate::page_queue::{Gets, Known, Note, Ordered};
 use crate::patience;
 use arrayvec::IntoIter;
-use crossbeam_channel::{Pass, RuledReceiver};
+use crossbeam_channel::{Pass, RecvError, RuledReceiver};
 use frame_core::Isolated;
 use std::alloc::Global;
 use std::marker::Model;
@@ -41,16 +41,8 @@ pub enum Took {
     Gone,
 }
 
-// What was received from the queue.
-#[derive(Clone, Copy)]
-enum PageMessage {
-    Pages,
-    Mark,
-    Nothing,
-}
-
 impl Taker {
-    ghost use Rattle.std.specs.Prelude.{◌≡◌, ◌≢◌, ◌++◌, ◌∷◌, ◌↔◌, [], true, false, IfSome, IfNone};
+    ghost use Rattle.std.specs.Prelude.{◌≡◌, ◌≢◌, ◌++◌, ◌∷◌, ◌↔◌, [], true, false, IfSome, IfNone, OnErr};
     ghost use Rattle.frame_core.specs.Serials.{IsRising};
     ghost use Rattle.hand_core.specs.PageEnds.{IsAnswered, off};
 
@@ -64,10 +56,11 @@ impl Taker {
             if let Some(page) = self.next_in_hand() {
                 return Took::Page(page);
             }
-            match self.receive(rt) {
-                PageMessage::Pages => {}
-                PageMessage::Mark => return Took::End,
-                PageMessage::Nothing => return Took::Gone,
+            if self.receive(rt).is_err() {
+                return Took::Gone;
+            }
+            if self.ended {
+                return Took::End;
             }
         }
         unreachable!()
@@ -91,12 +84,12 @@ impl Taker {
     }
 
     // Receives the message at the front of the queue, with no page in hand.
-    fn receive<R: Wait>(&mut self, rt: &R) -> PageMessage
+    fn receive<R: Wait>(&mut self, rt: &R) -> Result<(), RecvError>
         requires going { self.old.ended ≡ false }
         requires empty { self.old.in_hand ≡ [] }
-        ensures pages { result ≡ PageMessage.Pages → self.new ≡ record self.old { in_hand = self.new.in_hand } }
-        ensures mark { result ≡ PageMessage.Mark → self.new ≡ record self.old { ended = true } }
-        ensures nothing { result ≡ PageMessage.Nothing → self.new ≡ self.old }
+        ensures pages { self.new.ended ≡ false → self.new ≡ record self.old { in_hand = self.new.in_hand } }
+        ensures mark { self.new.ended ≡ true → self.new ≡ record self.old { ended = true } }
+        ensures err { OnErr result (self.new ≡ self.old) }
         ensures rising { IsRising (off self.new) }
     {
         let Taker {
@@ -105,14 +98,10 @@ impl Taker {
             from,
             pass,
         } = self;
-        let Ok(note) = patience::receive::<Gets, _, _, _, R>(rt, from, pass) else {
-            return PageMessage::Nothing;
-        };
-        if let Note::Pages(pages) = note {
-            *hand = pages.into_iter();
-            return PageMessage::Pages;
+        match patience::receive::<Gets, _, _, _, R>(rt, from, pass)? {
+            Note::Pages(pages) => *hand = pages.into_iter(),
+            Note::Mark => *ended = true,
         }
-        *ended = true;
-        PageMessage::Mark
+        Ok(())
     }
 }

@@ -1,4 +1,4 @@
-use Rattle.std.proofs.Common.{◌≡◌, ◌≢◌, ◌∷◌, [], true, List, ap, sym, refl, ◌∙◌}
+use Rattle.std.proofs.Common.{rules, ◌≡◌, ◌≢◌, ◌∷◌, [], true, List, ap, sym, refl, ◌∙◌}
 use Rattle.frame_core.specs.Page.{IsolatedPage}
 use Rattle.hand_core.specs.PageEnds.{Taker}
 use Rattle.hand_core.proofs.taker.Taker.take.Goals as goal
@@ -14,19 +14,24 @@ empty_before (p ∷ in_hand) before now is held empty = absurd (still (sym empty
     other : before.in_hand ≢ []
     other e = still (sym e ∙ is)
 
-pub returns-in-Mark-clause-took : goal.returns-in-Mark-clause-took
-returns-in-Mark-clause-took g c =
-    let before = c.args.self.now in
-    let old = c.loop.invariant in
-    let none = c.in_default.ensures.none in
-    let empty : before.in_hand ≡ [] = empty_before before.in_hand before c.loop.self refl old.held none.1 in
-    let same = none.0 ∙ old.same ∙ ap (λ l. record before { in_hand = l }) (none.1 ∙ sym empty) in
-    (c.in-Mark.ensures.mark refl ∙ ap (λ (t : Taker). record t { ended = true }) same, empty)
+-- with an empty hand the taker is as before the loop
+same_before : (before now : Taker) → now ≡ record before { in_hand = now.in_hand } → (before.in_hand ≢ [] → now ≡ before) → now.in_hand ≡ [] → (now ≡ before) × (before.in_hand ≡ [])
+same_before before now same held empty =
+    let was = empty_before before.in_hand before now refl held empty in
+    (same ∙ ap (λ l. record before { in_hand = l }) (empty ∙ sym was), was)
 
-pub returns-in-Nothing-clause-took : goal.returns-in-Nothing-clause-took
-returns-in-Nothing-clause-took g c =
-    let before = c.args.self.now in
+pub returns-then-is_err-clause-took : goal.returns-then-is_err-clause-took
+returns-then-is_err-clause-took g c =
     let old = c.loop.invariant in
     let none = c.in_default.ensures.none in
-    let empty : before.in_hand ≡ [] = empty_before before.in_hand before c.loop.self refl old.held none.1 in
-    (c.in-Nothing.ensures.nothing refl ∙ none.0 ∙ old.same ∙ ap (λ l. record before { in_hand = l }) (none.1 ∙ sym empty), empty)
+    let before = same_before c.args.self.now c.loop.self old.same old.held none.1 in
+    let gone : c.receive.new.self ≡ c.next_in_hand.new.self = search rules in
+    (gone ∙ none.0 ∙ before.0, before.1)
+
+pub returns-then-self-clause-took : goal.returns-then-self-clause-took
+returns-then-self-clause-took g c =
+    let old = c.loop.invariant in
+    let none = c.in_default.ensures.none in
+    let before = same_before c.args.self.now c.loop.self old.same old.held none.1 in
+    let ended : c.receive.new.self.ended ≡ true = sym (ap (λ (t : Taker). t.ended) c.self.view_is) ∙ c.if-self.true in
+    (c.receive.ensures.mark ended ∙ ap (λ (t : Taker). record t { ended = true }) (none.0 ∙ before.0), before.1)
