@@ -105,9 +105,6 @@ impl DoneSender {
             ..
         } = self;
         let message = Message::Mark(*number);
-        if patience::send::<Sends, _, _, _, R>(rt, to, pass, message).is_err() {
-            return Err(Gone);
-        }
-        Ok(())
+        patience::send::<Sends, _, _, _, R>(rt, to, pass, message).map_err(|_| Gone)
     }
 }

@@ -127,9 +127,7 @@ impl Giver {
             pass,
             ..
         } = self;
-        if patience::send::<Puts, _, _, _, R>(rt, to, pass, Note::Mark).is_err() {
-            return Err(Gone);
-        }
+        patience::send::<Puts, _, _, _, R>(rt, to, pass, Note::Mark).map_err(|_| Gone)?;
         *marks += 1;
         Ok(())
     }
