@@ -1,7 +1,7 @@
-ghost use Rattle.std.specs.Prelude.{◌≡◌, ◌<◌, ◌++◌, ◌∷◌, List, []};
+ghost use Rattle.std.specs.Prelude.{◌≡◌, ◌<◌, ◌++◌, ◌∷◌, List, [], true, false, IfSome, IfNone, OnOk, OnErr};
 ghost use Rattle.std.specs.List.{list_all};
 ghost use Rattle.hand_core.specs.CopyQueue.{sender_of};
-ghost use Rattle.hand_core.specs.CopyEnds.{copies_in_one};
+ghost use Rattle.hand_core.specs.CopyEnds.{copies_in_one, copies_taken, has_ended, copy_answered, copy_tried, IsEndInTime, IsTriedInTime};
 ghost use Rattle.hand_core.specs.CopyInvariants.{marks_of_four};
 
 use crate::copy_queue::{Account, Message, Receives, Turns};
@@ -48,9 +48,6 @@ pub enum Came {
 }
 
 impl DoneTaker {
-    ghost use Rattle.std.specs.Prelude.{◌≡◌, ◌++◌, ◌∷◌, [], true, false, IfSome, IfNone, OnOk, OnErr};
-    ghost use Rattle.hand_core.specs.CopyEnds.{copies_taken, has_ended, copy_answered, copy_tried, IsEndInTime, IsTriedInTime};
-
     /// Takes the next copy, and waits for it. Once the mark of every sender was received, the answer is the end. Nothing
     /// more may be taken afterwards.
     pub fn take<R: Wait>(&mut self, rt: &R) -> Came

@@ -1,4 +1,4 @@
-ghost use Rattle.std.specs.Prelude.{◌≡◌, ◌+◌, ◌^◌, ◌≤◌, length};
+ghost use Rattle.std.specs.Prelude.{◌≡◌, ◌+◌, ◌^◌, ◌<◌, ◌≤◌, ◌++◌, ◌∷◌, [], true, false, length, OnOk, OnErr, IfErr};
 ghost use Rattle.frame_core.specs.Serials.{HasSerialsFrom};
 
 use crate::batch::Batch;
@@ -42,9 +42,6 @@ impl Model for Giver {
 }
 
 impl Giver {
-    ghost use Rattle.std.specs.Prelude.{◌≡◌, ◌+◌, ◌<◌, ◌≤◌, ◌++◌, ◌∷◌, [], true, false, length, OnOk, OnErr, IfErr};
-    ghost use Rattle.frame_core.specs.Serials.{HasSerialsFrom};
-
     /// Puts a page at the back of the queue, and waits for room. Its serial has to be the next one, and the giver not
     /// closed. Where every taker is gone, the page is handed back.
     pub fn give<R: Wait>(&mut self, rt: &R, page: Isolated) -> Result<(), Isolated>
