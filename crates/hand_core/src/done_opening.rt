@@ -4,7 +4,7 @@ ghost use Rattle.crossbeam_channel.specs.Ends.{sends_on};
 ghost use Rattle.hand_core.specs.Queue.{name_of};
 ghost use Rattle.hand_core.specs.CopyQueue.{taker_account};
 
-use crate::batch::Batch;
+use crate::batch::{BATCH_CAPACITY, Batch};
 use crate::copy_queue::{Account, Makes, Message, Turns};
 use crate::done_sender::DoneSender;
 use crate::done_taker::DoneTaker;
@@ -47,7 +47,7 @@ pub fn done_open_in_batches<R>(
     ensures senders { IfOk result (λ ends. vec_len ends.0 ≡ senders) }
     ensures fresh { IfOk result (λ ends. (number : ℕ) → number < senders → slice_get ends.0.items number ≡ Some (record { queue = ends.1.queue; most = most; number = number; sent = []; marked = false; closed = false })) }
 {
-    if senders == 0 || senders > 4 || cap > 64 || most == 0 || most > 8 || most > cap {
+    if senders == 0 || senders > 4 || cap > 64 || most == 0 || most > BATCH_CAPACITY || most > cap {
         return Err(HandError::Range);
     }
     opened(alloc, senders, cap / most, most).map_err(|_| HandError::Memory)

@@ -4,6 +4,7 @@ ghost use Rattle.hand_core.specs.CopyQueue.{sender_of};
 ghost use Rattle.hand_core.specs.CopyEnds.{copies_in_one, copies_taken, has_ended, copy_answered, copy_tried, IsEndInTime, IsTriedInTime};
 ghost use Rattle.hand_core.specs.CopyInvariants.{marks_of_four};
 
+use crate::batch::BATCH_CAPACITY;
 use crate::copy_queue::{Account, Message, Receives, Turns};
 use crate::patience;
 use arrayvec::IntoIter;
@@ -19,7 +20,7 @@ pub struct DoneTaker {
     pub(crate) senders: usize,
     pub(crate) marked: [bool; 4],
     // The copies that were received and that no call has answered yet.
-    pub(crate) hand: IntoIter<Copied, 8>,
+    pub(crate) hand: IntoIter<Copied, BATCH_CAPACITY>,
     pub(crate) from: RuledReceiver<Message, Account, Turns, Global>,
     pub(crate) pass: Pass<Message, Account>,
 }
@@ -152,7 +153,7 @@ impl DoneTaker {
 }
 
 // Keeps the copies of a message in hand, which has to be empty, or notes whose mark it is.
-fn keep(marked: &mut [bool; 4], hand: &mut IntoIter<Copied, 8>, message: Message)
+fn keep(marked: &mut [bool; 4], hand: &mut IntoIter<Copied, BATCH_CAPACITY>, message: Message)
     requires sender { sender_of message < 4 }
     requires empty { hand.old ≡ [] }
     ensures marked { (came : List Message) → marked.old ≡ marks_of_four came → marked.new ≡ marks_of_four (came ++ message ∷ []) }

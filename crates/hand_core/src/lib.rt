@@ -23,7 +23,7 @@ mod rule;
 mod settling;
 mod taker;
 
-pub use batch::Batch;
+pub use batch::{BATCH_CAPACITY, Batch};
 pub use done_opening::{done_open, done_open_in_batches};
 pub use done_sender::DoneSender;
 pub use done_settling::done_settle;

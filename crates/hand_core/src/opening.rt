@@ -4,7 +4,7 @@ ghost use Rattle.crossbeam_channel.specs.Ends.{sends_on, receives_on};
 ghost use Rattle.hand_core.specs.Queue.{name_of};
 ghost use Rattle.hand_core.specs.PageQueue.{giver_knows};
 
-use crate::batch::Batch;
+use crate::batch::{BATCH_CAPACITY, Batch};
 use crate::error::HandError;
 use crate::giver::Giver;
 use crate::page_queue::{Known, Note, Ordered, Shares};
@@ -54,7 +54,7 @@ pub fn open_in_batches<R>(
     ensures takers { IfOk result (λ ends. vec_len ends.1 ≡ takers) }
     ensures fresh { IfOk result (λ ends. All (λ t. t ≡ record { hand_over = ends.0.hand_over; taken = []; in_hand = []; ended = false }) ends.1.items) }
 {
-    if takers == 0 || takers > 4 || cap > 64 || most == 0 || most > 8 || most > cap {
+    if takers == 0 || takers > 4 || cap > 64 || most == 0 || most > BATCH_CAPACITY || most > cap {
         return Err(HandError::Range);
     }
     opened(alloc, base, takers, cap / most, most).map_err(|_| HandError::Memory)

@@ -1,3 +1,4 @@
+use crate::batch::BATCH_CAPACITY;
 use crate::page_queue::{Gets, Known, Note, Ordered};
 use crate::patience;
 use arrayvec::IntoIter;
@@ -12,7 +13,7 @@ use std::sync::Wait;
 pub struct Taker {
     pub(crate) ended: bool,
     // The pages that were received and that no call has answered yet.
-    pub(crate) hand: IntoIter<Isolated, 8>,
+    pub(crate) hand: IntoIter<Isolated, BATCH_CAPACITY>,
     pub(crate) from: RuledReceiver<Note, Known, Ordered, Global>,
     pub(crate) pass: Pass<Note, Known>,
 }

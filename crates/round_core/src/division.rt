@@ -2,8 +2,7 @@
 
 ghost use Rattle.std.specs.Prelude.{◌<◌, ◌≤◌};
 
-/// How many pages a batch has at most.
-const MOST: usize = 8;
+use hand_core::BATCH_CAPACITY;
 
 /// How pages are divided among copiers, over queues that have room for a number of pages.
 #[derive(Clone, Copy)]
@@ -27,7 +26,7 @@ impl Division {
         Division {
             copiers,
             room: cap,
-            most: cap.min(MOST),
+            most: cap.min(BATCH_CAPACITY),
         }
     }
 
