@@ -260,10 +260,6 @@ reads_more may asks s t bytes more now after e reads start past first r =
     let E : List ℕ → Type 0 = λ p. HasEnded may asks start t p e first after in
     subst E (append_assoc past bytes more) (ends_more may asks start e.fault t (past ++ bytes) more e first after (reads start past first r))
 
--- the end of a line that is too long
-pub read_long_line : {S : Type 0} (may : Rule S) (asks : Asking S) (s : ScriptRunner S) (text : List ℕ) (now : Option (List ℕ)) → newlines text ≡ 0 → 200 < length s.held + length text → ReadsOn may asks s s (text ++ 10 ∷ []) now now (ended (record { fault = LongLine; line = s.line }))
-read_long_line may asks s text now none long = reads_more may asks s s text (10 ∷ []) now now (record { fault = LongLine; line = s.line }) (read_long may asks s text now none (omega (arith, length-append s.held text, long)))
-
 -- a line whose first part was held is read as a whole
 pub taken_line : {S T : Type 0} (may : Rule S) (asks : Asking S) (s t : ScriptRunner S) (text none_held line : List ℕ) (now after : Option (List ℕ)) (result : Result T RunError) → newlines text ≡ 0 → none_held ≡ [] → line ≡ s.held ++ text
     → ReadsLine may asks (record s { held = none_held }) t line now after result → ReadsOn may asks s t (text ++ 10 ∷ []) now after result

@@ -1,10 +1,6 @@
 -- Facts about the variants of options and results.
 use Rattle.std.proofs.Common.{◌≡◌, ℕ, false, IsTrue, List, refl, Option, Some, None, Result, Ok, Err}
-use Rattle.std.specs.Prelude.{IfErr, IfSome, IsOk, OnOk}
-
-pub at_ok : {T E : Type 0} {P : Type 0} (r : Result T E) → IsOk r → OnOk r P → P
-at_ok (Ok x) is p = p
-at_ok (Err e) is p = cc
+use Rattle.std.specs.Prelude.{IfErr, IfSome, OnOk}
 
 pub both_ok : {T E : Type 0} (r : Result T E) (P Q : Type 0) → OnOk r P → OnOk r Q → OnOk r (P × Q)
 both_ok (Ok x) P Q p q = (p, q)

@@ -284,14 +284,8 @@ impl<A: Respond> ScriptRunner<A> {
         if self.held.is_empty() {
             return self.take_line(writer, text);
         }
-        if self.held.remaining_capacity() < text.len() {
-            return Err(RunError {
-                fault: Fault::LongLine,
-                line: self.line,
-            });
-        }
-        let mut line = mem::replace(&mut self.held, ArrayVec::new());
-        let _ = line.try_extend_from_slice(text);
+        self.hold(text)?;
+        let line = mem::replace(&mut self.held, ArrayVec::new());
         self.take_line(writer, &line)
     }
 
@@ -299,8 +293,8 @@ impl<A: Respond> ScriptRunner<A> {
     fn hold(&mut self, text: &[u8]) -> Result<(), RunError>
         requires { newlines text.now ≡ 0 }
         ensures reads { (now : Option (List ℕ)) → ReadsOn A.may A.asks self.old self.new text.now now now result }
+        ensures ok { OnOk result (self.new ≡ record self.old { held = self.old.held ++ text.now }) }
         ensures fault { IfErr result (λ error. error.fault ≡ Fault.LongLine) }
-        ensures line { self.new.line ≡ self.old.line }
     {
         if self.held.remaining_capacity() < text.len() {
             return Err(RunError {

@@ -1,19 +1,23 @@
-use Rattle.std.proofs.Common.{◌≡◌, ◌+◌, ◌++◌, ◌<◌, List, ℕ, length, ap, ◌∙◌, arith}
-use Rattle.text_core.proofs.Reading.{read_long_line, taken_line}
-use Rattle.text_core.proofs.Variants.{at_ok}
+use Rattle.std.proofs.Common.{◌≡◌, ◌++◌, ◌∷◌, [], ap, subst, ◌∙◌}
+use Rattle.std.proofs.lemmas.Result.{err_from_is_err_and}
+use Rattle.text_core.specs.ScriptRunner.{ReadsLine, ScriptRunner}
+use Rattle.text_core.proofs.Reading.{reads_more, taken_line}
 use Rattle.text_core.proofs.player.ScriptRunner.end_line.Goals as goal
 
-pub returns-then-remaining_capacity-text-clause-reads : goal.returns-then-remaining_capacity-text-clause-reads
-returns-then-remaining_capacity-text-clause-reads g c =
-    let long : 200 < length c.self.inside.held.items + length c.args.text.now = omega (arith, c.remaining_capacity.ensures) in
-    rw (← c.self.view_is) (read_long_line g.A.Respond.may g.A.Respond.asks _ c.args.text.now _ c.requires.unbroken long)
+pub returns-in_err-hold-clause-reads : goal.returns-in_err-hold-clause-reads
+returns-in_err-hold-clause-reads g c =
+    let p = err_from_is_err_and c.from_residual.result c.from_residual.ensures.1 in
+    rw (p.1, p.2) (reads_more g.A.Respond.may g.A.Respond.asks c.args.self.now c.hold.new.self c.args.text.now (10 ∷ []) _ _ c.in_err-hold.field-0.0 (c.in_err-hold.ensures.reads _))
 
 pub returns-clause-reads : goal.returns-clause-reads
 returns-clause-reads g c =
-    let held = ap (λ h. h.items) c.replace-line.ensures.value in
-    let fits = c.try_extend_from_slice.ensures.variant.1 (omega (arith, c.remaining_capacity.ensures, ap length held)) in
+    let s = c.args.self.now in
+    let line = c.deref.result.now in
+    let none = c.replace-line.new.dest.items in
+    let is = c.self-2.view_is ∙ c.in_ok-hold.ensures.ok in
+    let whole : line ≡ s.held ++ c.args.text.now =
+    c.deref.ensures.0 ∙ ap (λ h. h.items) c.replace-line.ensures.value ∙ ap (λ (t : ScriptRunner _). t.held) is in
     let empty = ap (λ h. h.items) c.replace-line.ensures.after ∙ c.new.ensures in
-    -- the line is what was held, and then the text
-    let line : c.deref.result.now ≡ c.self.inside.held.items ++ c.args.text.now =
-    c.deref.ensures.0 ∙ at_ok c.try_extend_from_slice.result fits c.try_extend_from_slice.ensures.ok ∙ ap (λ (h : List ℕ). h ++ c.args.text.now) held in
-    rw (← c.self.view_is) (taken_line g.A.Respond.may g.A.Respond.asks _ c.take_line-2.new.self c.args.text.now _ c.deref.result.now _ _ c.take_line-2.result c.requires.unbroken empty line c.take_line-2.ensures.reads)
+    let R : ScriptRunner _ → Type 0 = λ t. ReadsLine g.A.Respond.may g.A.Respond.asks t c.take_line-2.new.self line (g.W.Write.contents c.args.writer.now) (g.W.Write.contents c.take_line-2.new.writer) c.take_line-2.result in
+    taken_line g.A.Respond.may g.A.Respond.asks s c.take_line-2.new.self c.args.text.now none line _ _ c.take_line-2.result c.requires.unbroken empty whole
+    (subst R (ap (λ (t : ScriptRunner _). record t { held = none }) is) c.take_line-2.ensures.reads)
