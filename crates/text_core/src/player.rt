@@ -106,10 +106,7 @@ impl<A: Respond> ScriptRunner<A> {
                     command => self.answer(writer, command),
                 }
             }
-            Err(error) => Err(RunError {
-                fault: Fault::from(error),
-                line,
-            }),
+            Err(error) => Err(Fault::from(error).at(line)),
         }
     }
 
@@ -123,12 +120,10 @@ impl<A: Respond> ScriptRunner<A> {
         ensures err { IfErr result (λ error. error ≡ record { fault = Fault.Memory; line = self.old.line }) }
     {
         let line = self.line;
-        let Ok(block) = self.blocks.begin(line, zone) else {
-            return Err(RunError {
-                fault: Fault::Memory,
-                line,
-            });
-        };
+        let block = self
+            .blocks
+            .begin(line, zone)
+            .map_err(|_| Fault::Memory.at(line))?;
         self.block = Some(block);
         self.line = line + 1;
         Ok(())
@@ -157,10 +152,7 @@ impl<A: Respond> ScriptRunner<A> {
                 self.line = line + 1;
                 Ok(())
             }
-            Err(error) => Err(RunError {
-                fault: Fault::from(error),
-                line,
-            }),
+            Err(error) => Err(Fault::from(error).at(line)),
         }
     }
 
@@ -174,10 +166,7 @@ impl<A: Respond> ScriptRunner<A> {
     {
         let line = self.line;
         if block.is_full() {
-            return Err(RunError {
-                fault: Fault::Syntax,
-                line,
-            });
+            return Err(Fault::Syntax.at(line));
         }
         block.push(ClientLine::new(line, call));
         self.block = Some(block);
@@ -196,17 +185,11 @@ impl<A: Respond> ScriptRunner<A> {
         let line = self.line;
         let mut reply = Reply::Done;
         let Ok(()) = self.machine.respond(command, &mut reply) else {
-            return Err(RunError {
-                fault: Fault::Memory,
-                line,
-            });
+            return Err(Fault::Memory.at(line));
         };
         self.line = line + 1;
         if let Err(line) = self.post(writer, line, &reply) {
-            return Err(RunError {
-                fault: Fault::Write,
-                line,
-            });
+            return Err(Fault::Write.at(line));
         }
         Ok(())
     }
@@ -221,17 +204,11 @@ impl<A: Respond> ScriptRunner<A> {
     {
         let line = block.line();
         let Ok(answers) = self.machine.respond_to_block(block) else {
-            return Err(RunError {
-                fault: Fault::Memory,
-                line,
-            });
+            return Err(Fault::Memory.at(line));
         };
         self.line += 1;
         if let Err(line) = self.post_all(writer, answers) {
-            return Err(RunError {
-                fault: Fault::Write,
-                line,
-            });
+            return Err(Fault::Write.at(line));
         }
         Ok(())
     }
@@ -297,10 +274,7 @@ impl<A: Respond> ScriptRunner<A> {
         ensures fault { IfErr result (λ error. error.fault ≡ Fault.LongLine) }
     {
         if self.held.remaining_capacity() < text.len() {
-            return Err(RunError {
-                fault: Fault::LongLine,
-                line: self.line,
-            });
+            return Err(Fault::LongLine.at(self.line));
         }
         let _ = self.held.try_extend_from_slice(text);
         Ok(())
@@ -374,10 +348,7 @@ impl<A: Respond> ScriptRunner<A> {
     fn read_error(&self) -> RunError
         ensures { result ≡ record { fault = Fault.Read; line = self.now.line } }
     {
-        RunError {
-            fault: Fault::Read,
-            line: self.line,
-        }
+        Fault::Read.at(self.line)
     }
 
     /// What the end of the input is: the end of the script, or a fault where a line is cut off or a block isn't ended.
@@ -391,10 +362,7 @@ impl<A: Respond> ScriptRunner<A> {
         ensures syntax { IfErr result (λ error. error.fault ≡ Fault.Syntax) }
     {
         if let Some(line) = self.cut_line() {
-            return Err(RunError {
-                fault: Fault::Syntax,
-                line,
-            });
+            return Err(Fault::Syntax.at(line));
         }
         Ok(Totals {
             lines: self.line - 1,
@@ -424,10 +392,9 @@ impl<A: Respond> ScriptRunner<A> {
         ensures write { IfErr result (λ error. error.fault ≡ Fault.Write) }
         ensures stuck { OnErr result (IsTrue (W.stuck writer.new)) }
     {
-        self.outbox.flush(writer).map_err(|line| RunError {
-            fault: Fault::Write,
-            line,
-        })
+        self.outbox
+            .flush(writer)
+            .map_err(|line| Fault::Write.at(line))
     }
 }
 
