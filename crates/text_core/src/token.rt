@@ -144,22 +144,13 @@ pub(crate) fn is_word(bytes: &[u8], word: &[u8]) -> bool
 }
 
 /// The number that 1 to 20 digits are, if these bytes are such and it fits 64 bits.
-fn number(digits: &[u8]) -> Option<u64>
-    ensures { result ≡ number_of digits.now }
+fn number(bytes: &[u8]) -> Option<u64>
+    ensures { result ≡ number_of bytes.now }
 {
-    if digits.is_empty() || digits.len() > 20 {
-        return None;
+    match leading_digits(bytes)? {
+        (value, []) => Some(value),
+        _ => None,
     }
-    let mut value: u64 = 0;
-    for digit in digits {
-        if !digit.is_ascii_digit() {
-            return None;
-        }
-        value = value
-            .checked_mul(10)?
-            .checked_add(u64::from(*digit - b'0'))?;
-    }
-    Some(value)
 }
 
 /// The token that a line begins with, and what stands after its word. Most lines begin with a short keyword.

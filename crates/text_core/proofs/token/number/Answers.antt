@@ -1,59 +1,39 @@
-use Rattle.std.proofs.Common.{◌≡◌, ℕ, ◌+◌, ◌*◌, ◌-◌, ◌^◌, ◌<◌, ◌≤◌, true, List, ◌∷◌, length, drop, get_or, sym, ap, ◌∙◌, arith, None, Some}
+use Rattle.std.proofs.Common.{◌≡◌, ℕ, ◌<◌, Bool, true, false, List, [], ◌∷◌, ◌++◌, length, append-nil, refl, sym, ap, ◌∙◌, arith, None}
 use Rattle.std.specs.Char.{is_ascii_digit}
 use Rattle.std.specs.Str.{all_ascii_digits}
-use Rattle.std.specs.Str.Parse.{digits_value, digits_value_after}
-use Rattle.std.proofs.lemmas.List.{at_drop_all, at_drop_more}
+use Rattle.std.proofs.lemmas.List.{take-append-drop}
+use Rattle.std.proofs.lemmas.Bool.{and_left, and_right}
 use Rattle.std.proofs.lemmas.Bool.Decides.{nat_tests}
-use Rattle.text_core.specs.Token.{number_of}
-use Rattle.text_core.proofs.Numbers.{digits_after, digits_stop, value_after, number_of_none, number_of_over, number_of_fits}
+use Rattle.text_core.specs.Token.{after_word, first_word, number_of}
+use Rattle.text_core.proofs.Lexemes.{after_word_step, is_space, lexeme_len}
+use Rattle.text_core.proofs.Numbers.{number_of_none}
 use Rattle.text_core.proofs.token.number.Goals as goal
 
--- the state of the loop at a digit, with which the digits that are left begin
-module _ (xs : List ℕ) (i v : ℕ) (within : i < length xs) where
-  value_at : digits_value_after 10 v (drop i xs) ≡ digits_value 10 xs → digits_value_after 10 v (get_or xs i 0 ∷ drop (i + 1) xs) ≡ digits_value 10 xs
-  value_at e = sym (at_drop_more (digits_value_after 10 v) xs i 0 within) ∙ e
+-- a text after whose first word nothing stands is that word
+one_word : (xs : List ℕ) → after_word xs ≡ [] → first_word xs ≡ xs
+one_word xs none = sym (append-nil (first_word xs)) ∙ ap (λ (r : List ℕ). first_word xs ++ r) (sym none) ∙ take-append-drop (lexeme_len xs) xs
 
-  digits_at : all_ascii_digits (drop i xs) ≡ all_ascii_digits xs → all_ascii_digits (get_or xs i 0 ∷ drop (i + 1) xs) ≡ all_ascii_digits xs
-  digits_at e = sym (at_drop_more all_ascii_digits xs i 0 within) ∙ e
+space_no_digit : (b : ℕ) → is_space b ≡ true → is_ascii_digit b ≡ false
+space_no_digit b e = grind (arith, nat_tests)
 
-  over_at : digits_value_after 10 v (drop i xs) ≡ digits_value 10 xs → is_ascii_digit (get_or xs i 0) ≡ true → 2 ^ 64 ≤ v * 10 + (get_or xs i 0 - 48) → number_of xs ≡ None
-  over_at e digit large = number_of_over v (get_or xs i 0) (drop (i + 1) xs) xs digit (value_at e) large
+-- a text after whose first word something stands has a space
+spaced : (xs : List ℕ) → 0 < length (after_word xs) → all_ascii_digits xs ≡ false
+spaced [] more = absurd (omega arith)
+spaced (b ∷ xs) more = by_space (is_space b) refl (λ more. spaced xs more) where
+  by_space : (space : Bool) → is_space b ≡ space → (0 < length (after_word xs) → all_ascii_digits xs ≡ false) → all_ascii_digits (b ∷ xs) ≡ false
+  by_space true e later = and_left _ _ (space_no_digit b e)
+  by_space false e later = and_right _ _ (later (omega (arith, more, ap length (after_word_step b xs e))))
 
-pub returns-then-not-is_ascii_digit : goal.returns-then-not-is_ascii_digit
-returns-then-not-is_ascii_digit c =
-    let xs = c.args.digits.now in
-    let l = c.loop-digit in
-    sym (number_of_none xs (digits_stop (get_or xs l.digit-index 0) (drop (l.digit-index + 1) xs) (all_ascii_digits xs) (sym c.if-not-is_ascii_digit.ensures.value) (digits_at xs l.digit-index l.value c.loop-digit-test.true l.invariant.digits)))
+spaced_no_number : (xs : List ℕ) → 0 < length (after_word xs) → number_of xs ≡ None
+spaced_no_number xs more = number_of_none xs (spaced xs more)
 
-pub returns-in_err-checked_mul : goal.returns-in_err-checked_mul
-returns-in_err-checked_mul c =
-    let l = c.loop-digit in
-    c.from_residual.ensures ∙ sym (over_at c.args.digits.now l.digit-index l.value c.loop-digit-test.true l.invariant.value (sym c.if-not-is_ascii_digit.ensures.value) (omega (arith, c.in_err-checked_mul.ensures)))
+-- a text whose first word isn't a number isn't one
+no_number : (xs after : List ℕ) → after_word xs ≡ after → number_of (first_word xs) ≡ None → number_of xs ≡ None
+no_number xs [] is none = ap number_of (sym (one_word xs is)) ∙ none
+no_number xs (b ∷ after) is none = spaced_no_number xs (omega (arith, ap length is))
 
 pub returns-in_err-value : goal.returns-in_err-value
-returns-in_err-value c =
-    let l = c.loop-digit in
-    c.from_residual-in_err-value.ensures ∙ sym (over_at c.args.digits.now l.digit-index l.value c.loop-digit-test.true l.invariant.value (sym c.if-not-is_ascii_digit.ensures.value) (omega (arith, c.in_err-value.ensures, c.in_ok-checked_mul.ensures, c.from.ensures)))
+returns-in_err-value c = c.from_residual.ensures ∙ sym (no_number c.args.bytes.now _ refl c.in_err-value.ensures.number)
 
-pub loop-digit-preserved : goal.loop-digit-preserved
-loop-digit-preserved c =
-    let xs = c.args.digits.now in
-    let l = c.loop-digit in
-    let rest : List ℕ = drop (l.digit-index + 1) xs in
-    let is_digit = sym c.if-not-is_ascii_digit.ensures.value in
-    let next : c.in_ok-value.value ≡ l.value * 10 + (get_or xs l.digit-index 0 - 48) = omega (arith, c.in_ok-value.ensures, c.in_ok-checked_mul.ensures, c.from.ensures) in
-    record {
-      fits = omega (arith, c.in_ok-value.ensures);
-      digits = digits_after (get_or xs l.digit-index 0) rest (all_ascii_digits xs) is_digit (digits_at xs l.digit-index l.value c.loop-digit-test.true l.invariant.digits);
-      value = ap (λ (n : ℕ). digits_value_after 10 n rest) next ∙ value_after l.value (get_or xs l.digit-index 0) rest (digits_value 10 xs) is_digit (value_at xs l.digit-index l.value c.loop-digit-test.true l.invariant.value);
-    }
-
-pub returns : goal.returns
-returns c =
-    let xs = c.args.digits.now in
-    let i = c.loop-digit.digit-index in
-    let end : length xs ≤ i = omega arith in
-    let some : 1 ≤ length xs = (let empty = c.if-is_empty.ensures in grind (arith, nat_tests, empty)) in
-    let all : all_ascii_digits xs ≡ true = sym c.loop-digit.invariant.digits ∙ at_drop_all all_ascii_digits xs i end in
-    let same : c.loop-digit.value ≡ digits_value 10 xs = sym (at_drop_all (digits_value_after 10 c.loop-digit.value) xs i end) ∙ c.loop-digit.invariant.value in
-    ap Some same ∙ sym (number_of_fits xs some (omega arith) all (omega (arith, same, c.loop-digit.invariant.fits)))
+pub returns-in_default : goal.returns-in_default
+returns-in_default c = sym (spaced_no_number c.args.bytes.now (omega (arith, c.in_default.len_at_least, ap length c.in_ok-value.ensures.after)))
