@@ -70,12 +70,12 @@ pub enum Stopped {
 }
 
 /// The line of a reply: it ends with a newline, and has no other.
-pub fn reply_text(reply: Reply) -> ArrayString<160>
-    ensures text { result.bytes ≡ text_of reply }
+pub fn reply_text(reply: &Reply) -> ArrayString<160>
+    ensures text { result.bytes ≡ text_of reply.now }
     ensures line { IsOneLine result.bytes }
 {
     let mut text = ArrayString::new();
-    push_reply(&mut text, &reply);
+    push_reply(&mut text, reply);
     text
 }
 

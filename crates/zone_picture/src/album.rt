@@ -1,9 +1,7 @@
 use crate::view::View;
-use arrayvec::ArrayString;
-use script_core::{Command, PoolBlocks, Reply, Watch};
+use script_core::{Command, PoolBlocks, Reply, Watch, reply_text};
 use std::alloc::{AllocError, AllocFailed, Global};
 use std::sync::ledger::Ledger;
-use text_core::push_reply;
 use thiserror::Error;
 use zone_core::Zone;
 
@@ -150,7 +148,7 @@ impl Album {
 
     /// The caption of a command that was answered.
     fn answered(&self, name: &String, reply: &Reply) -> Result<Caption, AllocError> {
-        let text = text_of(reply);
+        let text = reply_text(reply);
         Ok(Caption {
             title: format!(in self.alloc; "After {name}")?,
             reply: String::from_str(self.alloc, text.as_str().trim_end())?,
@@ -207,13 +205,6 @@ impl Watch for Album {
             self.note(outcome);
         }
     }
-}
-
-/// The line of a reply.
-pub fn text_of(reply: &Reply) -> ArrayString<160> {
-    let mut text = ArrayString::new();
-    push_reply(&mut text, reply);
-    text
 }
 
 /// The line of a command that moves pages, or may; None for any other.

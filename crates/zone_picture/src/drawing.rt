@@ -1,11 +1,11 @@
 //! The picture: one SVG, with no script in it and no file beside it.
 
-use crate::album::{Caption, Panel, text_of};
+use crate::album::{Caption, Panel};
 use crate::pageblock::draw_pageblock;
 use crate::sheet::{BLOCK, CAPTION, MARGIN, Sheet};
 use crate::sign::{SIGNS, Sign};
 use crate::view::View;
-use script_core::Reply;
+use script_core::{Reply, reply_text};
 use std::io;
 use std::io::Write;
 
@@ -126,7 +126,7 @@ fn draw_zone<W: Write>(out: &mut W, view: &View) -> io::Result<()> {
         .len()
         .saturating_mul(BLOCK as usize)
         .saturating_add(8);
-    let counts = text_of(&Reply::Info(view.info));
+    let counts = reply_text(&Reply::Info(view.info));
     let counts = counts.as_str().trim_end();
     writeln!(out, "<text class=\"told\" y=\"{bottom}\">{counts}</text>")
 }
