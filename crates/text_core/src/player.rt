@@ -1,4 +1,4 @@
-ghost use Rattle.std.specs.Prelude.{◌≡◌, ℕ, ◌+◌, ◌*◌, ◌^◌, ◌<◌, ◌≤◌, [], ◌∷◌, ◌++◌, List, Option, option_map, length, false, Some, None, Ok, IfNone, IfSome, IfErr, IfOk, IsTrue, OnErr, OnOk};
+ghost use Rattle.std.specs.Prelude.{◌≡◌, ℕ, ◌+◌, ◌*◌, ◌^◌, ◌<◌, ◌≤◌, [], ◌∷◌, ◌++◌, List, Option, option_map, length, false, Some, None, IfNone, IfSome, IfErr, IfOk, IsTrue, OnErr, OnOk};
 ghost use Rattle.text_core.specs.Reply.{newlines};
 ghost use Rattle.std.specs.Io.KnownBytes.{Appends};
 ghost use Rattle.text_core.specs.Script.{StopsIn, Answer, command_in_block, command_of_line, fault_of, texts};
@@ -7,10 +7,9 @@ ghost use Rattle.text_core.specs.ReplyBuffer.{Owes, empty};
 ghost use Rattle.text_core.specs.ScriptRunner.{BeginsLine, Finishes, HasRead, PlaysOn, ReadsCommand, ReadsLine, ReadsOn, begun, block_begun, in_block, noted};
 ghost use Rattle.text_core.specs.Streams.{CannotReadOn};
 
-use crate::answer::{Answer, Answers};
+use crate::answer::Answers;
 use crate::block::{Block, Blocks, ClientLine};
 use crate::command::{BlockLine, Command};
-use crate::error::ScriptError;
 use crate::fault::{Fault, RunError};
 use crate::input::Input;
 use crate::line::{read_block_line, read_line};
