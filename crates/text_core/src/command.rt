@@ -1,5 +1,5 @@
-use crate::blocks::BlockCount;
-use crate::pages::PageCount;
+use crate::block_count::BlockCount;
+use crate::page_count::PageCount;
 use crate::pool::PoolBlocks;
 use frame_core::{Address, BlockNo, HandNo, SpaceNo, ZoneNo};
 use state_core::{ClientCall, ZoneCall};

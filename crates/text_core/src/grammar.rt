@@ -10,9 +10,9 @@ use crate::arguments::{
     four_numbers, one_number, three_numbers, three_numbers_and_flag, two_numbers,
     two_numbers_and_flag,
 };
-use crate::blocks::BlockCount;
+use crate::block_count::BlockCount;
 use crate::command::{BlockLine, Call, Calls, Command, Repeated, Series};
-use crate::pages::PageCount;
+use crate::page_count::PageCount;
 use crate::pool::PoolBlocks;
 use crate::profile::Profile;
 use crate::token::{Token, first_number, is_end, leading_token};
