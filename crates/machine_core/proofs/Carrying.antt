@@ -18,9 +18,9 @@ use Rattle.state_core.specs.declared.call.ZoneCall.{ZoneCall}
 use Rattle.state_core.specs.declared.call.ZoneCall.TheVariants.{Map, MapAt, Store, Unmap}
 use Rattle.state_core.specs.declared.error.ZoneError.{ZoneError}
 use Rattle.state_core.specs.declared.error.ZoneError.TheVariants.{Range, JournalFull, Occupied, NoFrame}
-use Rattle.machine_core.specs.declared.hand.Hand.TheVariants as hand
 use Rattle.machine_core.specs.declared.hands.Held.TheVariants.{Nothing, Page, Copy}
-use Rattle.machine_core.specs.Carried.{InHand, hand_as, page_held, copy_held, is_nothing, world_of, IsCarried}
+use Rattle.machine_core.specs.Carried.{InHand, hand_as, world_of, IsCarried}
+use Rattle.machine_core.specs.Hands.{page_held, copy_held, is_nothing}
 use Rattle.state_core.specs.declared.moves.Next.TheVariants.{Page as Found, Met}
 use Rattle.state_core.specs.declared.round.Pair.{Pair}
 use Rattle.state_core.specs.declared.placement.Placement.{Placement}
@@ -49,12 +49,12 @@ use Rattle.machine_core.proofs.Orderly.{orderly_with_zone, orderly_round_opened,
 -- Lists of what hands hold
 
 -- what contracts see of a hand is what the hand holds
-pub seen_at : (held : List InHand) (i : ℕ) → unwrap_or (slice_get (each hand_as held) i) hand.Empty ≡ hand_as (unwrap_or (slice_get held i) Nothing)
+pub seen_at : (held : List InHand) (i : ℕ) → unwrap_or (slice_get (each hand_as held) i) Nothing ≡ hand_as (unwrap_or (slice_get held i) Nothing)
 seen_at [] i = refl
 seen_at (h ∷ held) zero = refl
 seen_at (h ∷ held) (suc i) = seen_at held i
 
-pub seen_some : (held : List InHand) (i : ℕ) (h : InHand) → slice_get held i ≡ Some h → unwrap_or (slice_get (each hand_as held) i) hand.Empty ≡ hand_as h
+pub seen_some : (held : List InHand) (i : ℕ) (h : InHand) → slice_get held i ≡ Some h → unwrap_or (slice_get (each hand_as held) i) Nothing ≡ hand_as h
 seen_some held i h e = seen_at held i ∙ ap (λ (o : Option InHand). hand_as (unwrap_or o Nothing)) e
 
 -- after place i got x, each place has x or what it had

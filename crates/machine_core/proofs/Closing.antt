@@ -10,13 +10,13 @@ use Rattle.frame_core.proofs.OnTheWay.{out_empty, none_out}
 use Rattle.frame_core.specs.Page.{IsolatedPage}
 use Rattle.frame_core.specs.Serials.{serials_of}
 use Rattle.state_core.specs.declared.error.ZoneError.TheVariants.{Missing, Out}
-use Rattle.machine_core.specs.declared.hand.Hand.TheVariants as hand
 use Rattle.machine_core.specs.declared.hands.Held.TheVariants.{Nothing, Page, Copy}
-use Rattle.machine_core.specs.Carried.{InHand, hand_as, is_nothing, AreOwn, world_of, IsCarried, IsRest}
+use Rattle.machine_core.specs.Carried.{InHand, hand_as, AreOwn, world_of, IsCarried, IsRest}
+use Rattle.machine_core.specs.Hands.{is_nothing}
 use Rattle.state_core.specs.Valid.{IsValidZone}
 use Rattle.state_core.specs.Ending.{IsOwnCopy, put_back_to_source}
 use Rattle.zone_core.specs.Seats.{ScanSeat, EndSeat, audit_refusal}
-use Rattle.machine_core.specs.World.{WorldState, IsOrderly, IsRising, is_empty, all_put_back, shut, shut_step}
+use Rattle.machine_core.specs.World.{WorldState, IsOrderly, IsRising, all_put_back, shut, shut_step}
 use Rattle.state_core.specs.ZoneState.{ZoneState}
 use Rattle.state_core.proofs.Carried.{own_put_back}
 use Rattle.state_core.proofs.Facts.{taken, skipped}
@@ -43,7 +43,7 @@ carried_none zone scan ends held capacity orderly empty room = record {
 
 module _ (zone : ZoneState) (scan : ScanSeat) (ends : EndSeat) (law : IsValidZone zone) (whole : ends.parts ≡ 64) (none : (serial : ℕ) → is_out zone.records serial ≡ false) where
   pub carried_closed : (capacity : ℕ) → capacity ≡ 256 * zone.blocks → IsCarried zone scan ends false [] (Nothing ∷ Nothing ∷ Nothing ∷ Nothing ∷ []) capacity
-  carried_closed capacity room = carried_none zone scan ends _ capacity (orderly_at_rest zone scan ends (replicate 4 hand.Empty) law whole refl refl none) refl room
+  carried_closed capacity room = carried_none zone scan ends _ capacity (orderly_at_rest zone scan ends (replicate 4 Nothing) law whole refl refl none) refl room
 
 -- no page waits where no round is open
 no_list : (list : List IsolatedPage) → length (serials_of list) ≡ 0 → list ≡ []
@@ -86,7 +86,7 @@ closing_next zone p list count first all was page = record {
   rises : (i : ℕ) (q : IsolatedPage) → slice_get list i ≡ Some q → p.serial ≢ q.serial
   rises i q e same = let less : p.serial < q.serial = was.rising.0 q.serial (waits_at list i q e) in absurd (omega arith)
 
-empty_seen : (held : List InHand) → list_all is_empty (each hand_as held) ≡ list_all is_nothing held
+empty_seen : (held : List InHand) → list_all is_nothing (each hand_as held) ≡ list_all is_nothing held
 empty_seen [] = refl
 empty_seen (Nothing ∷ held) = empty_seen held
 empty_seen (Page p ∷ held) = refl
@@ -94,7 +94,7 @@ empty_seen (Copy p ∷ held) = refl
 
 pub not_shut : (zone : ZoneState) (scan : ScanSeat) (ends : EndSeat) (is_open : Bool) (list : List IsolatedPage) (held : List InHand) → list_all is_nothing held ≡ false → shut_step (world_of zone scan ends is_open list held) ≡ None
 not_shut zone scan ends is_open list held full =
-    skipped (list_all is_empty (each hand_as held)) (Some (length (serials_of list), shut (world_of zone scan ends is_open list held))) None (empty_seen held ∙ full)
+    skipped (list_all is_nothing (each hand_as held)) (Some (length (serials_of list), shut (world_of zone scan ends is_open list held))) None (empty_seen held ∙ full)
 
 -- the list of a world has at most 4,096 pages
 pub short_list : (zone : ZoneState) (scan : ScanSeat) (ends : EndSeat) (is_open : Bool) (list : List IsolatedPage) (held : List InHand) (capacity : ℕ) → IsCarried zone scan ends is_open list held capacity → length list ≤ 4096
@@ -110,7 +110,7 @@ module _ (zone next : ZoneState) (scan : ScanSeat) (ends : EndSeat) (is_open : B
 
   pub step_shut : shut_step open_world ≡ Some (count, world_of next scan ends_shut false [] held)
   step_shut =
-      taken (list_all is_empty (each hand_as held)) (Some (length (serials_of list), shut open_world)) None (empty_seen held ∙ empty)
+      taken (list_all is_nothing (each hand_as held)) (Some (length (serials_of list), shut open_world)) None (empty_seen held ∙ empty)
       ∙ (λ i. Some (number i, world_of (back i) scan (record ends { back = ends.back + number i }) false [] held)) where
         back : all_put_back zone (serials_of list) ≡ next
         back = sym done

@@ -8,13 +8,13 @@ use Rattle.frame_core.specs.declared.record.Cause.TheVariants.{Pinned}
 use Rattle.frame_core.specs.History.{pins}
 use Rattle.frame_core.specs.Page.{IsolatedPage}
 use Rattle.frame_core.specs.Serials.{serials_of}
-use Rattle.machine_core.specs.declared.hand.Hand.{Hand}
-use Rattle.machine_core.specs.declared.hand.Hand.TheVariants as hand
+use Rattle.machine_core.specs.declared.hands.Held.{Held}
 use Rattle.machine_core.specs.declared.hands.Held.TheVariants.{Nothing, Page, Copy}
-use Rattle.machine_core.specs.Carried.{InHand, hand_as, page_held, copy_held, is_nothing, held_at, world_of, IsCarried}
+use Rattle.machine_core.specs.Carried.{InHand, hand_as, world_of, IsCarried}
+use Rattle.machine_core.specs.Hands.{held_at, is_nothing, page_held, copy_held, serial_in}
 use Rattle.state_core.specs.Ending.{IsOwnCopy, committed, put_back_to_source, moved_to_target}
 use Rattle.zone_core.specs.Seats.{ScanSeat, EndSeat, seat_ended}
-use Rattle.machine_core.specs.World.{WorldState, hand_of, with_hand, serial_in, page_in, copy_in, take_step, copy_step, finish_step, finished_as, finished_in, finished_by, taken_by}
+use Rattle.machine_core.specs.World.{WorldState, with_hand, take_step, copy_step, finish_step, finished_as, finished_in, finished_by, taken_by}
 use Rattle.state_core.specs.ZoneState.{ZoneState}
 use Rattle.state_core.proofs.Carried.{own_page, own_committed}
 use Rattle.machine_core.proofs.HandsTaking.{orderly_taken, orderly_copied}
@@ -29,13 +29,13 @@ module _ (zone : ZoneState) (scan : ScanSeat) (ends : EndSeat) (is_open : Bool) 
   abbrev hands_taken : List InHand
   hands_taken = slice_set held (k - 1) (Page p)
 
-  hand_empty : hand_of before k ≡ hand.Empty
+  hand_empty : held_at before.hands k ≡ Nothing
   hand_empty = seen_at held (k - 1) ∙ ap hand_as (nothing_is (held_at held k) nothing)
 
   pub step_taken : take_step before k ≡ Some (p.serial, world_of zone scan ends is_open list hands_taken)
   step_taken =
-      ap (λ (h : Hand). taken_by before k h (p.serial ∷ serials_of list)) hand_empty
-      ∙ ap (λ (hs : List Hand). Some (p.serial, record { zone = zone; scan = scan; ends = ends; is_open = is_open; waiting = serials_of list; hands = hs })) (sym (map-set hand_as held (k - 1) (Page p)))
+      ap (λ (h : Held ℕ ℕ). taken_by before k h (p.serial ∷ serials_of list)) hand_empty
+      ∙ ap (λ (hs : List (Held ℕ ℕ)). Some (p.serial, record { zone = zone; scan = scan; ends = ends; is_open = is_open; waiting = serials_of list; hands = hs })) (sym (map-set hand_as held (k - 1) (Page p)))
 
   pub carried_taken : IsCarried zone scan ends is_open list hands_taken capacity
   carried_taken = record {
@@ -64,8 +64,8 @@ module _ (zone : ZoneState) (scan : ScanSeat) (ends : EndSeat) (is_open : Bool) 
 
   pub step_copied : copy_step uncopied k ≡ Some (world_of zone scan ends is_open list hands_copied)
   step_copied =
-      ap (λ (h : Hand). option_and_then (λ serial. Some (with_hand uncopied k (hand.Copy serial))) (page_in h)) (seen_some held (k - 1) (Page p) page_at_hand)
-      ∙ ap (λ (hs : List Hand). Some (record { zone = zone; scan = scan; ends = ends; is_open = is_open; waiting = serials_of list; hands = hs })) (sym (map-set hand_as held (k - 1) (Copy p)))
+      ap (λ (h : Held ℕ ℕ). option_and_then (λ serial. Some (with_hand uncopied k (Copy serial))) (page_held h)) (seen_some held (k - 1) (Page p) page_at_hand)
+      ∙ ap (λ (hs : List (Held ℕ ℕ)). Some (record { zone = zone; scan = scan; ends = ends; is_open = is_open; waiting = serials_of list; hands = hs })) (sym (map-set hand_as held (k - 1) (Copy p)))
 
   pub carried_copied : IsCarried zone scan ends is_open list hands_copied capacity
   carried_copied = record {
@@ -101,13 +101,13 @@ module _ (zone : ZoneState) (scan : ScanSeat) (ends : EndSeat) (is_open : Bool) 
   pub own_in_hand : IsOwnCopy zone p
   own_in_hand = was.copies (k - 1) p copy_at_hand
 
-  hand_copy : hand_of unfinished k ≡ hand.Copy p.serial
+  hand_copy : held_at unfinished.hands k ≡ Copy p.serial
   hand_copy = seen_some held (k - 1) (Copy p) copy_at_hand
 
   pub step_finished : finish_step unfinished k ≡ Some (finished_as zone p.serial, world_of zone_finished scan ends_finished is_open list hands_finished)
   step_finished =
-      ap (λ (h : Hand). option_and_then (λ serial. Some (finished_as zone serial, finished_by unfinished k serial)) (copy_in h)) hand_copy
-      ∙ ap (λ (hs : List Hand). Some (finished_as zone p.serial, record { zone = zone_finished; scan = scan; ends = ends_finished; is_open = is_open; waiting = serials_of list; hands = hs })) (sym (map-set hand_as held (k - 1) Nothing))
+      ap (λ (h : Held ℕ ℕ). option_and_then (λ serial. Some (finished_as zone serial, finished_by unfinished k serial)) (copy_held h)) hand_copy
+      ∙ ap (λ (hs : List (Held ℕ ℕ)). Some (finished_as zone p.serial, record { zone = zone_finished; scan = scan; ends = ends_finished; is_open = is_open; waiting = serials_of list; hands = hs })) (sym (map-set hand_as held (k - 1) Nothing))
 
   finished_is : zone_finished ≡ committed zone p.serial p.page.number
   finished_is = ap (λ (o : Option ℕ). committed zone p.serial (unwrap_or o 0)) (own_page zone was.orderly.valid p own_in_hand.own)
@@ -131,9 +131,9 @@ module _ (zone : ZoneState) (scan : ScanSeat) (ends : EndSeat) (is_open : Bool) 
   in_other_hand : (i : ℕ) (h : InHand) (q : IsolatedPage) → i ≢ k - 1 → slice_get held i ≡ Some h → serial_in (hand_as h) ≡ Some q.serial → p.serial ≢ q.serial
   in_other_hand i h q other e is same =
       let place : i + 1 - 1 ≡ i = omega arith in
-      let here : serial_in (hand_of unfinished (i + 1)) ≡ Some q.serial =
-      ap (λ (n : ℕ). serial_in (unwrap_or (slice_get (each hand_as held) n) hand.Empty)) place ∙ ap serial_in (seen_some held i h e) ∙ is in
-      let there : serial_in (hand_of unfinished k) ≡ Some q.serial = ap serial_in hand_copy ∙ ap Some same in
+      let here : serial_in (held_at unfinished.hands (i + 1)) ≡ Some q.serial =
+      ap (λ (n : ℕ). serial_in (unwrap_or (slice_get (each hand_as held) n) Nothing)) place ∙ ap serial_in (seen_some held i h e) ∙ is in
+      let there : serial_in (held_at unfinished.hands k) ≡ Some q.serial = ap serial_in hand_copy ∙ ap Some same in
       let one : i + 1 ≡ k = was.orderly.one_hand (i + 1) k q.serial here there (omega arith) low in
       let bad : i ≡ k - 1 = omega arith in
       other bad

@@ -14,20 +14,21 @@ use Rattle.frame_core.specs.declared.record.Record.{Record}
 use Rattle.frame_core.specs.declared.record.Record.TheVariants.{Isolate, Moved, Back}
 use Rattle.frame_core.specs.History.{pins}
 use Rattle.frame_core.specs.Moves.{out, is_out, page_of}
-use Rattle.machine_core.specs.declared.hand.Hand.{Hand}
-use Rattle.machine_core.specs.declared.hand.Hand.TheVariants.{Empty}
-use Rattle.machine_core.specs.declared.hand.Finished.{Finished}
+use Rattle.machine_core.specs.declared.finished.Finished.{Finished}
+use Rattle.machine_core.specs.declared.hands.Held.{Held}
+use Rattle.machine_core.specs.declared.hands.Held.TheVariants.{Nothing}
 use Rattle.state_core.specs.declared.moves.Ended.{Ended}
 use Rattle.state_core.specs.declared.placement.Placement.{Placement}
 use Rattle.state_core.specs.declared.placement.Placement.TheVariants.{At, Moving}
 use Rattle.state_core.specs.Valid.{IsValidZone, is_under}
 use Rattle.state_core.specs.Ending.{moved_to_target, put_back_to_source}
-use Rattle.machine_core.specs.World.{WorldState, IsOrderly, IsRising, with_hand, hand_of, waits, is_empty, serial_in, copy_in, finished_as, finished_in, finished_by, finish_step, all_put_back, shut, shut_step}
+use Rattle.machine_core.specs.Hands.{held_at, is_nothing, copy_held, serial_in}
+use Rattle.machine_core.specs.World.{WorldState, IsOrderly, IsRising, with_hand, waits, finished_as, finished_in, finished_by, finish_step, all_put_back, shut, shut_step}
 use Rattle.zone_core.specs.Seats.{EndSeat, seat_ended}
 use Rattle.state_core.specs.ZoneState.{ZoneState}
 use Rattle.state_core.proofs.Settled.{valid_moved, valid_put_back}
 use Rattle.machine_core.proofs.Orderly.{orderly_at_rest}
-use Rattle.machine_core.proofs.Standing.{held, holds_at, none_held, Stands, stands, stands_so, set_cases, stands_out, waits_out, in_hand_out}
+use Rattle.machine_core.proofs.Standing.{holds_at, none_held, Stands, stands, stands_so, set_cases, stands_out, waits_out, in_hand_out}
 
 -- a serial that is out has the page that was isolated under it
 out_page : (records : List Record) (s : ℕ) → is_out records s ≡ true → (page : ℕ) × (page_of records s ≡ Some page)
@@ -91,27 +92,27 @@ finished_ended z law serial e = by_pins (nat_eq (pins z.records (page_under z se
         blocks = refl;
       }
 
-copy_serial : (serial : ℕ) (hand : Hand) → copy_in hand ≡ Some serial → serial_in hand ≡ Some serial
+copy_serial : (serial : ℕ) (hand : Held ℕ ℕ) → copy_held hand ≡ Some serial → serial_in hand ≡ Some serial
 copy_serial serial hand e = grind arith
 
 -- hand k brings its copy to the zone
-module _ (w : WorldState) (k serial : ℕ) (low : 0 < k) (high : k ≤ 4) (o : IsOrderly w) (copy : copy_in (hand_of w k) ≡ Some serial) (zone : ZoneState) (ended : IsEnded w.zone zone serial) (ends : EndSeat) (whole : ends.parts ≡ 64) where
-  abbrev hands_left : List Hand
-  hands_left = slice_set w.hands (k - 1) Empty
+module _ (w : WorldState) (k serial : ℕ) (low : 0 < k) (high : k ≤ 4) (o : IsOrderly w) (copy : copy_held (held_at w.hands k) ≡ Some serial) (zone : ZoneState) (ended : IsEnded w.zone zone serial) (ends : EndSeat) (whole : ends.parts ≡ 64) where
+  abbrev hands_left : List (Held ℕ ℕ)
+  hands_left = slice_set w.hands (k - 1) Nothing
 
-  has_copy : serial_in (hand_of w k) ≡ Some serial
-  has_copy = copy_serial serial (hand_of w k) copy
+  has_copy : serial_in (held_at w.hands k) ≡ Some serial
+  has_copy = copy_serial serial (held_at w.hands k) copy
 
   -- each other hand has what it had
-  has_left : (j s : ℕ) → 0 < j → serial_in (held hands_left j) ≡ Some s → (j ≢ k) × (serial_in (hand_of w j) ≡ Some s)
-  has_left j s some e = elim (set_cases w.hands j k Empty o.four some low high) [
+  has_left : (j s : ℕ) → 0 < j → serial_in (held_at hands_left j) ≡ Some s → (j ≢ k) × (serial_in (held_at w.hands j) ≡ Some s)
+  has_left j s some e = elim (set_cases w.hands j k Nothing o.four some low high) [
     | inl here ↦ (let bad : None ≡ Some s = sym (ap serial_in here.1) ∙ e in cc)
     | inr there ↦ (there.0, sym (ap serial_in there.1) ∙ e)
   ]
 
-  kept_in_hand : (j s : ℕ) → 0 < j → s ≢ serial → serial_in (hand_of w j) ≡ Some s → serial_in (held hands_left j) ≡ Some s
-  kept_in_hand j s some apart e = elim (set_cases w.hands j k Empty o.four some low high) [
-    | inl here ↦ (let both : Some serial ≡ Some s = sym (ap (λ (i : ℕ). serial_in (hand_of w i)) here.0 ∙ has_copy) ∙ e in absurd (apart (cc)))
+  kept_in_hand : (j s : ℕ) → 0 < j → s ≢ serial → serial_in (held_at w.hands j) ≡ Some s → serial_in (held_at hands_left j) ≡ Some s
+  kept_in_hand j s some apart e = elim (set_cases w.hands j k Nothing o.four some low high) [
+    | inl here ↦ (let both : Some serial ≡ Some s = sym (ap (λ (i : ℕ). serial_in (held_at w.hands i)) here.0 ∙ has_copy) ∙ e in absurd (apart (cc)))
     | inr there ↦ ap serial_in there.1 ∙ e
   ]
 
@@ -137,11 +138,11 @@ module _ (w : WorldState) (k serial : ℕ) (low : 0 < k) (high : k ≤ 4) (o : I
   still_out : (s : ℕ) → s ≢ serial → is_out w.zone.records s ≡ true → is_out zone.records s ≡ true
   still_out s apart e = ended.gone s ∙ and_from _ _ e (not_from_false _ (ne_eqb s serial apart))
 
-  orderly_with_end : IsOrderly (record (with_hand w k Empty) { zone = zone; ends = ends })
+  orderly_with_end : IsOrderly (record (with_hand w k Nothing) { zone = zone; ends = ends })
   orderly_with_end = record {
     valid = ended.valid;
     whole = whole;
-    four = length-set w.hands (k - 1) Empty ∙ o.four;
+    four = length-set w.hands (k - 1) Nothing ∙ o.four;
     rising = o.rising;
     out = λ s. (
       λ h. (let was = was_out s h in stands_so w.waiting hands_left s (left_stands s was.1 (stands_out w o s was.0))),
@@ -158,11 +159,11 @@ parts_ended : (seat : EndSeat) (e : Ended) → (seat_ended seat e).parts ≡ sea
 parts_ended seat e = grind arith
 
 pub orderly_finished : (w : WorldState) (k : ℕ) (finished : Finished) (after : WorldState) → 0 < k → k ≤ 4 → IsOrderly w → finish_step w k ≡ Some (finished, after) → IsOrderly after
-orderly_finished w k finished after low high o e = by_copy (copy_in (hand_of w k)) refl e where
-  by_copy : (p : Option ℕ) → copy_in (hand_of w k) ≡ p → option_and_then {U = Finished × WorldState} (λ serial. Some (finished_as w.zone serial, finished_by w k serial)) p ≡ Some (finished, after) → IsOrderly after
+orderly_finished w k finished after low high o e = by_copy (copy_held (held_at w.hands k)) refl e where
+  by_copy : (p : Option ℕ) → copy_held (held_at w.hands k) ≡ p → option_and_then {U = Finished × WorldState} (λ serial. Some (finished_as w.zone serial, finished_by w k serial)) p ≡ Some (finished, after) → IsOrderly after
   by_copy None is e = cc
   by_copy (Some serial) is e =
-      let out_now = in_hand_out w o k serial low (copy_serial serial (hand_of w k) is) in
+      let out_now = in_hand_out w o k serial low (copy_serial serial (held_at w.hands k) is) in
       subst IsOrderly (some_pair_parts _ finished _ after e).1
       (orderly_with_end w k serial low high o is (finished_in w.zone serial) (finished_ended w.zone o.valid serial out_now)
       (seat_ended w.ends (finished_as w.zone serial).ended) (parts_ended w.ends (finished_as w.zone serial).ended ∙ o.whole))
@@ -188,7 +189,7 @@ all_ended (serial ∷ more) z law rising are_out =
           (parts.0, or_from (nat_eq s serial) _ (not-true _ parts.1) later.1));
     }
 
-module _ (w : WorldState) (o : IsOrderly w) (empty : list_all is_empty w.hands ≡ true) where
+module _ (w : WorldState) (o : IsOrderly w) (empty : list_all is_nothing w.hands ≡ true) where
   abbrev zone_shut : ZoneState
   zone_shut = all_put_back w.zone w.waiting
 
@@ -204,7 +205,7 @@ module _ (w : WorldState) (o : IsOrderly w) (empty : list_all is_empty w.hands �
   orderly_with_shut = orderly_at_rest zone_shut w.scan _ w.hands shut_ended.valid o.whole o.four empty (λ s. false_from_ne_true _ (none_left_out s))
 
 pub orderly_shut : (w : WorldState) (n : ℕ) (after : WorldState) → IsOrderly w → shut_step w ≡ Some (n, after) → IsOrderly after
-orderly_shut w n after o e = by_empty (list_all is_empty w.hands) refl e where
-  by_empty : (b : Bool) → list_all is_empty w.hands ≡ b → if◌then◌else◌ {A = Option (ℕ × WorldState)} b (Some (length w.waiting, shut w)) None ≡ Some (n, after) → IsOrderly after
+orderly_shut w n after o e = by_empty (list_all is_nothing w.hands) refl e where
+  by_empty : (b : Bool) → list_all is_nothing w.hands ≡ b → if◌then◌else◌ {A = Option (ℕ × WorldState)} b (Some (length w.waiting, shut w)) None ≡ Some (n, after) → IsOrderly after
   by_empty true is e = subst IsOrderly (some_pair_parts _ n _ after e).1 (orderly_with_shut w o is)
   by_empty false is e = cc

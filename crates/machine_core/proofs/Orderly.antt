@@ -7,14 +7,15 @@ use Rattle.std.proofs.lemmas.List.{length-append}
 use Rattle.std.proofs.lemmas.List.Folds.{list_any-append}
 use Rattle.frame_core.proofs.OnTheWay.{out_below}
 use Rattle.frame_core.specs.Moves.{isolated, is_out}
-use Rattle.machine_core.specs.declared.hand.Hand.{Hand}
+use Rattle.machine_core.specs.declared.hands.Held.{Held}
 use Rattle.state_core.specs.declared.moves.Next.TheVariants as next
 use Rattle.state_core.specs.declared.round.Pair.{Pair}
 use Rattle.state_core.specs.Valid.{IsValidZone}
 use Rattle.state_core.specs.Rounds.{round_begun}
 use Rattle.state_core.specs.Isolating.{isolate_refusal, isolated_next}
 use Rattle.state_core.specs.Pairs.{IsPair, next_pair}
-use Rattle.machine_core.specs.World.{WorldState, IsOrderly, IsRising, with_zone, hand_of, is_empty, serial_in, round_opened, isolated_by}
+use Rattle.machine_core.specs.Hands.{held_at, is_nothing, serial_in}
+use Rattle.machine_core.specs.World.{WorldState, IsOrderly, IsRising, with_zone, round_opened, isolated_by}
 use Rattle.zone_core.specs.Seats.{ScanSeat, EndSeat, seat_begun, seat_noted}
 use Rattle.state_core.specs.ZoneState.{ZoneState, frame_count}
 use Rattle.state_core.proofs.Pairing.{pair_found}
@@ -41,7 +42,7 @@ pub orderly_with_zone : (w : WorldState) (zone : ZoneState) → IsOrderly w → 
 orderly_with_zone w zone o law same migrate free blocks = orderly_like w zone w.scan w.is_open o law same (λ e. e) (omega (arith, o.few.0, migrate), omega (arith, o.few.1, free, blocks))
 
 -- a world in which no page is moving, where its hands are empty
-pub orderly_at_rest : (zone : ZoneState) (scan : ScanSeat) (ends : EndSeat) (hands : List Hand) → IsValidZone zone → ends.parts ≡ 64 → length hands ≡ 4 → list_all is_empty hands ≡ true → ((serial : ℕ) → is_out zone.records serial ≡ false)
+pub orderly_at_rest : (zone : ZoneState) (scan : ScanSeat) (ends : EndSeat) (hands : List (Held ℕ ℕ)) → IsValidZone zone → ends.parts ≡ 64 → length hands ≡ 4 → list_all is_nothing hands ≡ true → ((serial : ℕ) → is_out zone.records serial ≡ false)
     → IsOrderly (record { zone = zone; scan = scan; ends = ends; is_open = false; waiting = []; hands = hands })
 orderly_at_rest zone scan ends hands law whole four empty none = record {
   valid = law;
@@ -115,7 +116,7 @@ module _ (w : WorldState) (o : IsOrderly w) (is_open : w.is_open ≡ true) (pair
   ]
   isolated_out s (inr there) = or_right (nat_eq s next_serial) _ (in_hand_out w o there.0 s there.1 there.2)
 
-  not_waiting : (k s : ℕ) → 0 < k → serial_in (hand_of w k) ≡ Some s → list_any (nat_eq s) now_waiting ≡ true → ⊥
+  not_waiting : (k s : ℕ) → 0 < k → serial_in (held_at w.hands k) ≡ Some s → list_any (nat_eq s) now_waiting ≡ true → ⊥
   not_waiting k s some there e =
       let under : s < next_serial = below_next s (in_hand_out w o k s some there) in
       elim (waited w.waiting next_serial s e) [ inl before ↦ both_ways _ (o.one_place k s some there) before | inr same ↦ omega arith ]

@@ -1,9 +1,7 @@
 -- How the list and the hands of a world stand for its state, and what is true of them.
-use Rattle.std.specs.Prelude.{◌≡◌, ℕ, ◌-◌, ◌*◌, ◌/◌, ◌≤◌, Bool, true, false, List, [], map as each, slice_get, unwrap_or, Option, Some, None}
+use Rattle.std.specs.Prelude.{◌≡◌, ℕ, ◌*◌, ◌/◌, ◌≤◌, Bool, List, [], map as each, slice_get, Some}
 use Rattle.frame_core.specs.Page.{IsolatedPage}
 use Rattle.frame_core.specs.Serials.{serials_of}
-use Rattle.machine_core.specs.declared.hand.Hand.{Hand}
-use Rattle.machine_core.specs.declared.hand.Hand.TheVariants as hand
 use Rattle.machine_core.specs.declared.hands.Held.{Held}
 use Rattle.machine_core.specs.declared.hands.Held.TheVariants.{Nothing, Page, Copy}
 use Rattle.state_core.specs.Ending.{IsOwnCopy}
@@ -16,29 +14,10 @@ abbrev pub InHand : Type 0
 InHand = Held IsolatedPage IsolatedPage
 
 -- what contracts see of what a hand holds: the serial in place of the page
-abbrev pub hand_as : InHand → Hand
-hand_as Nothing = hand.Empty
-hand_as (Page p) = hand.Page p.serial
-hand_as (Copy p) = hand.Copy p.serial
-
--- the page that a hand holds, if it holds one
-abbrev pub page_held : InHand → Option IsolatedPage
-page_held (Page p) = Some p
-page_held _ = None
-
--- the copy that a hand holds, if it holds one
-abbrev pub copy_held : InHand → Option IsolatedPage
-copy_held (Copy p) = Some p
-copy_held _ = None
-
--- whether a hand holds nothing
-abbrev pub is_nothing : InHand → Bool
-is_nothing Nothing = true
-is_nothing _ = false
-
--- what hand k, 1 to 4, holds
-abbrev pub held_at : List InHand → ℕ → InHand
-held_at hands k = unwrap_or (slice_get hands (k - 1)) Nothing
+abbrev pub hand_as : InHand → Held ℕ ℕ
+hand_as Nothing = Nothing
+hand_as (Page p) = Page p.serial
+hand_as (Copy p) = Copy p.serial
 
 -- each of these pages, or copies of pages, is moving in the zone and has the page's words
 abbrev pub AreOwn : ZoneState → List IsolatedPage → Type 0

@@ -1,6 +1,7 @@
 pub mod Carried
 pub mod Ends
 pub mod ErrorNumber
+pub mod Hands
 pub mod Machine
 pub mod OneThread
 pub mod Refusals

@@ -7,9 +7,9 @@ use Rattle.state_core.specs.declared.call.ZoneCall.{ZoneCall}
 use Rattle.state_core.specs.declared.call.ZoneCall.TheVariants.{Map, Unmap, TakeOrder, GiveOrder}
 use Rattle.state_core.specs.declared.error.ZoneError.{ZoneError}
 use Rattle.state_core.specs.declared.error.ZoneError.TheVariants.{JournalFull, Unmapped}
-use Rattle.machine_core.specs.declared.hand.Finished.{Finished}
-use Rattle.machine_core.specs.declared.hand.Scanned.{Scanned}
-use Rattle.machine_core.specs.declared.hand.Scanned.TheVariants as scan
+use Rattle.machine_core.specs.declared.finished.Finished.{Finished}
+use Rattle.machine_core.specs.declared.scanned.Scanned.{Scanned}
+use Rattle.machine_core.specs.declared.scanned.Scanned.TheVariants as scan
 use Rattle.state_core.specs.declared.moves.Ended.{Ended}
 use Rattle.state_core.specs.declared.moves.Ended.TheVariants as ended
 use Rattle.state_core.specs.declared.information.Look.{Look as Known}

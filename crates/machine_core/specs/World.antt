@@ -1,5 +1,5 @@
 -- A world: a zone, its isolated pages, and four hands.
-use Rattle.std.specs.Prelude.{◌≡◌, ℕ, ◌+◌, ◌-◌, ◌<◌, ◌≤◌, ◌↔◌, nat_eq, Bool, true, false, ◌||◌, List, [], ◌∷◌, ◌++◌, length, replicate, slice_get, slice_set, unwrap_or, if◌then◌else◌, Option, Some, None, IsTrue}
+use Rattle.std.specs.Prelude.{◌≡◌, ℕ, ◌+◌, ◌-◌, ◌<◌, ◌≤◌, ◌↔◌, nat_eq, Bool, true, false, ◌||◌, List, [], ◌∷◌, ◌++◌, length, replicate, slice_set, unwrap_or, if◌then◌else◌, Option, Some, None, IsTrue}
 use Rattle.std.specs.List.{list_any, list_all}
 use Rattle.std.specs.Option.{option_and_then}
 use Rattle.frame_core.specs.declared.record.Cause.TheVariants.{NotCopied}
@@ -7,11 +7,12 @@ use Rattle.frame_core.specs.Moves.{isolated, is_out, page_of}
 use Rattle.state_core.specs.declared.error.ZoneError.{ZoneError}
 use Rattle.state_core.specs.declared.moves.Next.TheVariants as next
 use Rattle.state_core.specs.declared.round.Pair.{Pair}
-use Rattle.machine_core.specs.declared.hand.Hand.{Hand}
-use Rattle.machine_core.specs.declared.hand.Hand.TheVariants.{Empty, Page, Copy as CopyOf}
-use Rattle.machine_core.specs.declared.hand.Scanned.{Scanned}
-use Rattle.machine_core.specs.declared.hand.Scanned.TheVariants as found
-use Rattle.machine_core.specs.declared.hand.Finished.{Finished}
+use Rattle.machine_core.specs.declared.finished.Finished.{Finished}
+use Rattle.machine_core.specs.declared.hands.Held.{Held}
+use Rattle.machine_core.specs.declared.hands.Held.TheVariants.{Nothing, Page, Copy}
+use Rattle.machine_core.specs.declared.scanned.Scanned.{Scanned}
+use Rattle.machine_core.specs.declared.scanned.Scanned.TheVariants as found
+use Rattle.machine_core.specs.Hands.{held_at, is_nothing, page_held, copy_held, serial_in}
 use Rattle.state_core.specs.Valid.{IsValidZone}
 use Rattle.state_core.specs.Rounds.{round_begun}
 use Rattle.state_core.specs.Isolating.{isolate_refusal, isolated_next, next_answer}
@@ -31,12 +32,12 @@ pub record WorldState : Type 0 where
   pub is_open : Bool
   -- the serials of the pages that wait for a hand to take them
   pub waiting : List ℕ
-  -- what each of the four hands holds
-  pub hands : List Hand
+  -- what each of the four hands holds: nothing, a page or its copy, under its serial
+  pub hands : List (Held ℕ ℕ)
 
 -- a world in which no round is open and no page is moving, with this zone and these seats
 abbrev pub world_closed : ZoneState → ScanSeat → EndSeat → WorldState
-world_closed zone scan ends = record { zone = zone; scan = scan; ends = ends; is_open = false; waiting = []; hands = replicate 4 Empty }
+world_closed zone scan ends = record { zone = zone; scan = scan; ends = ends; is_open = false; waiting = []; hands = replicate 4 Nothing }
 
 -- a world with an empty zone, with this many words in a page
 abbrev pub world_opened_with : ℕ → ℕ → ℕ → ℕ → WorldState
@@ -50,34 +51,9 @@ world_opened number blocks places = world_opened_with 8 number blocks places
 abbrev pub with_zone : WorldState → ZoneState → WorldState
 with_zone w zone = record w { zone = zone }
 
--- what hand k, 1 to 4, holds
-abbrev pub hand_of : WorldState → ℕ → Hand
-hand_of w k = unwrap_or (slice_get w.hands (k - 1)) Empty
-
 -- the world in which hand k, 1 to 4, holds this
-abbrev pub with_hand : WorldState → ℕ → Hand → WorldState
+abbrev pub with_hand : WorldState → ℕ → Held ℕ ℕ → WorldState
 with_hand w k hand = record w { hands = slice_set w.hands (k - 1) hand }
-
--- whether a hand holds nothing
-abbrev pub is_empty : Hand → Bool
-is_empty Empty = true
-is_empty _ = false
-
--- the serial of the page that a hand holds, if it holds a page
-abbrev pub page_in : Hand → Option ℕ
-page_in (Page serial) = Some serial
-page_in _ = None
-
--- the serial of the copy that a hand holds, if it holds a copy
-abbrev pub copy_in : Hand → Option ℕ
-copy_in (CopyOf serial) = Some serial
-copy_in _ = None
-
--- the serial of the page or copy that a hand holds, if it holds one
-abbrev pub serial_in : Hand → Option ℕ
-serial_in Empty = None
-serial_in (Page serial) = Some serial
-serial_in (CopyOf serial) = Some serial
 
 -- the world with an open round: where none was open one was begun, which the seat counted
 abbrev pub round_opened : WorldState → WorldState
@@ -118,17 +94,17 @@ abbrev pub scanned : WorldState → WorldState
 scanned w = isolated_by (round_opened w) (next_pair (round_opened w).zone)
 
 -- the serial and the world after a hand took the page that has waited longest, and none unless the hand is empty and a page waits
-abbrev pub taken_by : WorldState → ℕ → Hand → List ℕ → Option (ℕ × WorldState)
-taken_by w k Empty (serial ∷ more) = Some (serial, record (with_hand w k (Page serial)) { waiting = more })
+abbrev pub taken_by : WorldState → ℕ → Held ℕ ℕ → List ℕ → Option (ℕ × WorldState)
+taken_by w k Nothing (serial ∷ more) = Some (serial, record (with_hand w k (Page serial)) { waiting = more })
 taken_by w k _ _ = None
 
 -- the serial and the world after a take by hand k, and none where it is refused
 abbrev pub take_step : WorldState → ℕ → Option (ℕ × WorldState)
-take_step w k = taken_by w k (hand_of w k) w.waiting
+take_step w k = taken_by w k (held_at w.hands k) w.waiting
 
 -- the world after hand k copied its page, and none where it has no page
 abbrev pub copy_step : WorldState → ℕ → Option WorldState
-copy_step w k = option_and_then (λ serial. Some (with_hand w k (CopyOf serial))) (page_in (hand_of w k))
+copy_step w k = option_and_then (λ serial. Some (with_hand w k (Copy serial))) (page_held (held_at w.hands k))
 
 -- how the move of a serial ends when its copy is brought
 abbrev pub finished_as : ZoneState → ℕ → Finished
@@ -140,14 +116,14 @@ finished_in z serial = committed z serial (unwrap_or (page_of z.records serial) 
 
 -- the world after hand k brought its copy to the zone: the hand is empty, and the end seat counts the page
 abbrev pub finished_by : WorldState → ℕ → ℕ → WorldState
-finished_by w k serial = record (with_hand w k Empty) {
+finished_by w k serial = record (with_hand w k Nothing) {
   zone = finished_in w.zone serial;
   ends = seat_ended w.ends (finished_as w.zone serial).ended;
 }
 
 -- how the move ended, and the world, after a finish by hand k, and none where it is refused
 abbrev pub finish_step : WorldState → ℕ → Option (Finished × WorldState)
-finish_step w k = option_and_then (λ serial. Some (finished_as w.zone serial, finished_by w k serial)) (copy_in (hand_of w k))
+finish_step w k = option_and_then (λ serial. Some (finished_as w.zone serial, finished_by w k serial)) (copy_held (held_at w.hands k))
 
 -- the zone after these serials were put back, in order, since their pages weren't copied
 abbrev pub all_put_back : ZoneState → List ℕ → ZoneState
@@ -165,7 +141,7 @@ shut w = record w {
 
 -- the number of pages that waited and the world after a shut, and none where a hand isn't empty
 abbrev pub shut_step : WorldState → Option (ℕ × WorldState)
-shut_step w = if list_all is_empty w.hands then Some (length w.waiting, shut w) else None
+shut_step w = if list_all is_nothing w.hands then Some (length w.waiting, shut w) else None
 
 -- each number is less than those after it
 abbrev pub IsRising : List ℕ → Type 0
@@ -195,8 +171,8 @@ pub record IsOrderly (w : WorldState) : Type 0 where
   pub rising : IsRising w.waiting
   pub out : (serial : ℕ) → IsTrue (is_out w.zone.records serial) ↔ IsTrue (waits w serial || is_in_hand w serial)
   -- no page is in two hands, or waits while it is in a hand
-  pub one_hand : (j k serial : ℕ) → serial_in (hand_of w j) ≡ Some serial → serial_in (hand_of w k) ≡ Some serial → 0 < j → 0 < k → j ≡ k
-  pub one_place : (k serial : ℕ) → 0 < k → serial_in (hand_of w k) ≡ Some serial → waits w serial ≡ false
+  pub one_hand : (j k serial : ℕ) → serial_in (held_at w.hands j) ≡ Some serial → serial_in (held_at w.hands k) ≡ Some serial → 0 < j → 0 < k → j ≡ k
+  pub one_place : (k serial : ℕ) → 0 < k → serial_in (held_at w.hands k) ≡ Some serial → waits w serial ≡ false
   -- no page is moving where no round is open
   pub closed : w.is_open ≡ false → (serial : ℕ) → is_out w.zone.records serial ≡ false
   -- no more pages wait than there are frames below the migrate finger, or from the free finger on; so at most half as many as

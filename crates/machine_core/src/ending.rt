@@ -10,7 +10,7 @@ ghost use Rattle.machine_core.specs.Carried.{AreOwn};
 ghost use Rattle.zone_core.specs.Seats.{seat_ended};
 ghost use Rattle.machine_core.specs.World.{IsRising, finished_as, finished_in, all_put_back};
 
-use crate::hand::Finished;
+use crate::finished::Finished;
 use frame_core::{CopiedOf, IsolatedOf};
 use std::collections::VecDeque;
 use std::sync::ledger::Ledger;

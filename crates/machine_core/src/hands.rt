@@ -2,13 +2,13 @@
 
 ghost use Rattle.std.specs.Prelude.{◌≡◌, ◌-◌, ◌<◌, ◌≤◌, [], ◌∷◌, List, ℕ, slice_set, IfSome, IfNone, OnSome, Some, None};
 ghost use Rattle.std.specs.List.{list_all};
-ghost use Rattle.machine_core.specs.Carried.{held_at, page_held, copy_held, is_nothing};
+ghost use Rattle.machine_core.specs.Hands.{held_at, page_held, copy_held, is_nothing};
 ghost use Rattle.machine_core.specs.declared.hands.Held.TheVariants.{Nothing};
 
 use frame_core::{CopiedOf, HandNo, IsolatedOf};
 use std::mem;
 
-/// What a hand holds: nothing, a page, or its copy.
+/// What a hand holds: nothing, a page, or its copy. Of a world, contracts see the serial of each.
 #[derive(Drop)]
 pub enum Held<P, C> {
     Nothing,

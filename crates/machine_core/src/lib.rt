@@ -10,20 +10,22 @@
 #![tactic(auto)]
 
 mod ending;
-mod hand;
+mod finished;
 mod hands;
 mod machine;
 mod options;
 mod refusal;
 mod rest;
+mod scanned;
 mod script;
 mod world;
 
-pub use hand::{Finished, Hand, Scanned};
+pub use finished::Finished;
 pub use machine::{Machine, reply_for};
 pub use options::Options;
 pub use refusal::Refusal;
 pub use rest::Rest as RestOf;
+pub use scanned::Scanned;
 pub use script::{run, run_text};
 pub use world::{World as WorldOf, WorldError};
 

@@ -9,8 +9,9 @@ ghost use Rattle.machine_core.specs.ErrorNumber.{world_number_of};
 ghost use Rattle.state_core.specs.ErrorNumber.{number_of};
 
 use crate::World;
-use crate::hand::{Finished, Scanned};
+use crate::finished::Finished;
 use crate::refusal::Refusal;
+use crate::scanned::Scanned;
 use crate::world::WorldError;
 use arrayvec::ArrayVec;
 use frame_core::{Address, BlockNo, ClientNo, PageFlags, Serial, SpaceNo, VPage, ZoneNo};

@@ -20,9 +20,10 @@ ghost use Rattle.state_core.specs.ZoneState.{lowest_free_frame};
 mod calls;
 
 use crate::ending::{finish_in, put_all_back_in};
-use crate::hand::{Finished, Scanned};
+use crate::finished::Finished;
 use crate::hands::{Hands, Held};
 use crate::rest::Rest;
+use crate::scanned::Scanned;
 use frame_core::{
     Address, ClientNo, FrameNo, HandNo, IsolatedOf, PageFlags, Serial, WordOf, ZoneNo,
 };

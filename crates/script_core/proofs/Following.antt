@@ -11,9 +11,10 @@ use Rattle.zone_core.specs.ByHand.{by_hand}
 use Rattle.zone_core.specs.Outcome.{IsSame}
 use Rattle.zone_core.proofs.Records.{isolated_same}
 use Rattle.zone_core.specs.Seats.{ScanSeat, EndSeat, audit_refusal}
-use Rattle.machine_core.specs.World.{IsOrderly, WorldState, is_in, is_in_hand, serial_in, waits, world_closed, world_opened}
-use Rattle.machine_core.specs.declared.hand.Hand.{Hand}
-use Rattle.machine_core.specs.declared.hand.Hand.TheVariants.{Empty, Page, Copy as CopyOf}
+use Rattle.machine_core.specs.Hands.{serial_in}
+use Rattle.machine_core.specs.World.{IsOrderly, WorldState, is_in, is_in_hand, waits, world_closed, world_opened}
+use Rattle.machine_core.specs.declared.hands.Held.{Held}
+use Rattle.machine_core.specs.declared.hands.Held.TheVariants.{Nothing, Page, Copy as CopyOf}
 use Rattle.round_core.specs.declared.error.RoundError.{RoundError}
 use Rattle.round_core.specs.declared.error.RoundError.TheVariants.{Memory, NoWorker, Broken, Stranger}
 use Rattle.round_core.specs.declared.round.Round.{Round}
@@ -173,9 +174,9 @@ nothing_waits (serial ∷ list) none =
     let bad : true ≡ false = ap (λ b. b || list_any (nat_eq serial) list) (sym first) ∙ none serial in
     cc
 
-hands_hold_nothing : (hands : List Hand) → ((serial : ℕ) → list_any (λ hand. is_in serial (serial_in hand)) hands ≡ false) → hands ≡ replicate (length hands) Empty
+hands_hold_nothing : (hands : List (Held ℕ ℕ)) → ((serial : ℕ) → list_any (λ hand. is_in serial (serial_in hand)) hands ≡ false) → hands ≡ replicate (length hands) Nothing
 hands_hold_nothing [] none = refl
-hands_hold_nothing (Empty ∷ hands) none = ap (λ (more : List Hand). Empty ∷ more) (hands_hold_nothing hands none)
+hands_hold_nothing (Nothing ∷ hands) none = ap (λ (more : List (Held ℕ ℕ)). Nothing ∷ more) (hands_hold_nothing hands none)
 hands_hold_nothing (Page serial ∷ hands) none =
     let bad : true ≡ false = ap (λ b. b || list_any (λ hand. is_in serial (serial_in hand)) hands) (sym (eq-eqb serial serial refl)) ∙ none serial in
     cc
@@ -188,7 +189,7 @@ closed_is w o closed =
     let none : (serial : ℕ) → (waits w serial || is_in_hand w serial) ≡ false = λ serial. false_from_ne_true _ (λ e. true≢false (sym ((o.out serial).1 e) ∙ o.closed closed serial)) in
     let waiting = nothing_waits w.waiting (λ serial. (or_parts _ _ (none serial)).0) in
     let hands = hands_hold_nothing w.hands (λ serial. (or_parts _ _ (none serial)).1) in
-    λ i. record { zone = w.zone; scan = w.scan; ends = w.ends; is_open = closed i; waiting = waiting i; hands = (hands ∙ ap (λ n. replicate n Empty) o.four) i }
+    λ i. record { zone = w.zone; scan = w.scan; ends = w.ends; is_open = closed i; waiting = waiting i; hands = (hands ∙ ap (λ n. replicate n Nothing) o.four) i }
 
 -- the world after a round or a pool, and that after it by hand
 closed_beside : (zone : ZoneState) (scan : ScanSeat) (ends : EndSeat) (z : ZoneState) (scan_z : ScanSeat) (ends_z : EndSeat) → IsSame zone z → IsAtRest zone → ends.parts ≡ 64 → IsAtRest z → ends_z.parts ≡ 64

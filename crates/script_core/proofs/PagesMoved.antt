@@ -13,10 +13,11 @@ use Rattle.state_core.specs.Ending.{moved_to_target, put_back_to_source}
 use Rattle.state_core.specs.Pairs.{next_pair}
 use Rattle.state_core.specs.Rounds.{round_begun}
 use Rattle.state_core.specs.ZoneState.{ZoneState}
-use Rattle.machine_core.specs.declared.hand.Finished.{Finished}
-use Rattle.machine_core.specs.declared.hand.Hand.{Hand}
-use Rattle.machine_core.specs.declared.hand.Hand.TheVariants.{Empty, Page, Copy}
-use Rattle.machine_core.specs.World.{WorldState, all_put_back, copy_in, copy_step, finish_step, finished_as, finished_by, is_empty, isolated_by, page_in, round_opened, scan_refusal, scan_stopped, scanned, shut, shut_step, take_step, taken_by, with_hand}
+use Rattle.machine_core.specs.declared.finished.Finished.{Finished}
+use Rattle.machine_core.specs.declared.hands.Held.{Held}
+use Rattle.machine_core.specs.declared.hands.Held.TheVariants.{Nothing, Page, Copy}
+use Rattle.machine_core.specs.Hands.{copy_held, is_nothing, page_held}
+use Rattle.machine_core.specs.World.{WorldState, all_put_back, copy_step, finish_step, finished_as, finished_by, isolated_by, round_opened, scan_refusal, scan_stopped, scanned, shut, shut_step, take_step, taken_by, with_hand}
 use Rattle.state_core.specs.Calls.{refusal_of}
 use Rattle.state_core.specs.declared.call.ZoneCall.TheVariants.{TakeOrder, GiveOrder}
 use Rattle.state_core.specs.Looking.{look_of}
@@ -57,9 +58,9 @@ pub scanned_leaves : (w : WorldState) → LeavesCells w.zone (scanned w).zone
 scanned_leaves w = leaves_then w.zone (round_opened w).zone (scanned w).zone (opened_leaves w) (isolated_leaves (round_opened w) (next_pair (round_opened w).zone))
 
 -- a hand takes a page, and copies it
-taken_zone : (w : WorldState) (k serial : ℕ) (after : WorldState) (hand : Hand) (waiting : List ℕ) → taken_by w k hand waiting ≡ Some (serial, after) → w.zone ≡ after.zone
-taken_zone w k serial after Empty (first ∷ more) e = ap (λ (v : WorldState). v.zone) (some_pair_parts first serial (record (with_hand w k (Page first)) { waiting = more }) after e).1
-taken_zone w k serial after Empty [] e = cc
+taken_zone : (w : WorldState) (k serial : ℕ) (after : WorldState) (hand : Held ℕ ℕ) (waiting : List ℕ) → taken_by w k hand waiting ≡ Some (serial, after) → w.zone ≡ after.zone
+taken_zone w k serial after Nothing (first ∷ more) e = ap (λ (v : WorldState). v.zone) (some_pair_parts first serial (record (with_hand w k (Page first)) { waiting = more }) after e).1
+taken_zone w k serial after Nothing [] e = cc
 taken_zone w k serial after (Page s) waiting e = cc
 taken_zone w k serial after (Copy s) waiting e = cc
 
@@ -67,14 +68,14 @@ pub taken_leaves : (w : WorldState) (k serial : ℕ) (after : WorldState) → ta
 taken_leaves w k serial after e = subst (LeavesCells w.zone) (taken_zone w k serial after _ w.waiting e) (leaves_all w.zone)
 
 pub copied_leaves : (w : WorldState) (k : ℕ) (after : WorldState) → copy_step w k ≡ Some after → LeavesCells w.zone after.zone
-copied_leaves w k after e = by_page (page_in _) e where
+copied_leaves w k after e = by_page (page_held _) e where
   by_page : (o : Option ℕ) → option_and_then (λ serial. Some (with_hand w k (Copy serial))) o ≡ Some after → LeavesCells w.zone after.zone
   by_page None e = cc
   by_page (Some serial) e = subst (λ (v : WorldState). LeavesCells w.zone v.zone) (same_Some _ _ e) (leaves_all w.zone)
 
 -- a move ends
 pub finished_leaves : (w : WorldState) (k : ℕ) (finished : Finished) (after : WorldState) → finish_step w k ≡ Some (finished, after) → LeavesCells w.zone after.zone
-finished_leaves w k finished after e = by_copy (copy_in _) e where
+finished_leaves w k finished after e = by_copy (copy_held _) e where
   by_pins : (serial page : ℕ) (b : Bool) → LeavesCells w.zone (if b then moved_to_target w.zone serial page else put_back_to_source w.zone serial page Pinned)
   by_pins serial page true = record { blocks = refl; names = λ address. refl; words = λ page word. refl }
   by_pins serial page false = record { blocks = refl; names = λ address. refl; words = λ page word. refl }
@@ -93,7 +94,7 @@ put_back_leaves (serial ∷ more) z =
     leaves_then z next (all_put_back next more) (record { blocks = refl; names = λ address. refl; words = λ page word. refl }) (put_back_leaves more next)
 
 pub shut_leaves : (w : WorldState) (count : ℕ) (after : WorldState) → shut_step w ≡ Some (count, after) → LeavesCells w.zone after.zone
-shut_leaves w count after e = by_empty (list_all is_empty w.hands) e where
+shut_leaves w count after e = by_empty (list_all is_nothing w.hands) e where
   by_empty : (b : Bool) → if◌then◌else◌ {A = Option (ℕ × WorldState)} b (Some (length w.waiting, shut w)) None ≡ Some (count, after) → LeavesCells w.zone after.zone
   by_empty true e = subst (λ (v : WorldState). LeavesCells w.zone v.zone) (some_pair_parts _ count (shut w) after e).1 (put_back_leaves w.waiting w.zone)
   by_empty false e = cc

@@ -8,9 +8,9 @@ use Rattle.state_core.specs.declared.moves.Ended.{Ended}
 use Rattle.state_core.specs.declared.moves.Ended.TheVariants as ended
 use Rattle.state_core.specs.Looking.{look_of}
 use Rattle.state_core.specs.Calls.{refusal_of, answer_of}
-use Rattle.machine_core.specs.declared.hand.Finished.{Finished}
-use Rattle.machine_core.specs.declared.hand.Scanned.{Scanned}
-use Rattle.machine_core.specs.declared.hand.Scanned.TheVariants as scan
+use Rattle.machine_core.specs.declared.finished.Finished.{Finished}
+use Rattle.machine_core.specs.declared.scanned.Scanned.{Scanned}
+use Rattle.machine_core.specs.declared.scanned.Scanned.TheVariants as scan
 use Rattle.machine_core.specs.World.{WorldState, copy_step, finish_step, scan_answer, scan_refusal, scan_stopped, shut_step, take_step}
 use Rattle.text_core.specs.declared.command.Call.{Call}
 use Rattle.text_core.specs.declared.command.Call.TheVariants.{Info, InfoWithHeld, Scan, Take, Copy, Finish, Shut, Look as LookAt, Huge, Give}

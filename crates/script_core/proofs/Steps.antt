@@ -10,7 +10,7 @@ use Rattle.state_core.specs.declared.call.ZoneCall.TheVariants.{TakeOrder, GiveO
 use Rattle.state_core.specs.Looking.{look_of}
 use Rattle.state_core.specs.Calls.{IsInRange, refusal_of, after}
 use Rattle.state_core.proofs.Calls.{call_valid}
-use Rattle.machine_core.specs.declared.hand.Finished.{Finished}
+use Rattle.machine_core.specs.declared.finished.Finished.{Finished}
 use Rattle.zone_core.specs.Seats.{seat_full}
 use Rattle.machine_core.specs.World.{IsOrderly, WorldState, copy_step, finish_step, round_opened, scan_refusal, scan_stopped, shut_step, take_step, with_zone}
 use Rattle.machine_core.proofs.Carrying.{call_leaves}

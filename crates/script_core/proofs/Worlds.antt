@@ -1,6 +1,6 @@
 -- Worlds that are the same answer each call alike, refusals too, and are the same after it.
 use Rattle.std.proofs.Common.{◌≡◌, ℕ, zero, suc, ◌+◌, ◌-◌, ◌*◌, Bool, true, false, cond, List, [], ◌∷◌, ◌++◌, length, refl, ap, subst, subst₂, ◌∙◌, Option, Some, None, option_and_then}
-use Rattle.std.specs.Prelude.{slice_get, slice_set, unwrap_or}
+use Rattle.std.specs.Prelude.{slice_set, unwrap_or}
 use Rattle.std.specs.List.{list_all}
 use Rattle.frame_core.specs.declared.place.Address.{Address}
 use Rattle.frame_core.specs.declared.record.Cause.TheVariants.{NotCopied}
@@ -21,12 +21,13 @@ use Rattle.zone_core.specs.Fingers.{IsSameInRound}
 use Rattle.zone_core.proofs.Calls.{look_agrees, info_agrees, answers_agree, refusals_agree, same_after}
 use Rattle.zone_core.proofs.Moves.{LeavesFingers, begun_agrees, committed_agrees, committed_leaves, ended_agrees, isolate_agrees}
 use Rattle.zone_core.proofs.Moves.{next_agrees, page_of_agrees, pair_agrees, put_back_agrees, stays_in_round}
-use Rattle.machine_core.specs.declared.hand.Finished.{Finished}
-use Rattle.machine_core.specs.declared.hand.Hand.{Hand}
-use Rattle.machine_core.specs.declared.hand.Hand.TheVariants.{Empty, Page, Copy as CopyOf}
-use Rattle.machine_core.specs.World.{WorldState, all_put_back, copy_in, finished_as, finished_by, finished_in, hand_of, is_empty, isolated_by}
+use Rattle.machine_core.specs.declared.finished.Finished.{Finished}
+use Rattle.machine_core.specs.declared.hands.Held.{Held}
+use Rattle.machine_core.specs.declared.hands.Held.TheVariants.{Nothing, Page, Copy as CopyOf}
+use Rattle.machine_core.specs.Hands.{copy_held, held_at, is_nothing, page_held}
+use Rattle.machine_core.specs.World.{WorldState, all_put_back, finished_as, finished_by, finished_in, isolated_by}
 use Rattle.machine_core.proofs.Carrying.{call_leaves}
-use Rattle.machine_core.specs.World.{page_in, round_opened, scan_refusal, scan_stopped, scanned_by, shut, taken_by, with_hand, with_zone}
+use Rattle.machine_core.specs.World.{round_opened, scan_refusal, scan_stopped, scanned_by, shut, taken_by, with_hand, with_zone}
 use Rattle.text_core.specs.declared.command.Call.{Call}
 use Rattle.text_core.specs.declared.command.Call.TheVariants.{Info, InfoWithHeld, Scan, Take, Copy, Finish, Shut, Look as LookAt, Huge, Give}
 use Rattle.text_core.specs.declared.command.Calls.{Calls}
@@ -67,7 +68,7 @@ abbrev finds : WorldState → Option Pair → Answered
 finds u pair = says (found (scanned_by (round_opened u).zone pair)) (isolated_by (round_opened u) pair)
 
 -- a take by hand k, where it holds this and these serials wait
-abbrev takes : WorldState → ℕ → Hand → List ℕ → Answered
+abbrev takes : WorldState → ℕ → Held ℕ ℕ → List ℕ → Answered
 takes u k hand waiting = by_hand (λ serial. reply.Serial serial) u (taken_by u k hand waiting)
 
 -- a copy by hand k, where it holds this page or none
@@ -138,24 +139,24 @@ module _ (v w : WorldState) (same : IsSameWorld v w) where
 
   -- what a hand does
 
-  hand_same : (k : ℕ) → hand_of v k ≡ hand_of w k
-  hand_same k = ap (λ hands. unwrap_or (slice_get hands (k - 1)) Empty) same.hands
+  hand_same : (k : ℕ) → held_at v.hands k ≡ held_at w.hands k
+  hand_same k = ap (λ hands. held_at hands k) same.hands
 
-  with_same : (k : ℕ) (hand : Hand) → IsSameWorld (with_hand v k hand) (with_hand w k hand)
+  with_same : (k : ℕ) (hand : Held ℕ ℕ) → IsSameWorld (with_hand v k hand) (with_hand w k hand)
   with_same k hand = record { zone = same.zone; is_open = same.is_open; in_round = same.in_round; waiting = same.waiting; hands = ap (λ hands. slice_set hands (k - 1) hand) same.hands }
 
   take_alike : (k : ℕ) → Alike (call_step v (Take k)) (call_step w (Take k))
-  take_alike k = subst₂ (λ hand waiting. Alike (call_step v (Take k)) (takes w k hand waiting)) (hand_same k) same.waiting (by (hand_of v k) v.waiting) where
-    by : (hand : Hand) (waiting : List ℕ) → Alike (takes v k hand waiting) (takes w k hand waiting)
-    by Empty [] = record { reply = refl; world = same }
-    by Empty (serial ∷ more) =
+  take_alike k = subst₂ (λ hand waiting. Alike (call_step v (Take k)) (takes w k hand waiting)) (hand_same k) same.waiting (by (held_at v.hands k) v.waiting) where
+    by : (hand : Held ℕ ℕ) (waiting : List ℕ) → Alike (takes v k hand waiting) (takes w k hand waiting)
+    by Nothing [] = record { reply = refl; world = same }
+    by Nothing (serial ∷ more) =
         let after = with_same k (Page serial) in
         record { reply = refl; world = record { zone = after.zone; is_open = after.is_open; in_round = after.in_round; waiting = refl; hands = after.hands } }
     by (Page serial) waiting = record { reply = refl; world = same }
     by (CopyOf serial) waiting = record { reply = refl; world = same }
 
   copy_alike : (k : ℕ) → Alike (call_step v (Copy k)) (call_step w (Copy k))
-  copy_alike k = subst (λ hand. Alike (call_step v (Copy k)) (copies w k (page_in hand))) (hand_same k) (by (page_in (hand_of v k))) where
+  copy_alike k = subst (λ hand. Alike (call_step v (Copy k)) (copies w k (page_held hand))) (hand_same k) (by (page_held (held_at v.hands k))) where
     by : (page : Option ℕ) → Alike (copies v k page) (copies w k page)
     by None = record { reply = refl; world = same }
     by (Some serial) = record { reply = refl; world = with_same k (CopyOf serial) }
@@ -168,12 +169,12 @@ module _ (v w : WorldState) (same : IsSameWorld v w) where
       let page = unwrap_or (page_of v.zone.records serial) 0 in
       let ends : IsSame (finished_in v.zone serial) (finished_in w.zone serial)
       = subst (λ n. IsSame (finished_in v.zone serial) (committed w.zone serial n)) (page_same serial) (committed_agrees v.zone w.zone same.zone serial page) in
-      let hand = with_same k Empty in
+      let hand = with_same k Nothing in
       let zone = zone_alike (finished_in v.zone serial) (finished_in w.zone serial) ends (committed_leaves v.zone serial page) (committed_leaves w.zone serial _) in
       record { zone = zone.zone; is_open = same.is_open; in_round = zone.in_round; waiting = same.waiting; hands = hand.hands }
 
   finish_alike : (k : ℕ) → Alike (call_step v (Finish k)) (call_step w (Finish k))
-  finish_alike k = subst (λ hand. Alike (call_step v (Finish k)) (finishes w k (copy_in hand))) (hand_same k) (by (copy_in (hand_of v k))) where
+  finish_alike k = subst (λ hand. Alike (call_step v (Finish k)) (finishes w k (copy_held hand))) (hand_same k) (by (copy_held (held_at v.hands k))) where
     by : (copy : Option ℕ) → Alike (finishes v k copy) (finishes w k copy)
     by None = record { reply = refl; world = same }
     by (Some serial) = record {
@@ -182,7 +183,7 @@ module _ (v w : WorldState) (same : IsSameWorld v w) where
     }
 
   shut_alike : Alike (call_step v Shut) (call_step w Shut)
-  shut_alike = subst (λ hands. Alike (call_step v Shut) (shuts_if w (list_all is_empty hands))) same.hands (by (list_all is_empty v.hands)) where
+  shut_alike = subst (λ hands. Alike (call_step v Shut) (shuts_if w (list_all is_nothing hands))) same.hands (by (list_all is_nothing v.hands)) where
     by : (empty : Bool) → Alike (shuts_if v empty) (shuts_if w empty)
     by false = record { reply = refl; world = same }
     by true = record {

@@ -4,7 +4,7 @@ use Rattle.std.specs.VecDeque.{deque_capacity}
 use Rattle.machine_core.specs.Carried.{world_of}
 use Rattle.machine_core.specs.World.{WorldState, finish_step, finished_as}
 use Rattle.zone_core.specs.Seats.{seat_ended}
-use Rattle.machine_core.specs.declared.hand.Finished.{Finished}
+use Rattle.machine_core.specs.declared.finished.Finished.{Finished}
 use Rattle.machine_core.proofs.Holding.{own_in_hand, step_finished, carried_finished}
 use Rattle.machine_core.proofs.world.World.finish.Given.{Over}
 use Rattle.machine_core.proofs.world.World.finish.Goals as goal

@@ -2,7 +2,8 @@ use Rattle.std.proofs.Common.{◌≡◌, ◌∷◌, true, List, sym, ap, subst, 
 use Rattle.std.specs.Prelude.{Some}
 use Rattle.std.specs.VecDeque.{deque_capacity}
 use Rattle.frame_core.specs.Page.{IsolatedPage}
-use Rattle.machine_core.specs.Carried.{is_nothing, held_at, world_of, IsCarried}
+use Rattle.machine_core.specs.Carried.{world_of, IsCarried}
+use Rattle.machine_core.specs.Hands.{is_nothing, held_at}
 use Rattle.machine_core.specs.World.{WorldState, take_step}
 use Rattle.machine_core.proofs.Holding.{step_taken, carried_taken}
 use Rattle.machine_core.proofs.world.World.take.Given.{Over}
