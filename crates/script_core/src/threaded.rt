@@ -1,4 +1,4 @@
-ghost use Rattle.std.specs.Prelude.{◌≡◌, ◌⊎◌, ◌+◌, ◌≤◌, ◌↔◌, [], false, length, None, IsOk, IfOk, OnErr, IfSome, IfNone};
+ghost use Rattle.std.specs.Prelude.{◌≡◌, ◌⊎◌, ◌+◌, ◌≤◌, ◌↔◌, [], false, length, Some, None, option_map, IsOk, IfOk, OnErr, IfSome, IfNone};
 ghost use Rattle.std.specs.Result.{result_err};
 ghost use Rattle.round_core.specs.Kept.{LockInvariant};
 ghost use Rattle.round_core.specs.Rounds.{IsRefusedEarly, IsRound};
@@ -75,7 +75,7 @@ impl<I: Ledger, N: Ledger, M: Ledger, B: Ledger> WithThreads<I, N, M, B> {
     /// The zone that is open, if one is.
     #[inline(always)]
     pub(crate) fn zone(&self) -> Option<&Zone<I, M, B>>
-        ensures some { IfSome result (λ zone. IfSome self.now.single.world (λ world. zone.now ≡ world.zone)) }
+        ensures some { IfSome result (λ zone. option_map (λ w. w.zone) self.now.single.world ≡ Some zone.now) }
         ensures none { IfNone result (self.now.single.world ≡ None) }
     {
         let world = self.machine.world()?;
