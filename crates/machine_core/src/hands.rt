@@ -1,6 +1,6 @@
 //! The four hands of a world.
 
-ghost use Rattle.std.specs.Prelude.{◌≡◌, ◌-◌, ◌<◌, ◌≤◌, [], ◌∷◌, List, ℕ, slice_set, IfSome, IfNone, OnSome, Some, None};
+ghost use Rattle.std.specs.Prelude.{◌≡◌, ◌-◌, ◌<◌, ◌≤◌, [], ◌∷◌, slice_set, IfNone, OnSome};
 ghost use Rattle.std.specs.List.{list_all};
 ghost use Rattle.machine_core.specs.Hands.{held_at, page_held, copy_held, is_nothing};
 ghost use Rattle.machine_core.specs.declared.hands.Held.TheVariants.{Nothing};

@@ -16,8 +16,6 @@ use Rattle.state_core.specs.Unmapping.{is_last, unmapped, without_page}
 use Rattle.state_core.specs.ZoneState.{ZoneState, lowest_free_frame, noted}
 use Rattle.state_core.proofs.Placed.{clash}
 use Rattle.machine_core.proofs.Carrying.{frame_left, frame_left_at}
-use Rattle.machine_core.specs.declared.scanned.Scanned.TheVariants as scan
-use Rattle.state_core.specs.declared.moves.Ended.TheVariants as ended
 use Rattle.machine_core.specs.World.{IsOrderly, WorldState, with_zone, world_opened}
 use Rattle.text_core.specs.declared.command.Call.{Call}
 use Rattle.text_core.specs.declared.command.Call.TheVariants.{Info, InfoWithHeld}

@@ -1,5 +1,5 @@
 //! The options of the program.
-ghost use Rattle.std.specs.Prelude.{◌≡◌, ◌≤◌, Some, false, codes, map, option_map, pos, unwrap_or, [], ◌∷◌, IfOk, IfErr, IsErrAnd};
+ghost use Rattle.std.specs.Prelude.{◌≡◌, ◌≤◌, false, map, option_map, pos, unwrap_or, [], ◌∷◌, IfOk, IfErr, IsErrAnd};
 ghost use Rattle.std.specs.Vec.Iter.{into_iter_items};
 ghost use Rattle.clap.specs.Words.{FailsBy, IsPlain, IsPlainArg, app_of, found_of, kind_of, one_text, rule_of};
 ghost use Rattle.clap.specs.Kinds.{HasKind};

@@ -1,6 +1,6 @@
 //! The counts and sets of a zone, beside what walks over its frames and its journal find.
 
-ghost use Rattle.std.specs.Prelude.{◌≡◌, ◌<◌, ◌≤◌, length};
+ghost use Rattle.std.specs.Prelude.{◌<◌, length};
 
 use super::calls::{Answer, looked};
 use super::lists::Listed;

@@ -1,6 +1,6 @@
 //! Calls of a world that are drawn from a fixed seed.
 
-ghost use Rattle.std.specs.Prelude.{◌≡◌, ◌<◌};
+ghost use Rattle.std.specs.Prelude.{◌<◌};
 
 use super::calls::{Call, Name};
 use super::world::Step;

@@ -1,6 +1,6 @@
 //! The addresses that are listed under each frame, beside what walks over all entries find.
 
-ghost use Rattle.std.specs.Prelude.{◌≡◌, ◌<◌, ◌≤◌, length};
+ghost use Rattle.std.specs.Prelude.{◌≡◌, ◌<◌, length};
 
 use super::{address, frame};
 use arrayvec::ArrayVec;

@@ -7,7 +7,7 @@ mod moves;
 mod words;
 
 use super::calls::{Answer, Call, PAGE, told, value_of};
-use super::{address, client};
+use super::client;
 use frame_core::{IsolatedOf, Serial, ZoneNo};
 use std::process::Abort;
 use std::sync::ledger::Ledger;
