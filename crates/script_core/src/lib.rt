@@ -8,16 +8,16 @@
 //! `given_options` is what clap makes of its words, and the options that they give.
 #![tactic(auto)]
 
-mod alone;
-mod answering;
+mod base_machine;
 mod beside;
+mod dispatcher;
 mod law;
 mod on_threads;
 mod options;
 mod process;
 mod report;
-mod threaded;
 mod watched;
+mod with_threads;
 
 pub use law::{
     counts_add_up, profile_2_keeps_replies, replies_are_by_hand, values_are_stored, worlds_agree,

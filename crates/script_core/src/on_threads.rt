@@ -11,9 +11,9 @@ ghost use Rattle.text_core.specs.Streams.{CannotReadOn};
 ghost use Rattle.script_core.specs.ByHand.{IsAloneScript, IsByHandStep, OpensByHand, To};
 ghost use Rattle.script_core.specs.WithThreads.{AsksMemory, IsBlockFor, IsStepBy, IsThreadedStep, IsUnthreadedScript, is_threaded, threaded_at_first};
 
-use crate::answering::Dispatcher;
-use crate::threaded::WithThreads;
+use crate::dispatcher::Dispatcher;
 use crate::watched::{NoWatch, Watch, Watched};
+use crate::with_threads::WithThreads;
 use frame_core::ZoneNo;
 use machine_core::Options;
 use std::alloc::Global;

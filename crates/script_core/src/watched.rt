@@ -1,7 +1,7 @@
 //! A run of a script that is watched.
 
-use crate::answering::Dispatcher;
-use crate::threaded::WithThreads;
+use crate::dispatcher::Dispatcher;
+use crate::with_threads::WithThreads;
 use std::alloc::AllocError;
 use std::sync::ledger::Ledger;
 use text_core::{Answer, Answers, Block, Command, Reply, Respond};

@@ -7,7 +7,7 @@ use Rattle.state_core.specs.declared.information.Audit.{Audit}
 use Rattle.machine_core.specs.OneThread.{OneThread}
 use Rattle.script_core.specs.WithThreads.{WithThreads}
 use Rattle.script_core.proofs.Rounds.{left_broken, left_whole}
-use Rattle.script_core.proofs.threaded.WithThreads.take_back.Goals as goal
+use Rattle.script_core.proofs.with_threads.WithThreads.take_back.Goals as goal
 
 pub returns-in-Ok-clause-left : goal.returns-in-Ok-clause-left
 returns-in-Ok-clause-left g c =

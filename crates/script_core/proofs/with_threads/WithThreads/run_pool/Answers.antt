@@ -4,7 +4,7 @@ use Rattle.huge_core.specs.ByHand.{IsReservedByHand}
 use Rattle.huge_core.specs.declared.report.Stop.TheVariants as stop
 use Rattle.zone_core.specs.Alone.{IsAtRest}
 use Rattle.script_core.proofs.Pools.{pool_done}
-use Rattle.script_core.proofs.threaded.WithThreads.run_pool.Goals as goal
+use Rattle.script_core.proofs.with_threads.WithThreads.run_pool.Goals as goal
 
 pub returns : goal.returns
 returns g c =

@@ -1,6 +1,6 @@
 use Rattle.std.proofs.Common.{◌≡◌, ◌≤◌, ◌++◌, drop, length}
 use Rattle.script_core.specs.WithThreads.{told_of}
-use Rattle.script_core.proofs.threaded.told_of.Given as goal
+use Rattle.script_core.proofs.with_threads.told_of.Given as goal
 
 -- the numbers so far, and those of the blocks that are left
 abbrev pub invariant-loop-block : goal.invariant-loop-block

@@ -1,7 +1,7 @@
 use Rattle.std.proofs.Common.{subst}
 use Rattle.script_core.specs.WithThreads.{ComesToByHand}
 use Rattle.script_core.proofs.Rounds.{round_over}
-use Rattle.script_core.proofs.threaded.WithThreads.run_round.Goals as goal
+use Rattle.script_core.proofs.with_threads.WithThreads.run_round.Goals as goal
 
 pub returns : goal.returns
 returns g c =

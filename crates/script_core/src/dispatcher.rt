@@ -3,8 +3,8 @@ ghost use Rattle.text_core.specs.declared.command.Command.TheVariants.{Compact, 
 ghost use Rattle.text_core.specs.Script.{command_in_block};
 ghost use Rattle.script_core.specs.WithThreads.{AsksMemory, IsBlockFor, IsStepBy, IsThreadedStep, is_threaded};
 
-use crate::alone::BaseMachine;
-use crate::threaded::{broken_reply, broken_reply_to_block};
+use crate::base_machine::BaseMachine;
+use crate::with_threads::{broken_reply, broken_reply_to_block};
 use frame_core::ZoneNo;
 use std::alloc::AllocError;
 use text_core::{Answers, Block, BlockCount, Command, PoolBlocks, Reply, Respond};

@@ -11,7 +11,7 @@ ghost use Rattle.script_core.specs.Clients.{HasRoomForAnswers};
 ghost use Rattle.script_core.specs.WithThreads.{ComesToByHand, HasGivenAway, IsBlockFor, IsNothingRun, IsPoolOn, IsRoundBeside, IsRoundOn, IsSettledReply, IsSplit, IsStepBy, IsThreadedStep, IsTurnBeside, IsUnstarted, broken_refusal, broken_reply, is_threaded, left_by, pool_reply, round_reply, threaded_at_first, told_of};
 ghost use Rattle.script_core.specs.MachineByHand.{pool_stopped_as, stopped_as};
 
-use crate::alone::BaseMachine;
+use crate::base_machine::BaseMachine;
 use crate::beside::{ClientAndRound, ClientTurn, compact_beside};
 use arrayvec::ArrayVec;
 use client_core::{Client, settle_clients};

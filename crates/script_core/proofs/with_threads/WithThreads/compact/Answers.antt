@@ -1,5 +1,5 @@
 use Rattle.script_core.proofs.Rounds.{came_by_hand}
-use Rattle.script_core.proofs.threaded.WithThreads.compact.Goals as goal
+use Rattle.script_core.proofs.with_threads.WithThreads.compact.Goals as goal
 
 pub returns-clause-by_hand : goal.returns-clause-by_hand
 returns-clause-by_hand g c =

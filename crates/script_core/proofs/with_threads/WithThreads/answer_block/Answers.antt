@@ -5,7 +5,7 @@ use Rattle.text_core.specs.Script.{command_in_block}
 use Rattle.machine_core.specs.OneThread.{OneThread}
 use Rattle.script_core.specs.WithThreads.{WithThreads}
 use Rattle.script_core.proofs.Rounds.{block_for, block_step}
-use Rattle.script_core.proofs.threaded.WithThreads.answer_block.Goals as goal
+use Rattle.script_core.proofs.with_threads.WithThreads.answer_block.Goals as goal
 
 pub returns-clause-ok : goal.returns-clause-ok
 returns-clause-ok g c =

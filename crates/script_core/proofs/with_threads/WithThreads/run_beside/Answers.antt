@@ -4,7 +4,7 @@ use Rattle.text_core.specs.Script.{command_in_block}
 use Rattle.script_core.specs.WithThreads.{WithThreads}
 use Rattle.script_core.proofs.ClientAnswers.{length-client_answers}
 use Rattle.script_core.proofs.Rounds.{turn_of}
-use Rattle.script_core.proofs.threaded.WithThreads.run_beside.Goals as goal
+use Rattle.script_core.proofs.with_threads.WithThreads.run_beside.Goals as goal
 
 pub returns-in_default : goal.returns-in_default
 returns-in_default g c = inr (record { one = search rules; nothing = MatchOption-at_none _ _ c.in_default.is c.run_turn.ensures.none })

@@ -7,7 +7,7 @@ use Rattle.text_core.specs.Script.{Answer}
 use Rattle.script_core.specs.Clients.{AreClientAnswers}
 use Rattle.script_core.specs.WithThreads.{WithThreads, left_by}
 use Rattle.script_core.proofs.Rounds.{nothing_ran, round_over}
-use Rattle.script_core.proofs.threaded.WithThreads.run_turn.Goals as goal
+use Rattle.script_core.proofs.with_threads.WithThreads.run_turn.Goals as goal
 
 pub returns-in_default-clause-none : goal.returns-in_default-clause-none
 returns-in_default-clause-none g c =

@@ -4,8 +4,8 @@ use Rattle.arrayvec.specs.ArrayVec.{ArrayVec}
 use Rattle.text_core.specs.Pool.{told_as}
 use Rattle.script_core.specs.WithThreads.{told_of}
 use Rattle.script_core.proofs.Pools.{told_at, told_more}
-use Rattle.script_core.proofs.threaded.told_of.Goals as goal
-use Rattle.script_core.proofs.threaded.told_of.Goals.{in-Some, in_default}
+use Rattle.script_core.proofs.with_threads.told_of.Goals as goal
+use Rattle.script_core.proofs.with_threads.told_of.Goals.{in-Some, in_default}
 
 pub loop-block-preserved : goal.loop-block-preserved
 loop-block-preserved c =

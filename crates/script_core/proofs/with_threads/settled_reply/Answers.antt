@@ -12,7 +12,7 @@ use Rattle.client_core.specs.Settling.{HasKeptJournal, IsUnsettled}
 use Rattle.client_core.specs.declared.settling.Unsettled.{Unsettled}
 use Rattle.client_core.specs.declared.settling.Unsettled.TheVariants as unsettled
 use Rattle.script_core.specs.WithThreads.{IsSettledReply}
-use Rattle.script_core.proofs.threaded.settled_reply.Goals as goal
+use Rattle.script_core.proofs.with_threads.settled_reply.Goals as goal
 
 -- the reply where the client isn't settled with the zone
 unsettled_reply : (zone : ZoneState) (client : Client) (result : Result Round RoundError) (answer : Reply) (clients : List Client) (error : Unsettled)
