@@ -2,8 +2,8 @@
 
     python3 checks/all.py [--of sources|program] [--program PATH] [NAME..]
 
-All of them run, also after one that fails. Ends with status 1 where one failed. `--of sources` runs those that look at sources
-alone, for which nothing has to be built, and `--of program` the others."""
+All of them run, also after one that fails. Ends with status 1 where one failed. `--of sources` runs those for which nothing is
+built, and `--of program` the others."""
 
 import argparse
 import ast
@@ -14,12 +14,12 @@ import time
 
 FOLDER = pathlib.Path(__file__).resolve().parent
 SHARED = ("all", "runs", "machine", "c_programs", "c_machine")  # what isn't a check
-OF_SOURCES = ("types_with_allocators", "wrong_bodies")  # nothing is built for these
+OF_SOURCES = ("starts", "told_lists", "types_with_allocators", "wrong_bodies")  # for which nothing is built
 SECONDS = 1800  # that a check may take
 
 
 def chosen_names(checks, of):
-    """The names of all checks, or of those of the sources or of the program."""
+    """The names of all checks, or of those for which nothing is built, or of the others."""
     return [name for name in checks if of is None or (of == "sources") == (name in OF_SOURCES)]
 
 
@@ -51,7 +51,7 @@ def wrong_end(command):
 def main():
     checks = {path.stem: path for path in sorted(FOLDER.glob("*.py")) if path.stem not in SHARED}
     parser = argparse.ArgumentParser(description=__doc__, formatter_class=argparse.RawDescriptionHelpFormatter)
-    parser.add_argument("--of", choices=("sources", "program"), help="those of the sources alone, or the others")
+    parser.add_argument("--of", choices=("sources", "program"), help="those for which nothing is built, or the others")
     parser.add_argument("--program", metavar="PATH", help="the program, where not that of the gate")
     parser.add_argument("names", nargs="*", metavar="NAME", help=", ".join(checks))
     given = parser.parse_args()
