@@ -7,13 +7,9 @@ import os
 import pathlib
 import re
 import shutil
-import sys
 
 import runs
-
-sys.path.append(str(runs.ROOT))
-
-from launch import c_library, program  # noqa: E402
+from launch import c_library, program
 
 HEADERS = runs.ROOT / "c/include"
 EXAMPLES = runs.ROOT / "c/examples"

@@ -17,15 +17,11 @@ import pathlib
 import re
 import signal
 import subprocess
-import sys
 import textwrap
 
 import manual
 import runs
-
-sys.path.append(str(runs.ROOT))
-
-from launch import program  # noqa: E402
+from launch import program
 
 SECONDS = 120  # that a command of the README may take
 LEFT_OUT = (".git", "out", "__pycache__")

@@ -21,30 +21,16 @@ SLACK = 64  # kB: what the program's own output may touch for the first time
 SLACK_OF_EXAMPLES = 1024  # kB: the threads of rounds, which begin later; a byte for each call would be 10,000 kB
 
 
-def built(name):
-    """The path of a program that the gate built."""
-    path = runs.ROOT / f"crates/{name}/out/{name}"
-    if not os.access(path, os.X_OK):
-        raise runs.Failed(f"there is no program {path}: `bash .ci/run` builds it")
-    return path
-
-
-def memory_kb(process, name):
-    """What the system says of a process's memory under this name, in kB. It says nothing of a process that has ended."""
-    with open(f"/proc/{process.pid}/status") as lines:
-        return next((int(line.split()[1]) for line in lines if line.startswith(name)), None)
-
-
 def peaks(process):
     """The most memory that a process had so far, in kB, looked at every hundredth of a second until it ends."""
-    while (peak := memory_kb(process, "VmHWM:")) is not None:
+    while (peak := runs.memory_kb(process, "VmHWM:")) is not None:
         yield peak
         time.sleep(0.01)
 
 
 def call_all():
     """The most memory up to the first two calls of a told zone, and up to the last, in kB."""
-    process = subprocess.Popen([built("benches"), "calls", "told", str(VALUES)], stdout=subprocess.PIPE, text=True)
+    process = subprocess.Popen([runs.built("benches"), "calls", "told", str(VALUES)], stdout=subprocess.PIPE, text=True)
     if process.stdout.readline() != "true 1 of 1\n":
         raise runs.Failed("a first store wasn't loaded again")
     first, *more = peaks(process)
@@ -59,7 +45,7 @@ def requests(values, folder):
     counted = pathlib.Path(folder) / "requests"
     counted.unlink(missing_ok=True)
     variables = {"LD_PRELOAD": str(pathlib.Path(folder) / "refuse_memory.so"), "REQUESTS": str(counted)}
-    command = [built("benches"), "calls", "told", str(values)]
+    command = [runs.built("benches"), "calls", "told", str(values)]
     subprocess.run(command, env={**os.environ, **variables}, stdout=subprocess.DEVNULL, check=True)
     return int(counted.read_text())
 
@@ -76,7 +62,7 @@ def count_requests():
 
 def peaks_of(example):
     """The most memory that an example has in the first quarter of its time, and the most until its end, in kB."""
-    process = subprocess.Popen([built(example)], stdout=subprocess.DEVNULL)
+    process = subprocess.Popen([runs.built(example)], stdout=subprocess.DEVNULL)
     seen = list(peaks(process))
     if status := process.wait():
         raise runs.Failed(f"{example} ended with status {status}")
@@ -85,7 +71,7 @@ def peaks_of(example):
 
 def shares():
     """The share of the time of a kept journal that a store and a word written in bulk take where it is told, in one run."""
-    said = subprocess.run([built("benches"), "calls", str(TURNS)], capture_output=True, text=True, check=True).stdout
+    said = subprocess.run([runs.built("benches"), "calls", str(TURNS)], capture_output=True, text=True, check=True).stdout
     found = re.findall(r"(store|word)s \d+ told (\d+) kept (\d+)\n", said)
     return {what: int(told) / int(kept) for what, told, kept in found}
 

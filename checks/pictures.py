@@ -3,12 +3,10 @@
 It is the same in every run, and it is one SVG with no script in it that reads no other file. A script with a fault, one
 that opens no zone and one that is too large have one line on standard error, status 1 and no picture."""
 
-import os
 import xml.etree.ElementTree
 
 import runs
 
-PROGRAM = runs.ROOT / "crates/zone_picture/out/zone_picture"
 RUNS = 5
 LEAST = 2
 SVG = "{http://www.w3.org/2000/svg}"
@@ -23,9 +21,7 @@ REFUSED = [
 
 def drawn(script):
     """What the program makes of a script."""
-    if not os.access(PROGRAM, os.X_OK):
-        raise runs.Failed(f"there is no program {PROGRAM}: `bash .ci/run` builds it")
-    return runs.finished([PROGRAM], input=script)
+    return runs.finished([runs.built("zone_picture")], input=script)
 
 
 def compare(picture):

@@ -83,7 +83,7 @@ class Author:
             self.say(f"look 0 {space} {page}")
             self.say(f"load 0 {space} {page} {self.draw.randrange(8)}")
         self.say("info 0")
-        return "".join(f"{line}\n" for line in self.lines).encode()
+        return runs.text_of(self.lines)
 
     def end_round_by_hand(self):
         for hand in range(1, 5):

@@ -130,17 +130,13 @@ def without_a_part_of_the_block(replies):
 # The runs.
 
 
-def text_of(lines):
-    return "".join(f"{line}\n" for line in lines).encode()
-
-
 class Trial:
     """A script that is run with one request for memory refused after the other."""
 
     def __init__(self, name, lines, folder):
         self.name = name
         self.lines = lines
-        self.script = text_of(lines)
+        self.script = runs.text_of(lines)
         self.folder = pathlib.Path(folder)
         self.output, self.requests = self.run_freely()
         self.replies = self.output.decode().splitlines()
@@ -174,7 +170,7 @@ class Trial:
 
     def refused_rounds(self, others):
         """How many refused requests are told in place of a round, as these other replies have it."""
-        allowed = [Ran(0, text_of(replies), b"") for replies in others(self.replies)]
+        allowed = [Ran(0, runs.text_of(replies), b"") for replies in others(self.replies)]
         told = 0
         for request, ran in self.each_refusal():
             if ran not in allowed:
@@ -206,8 +202,8 @@ def need_everything(every, others, block):
 
 def try_block(block):
     """How many refused requests of a block end at its line, and how many are told in it."""
-    unbegun = Ran(1, text_of(block.replies[:3]), b"compactd: fault 48 at line 4\n")
-    allowed = [Ran(0, text_of(replies), b"") for replies in without_a_part_of_the_block(block.replies)]
+    unbegun = Ran(1, runs.text_of(block.replies[:3]), b"compactd: fault 48 at line 4\n")
+    allowed = [Ran(0, runs.text_of(replies), b"") for replies in without_a_part_of_the_block(block.replies)]
     found = [*block.each_refusal()]
     for request, ran in found:
         if ran not in [unbegun, *allowed]:

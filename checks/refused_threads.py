@@ -104,10 +104,6 @@ def cases_of_a_pool(threads):
         yield threads + request, NONE, POOL_WITHOUT_SECOND
 
 
-def text_of(lines):
-    return "".join(f"{line}\n" for line in lines).encode()
-
-
 def main():
     tried = 0
     with tempfile.TemporaryDirectory() as folder:
@@ -115,8 +111,8 @@ def main():
         for copiers, places, first, last, script, replies in cases():
             refused = {"FIRST_REFUSED": first, "LAST_REFUSED": last}
             options = ["--journal", str(places), "--copiers", str(copiers)]
-            found = runs.run(text_of(script), options, LD_PRELOAD=library, **refused)
-            wanted = runs.Ran(0, text_of(replies), b"")
+            found = runs.run(runs.text_of(script), options, LD_PRELOAD=library, **refused)
+            wanted = runs.Ran(0, runs.text_of(replies), b"")
             if found != wanted:
                 wrong = f"the program makes {found}\nand not {wanted}"
                 raise runs.Failed(f"{copiers} copiers, threads {first} to {last} refused: {wrong}")

@@ -1,4 +1,5 @@
-"""What the checks share: the program that they run, the C that is preloaded into it, and how a check ends.
+"""What the checks share: the programs that they run, the C that is preloaded into one, and how a check ends. After it a check can
+import what is in `launch/` too.
 
 A check is a file of this folder with a function `main`, which gives the line that says what was shown, and raises
 `Failed` where it isn't so. `start` runs it."""
@@ -17,6 +18,7 @@ ROOT = pathlib.Path(__file__).resolve().parent.parent
 BUILT = ROOT / "crates/compactd/out/compactd"
 FLAGS = ["-shared", "-fPIC", "-fuse-ld=lld", "-nostdlib", "-O1", "-fno-builtin"]
 PARTS = ("src", "specs", "proofs")  # of a crate that is proved
+sys.path.append(str(ROOT))
 
 Ran = collections.namedtuple("Ran", "status output error")
 chosen = BUILT
@@ -41,9 +43,24 @@ def start(main):
 
 def program():
     """The path of the program that is checked."""
-    if not os.access(chosen, os.X_OK) or chosen.is_dir():
-        raise Failed(f"there is no program {chosen}: `./prove` builds it, and so does `bash .ci/run`")
-    return str(chosen)
+    return str(there(chosen, "`./prove` builds it, and so does `bash .ci/run`"))
+
+
+def built(name):
+    """The path of another program that the gate builds, by its crate."""
+    return there(ROOT / f"crates/{name}/out/{name}", "`bash .ci/run` builds it")
+
+
+def there(path, how):
+    """The path of a program that is there. Where it isn't, the check fails and says how it is built."""
+    if not os.access(path, os.X_OK) or path.is_dir():
+        raise Failed(f"there is no program {path}: {how}")
+    return path
+
+
+def text_of(lines):
+    """The lines of a script or of replies, as bytes."""
+    return "".join(f"{line}\n" for line in lines).encode()
 
 
 def run(script, options=(), **variables):
@@ -62,6 +79,12 @@ def written_for(script, options=()):
     """The same as text."""
     ran = run(script, options)
     return Ran(ran.status, ran.output.decode(errors="replace"), ran.error.decode(errors="replace"))
+
+
+def memory_kb(process, name, file="status"):
+    """What the system says of a process's memory under this name, in kB. It says nothing of a process that has ended."""
+    with open(f"/proc/{process.pid}/{file}") as lines:
+        return next((int(line.split()[1]) for line in lines if line.startswith(name)), None)
 
 
 def preload(name, folder):

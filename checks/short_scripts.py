@@ -36,7 +36,7 @@ SCRIPTS = [
 
 
 def lines_of(text):
-    return "".join(f"{line}\n" for line in text.split("|") if line).encode()
+    return runs.text_of(line for line in text.split("|") if line)
 
 
 def main():

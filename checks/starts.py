@@ -14,7 +14,8 @@ import sys
 import tempfile
 import time
 
-ROOT = pathlib.Path(__file__).resolve().parent.parent
+import runs
+
 PROGRAM = '#!/bin/sh\nwhile read -r line; do echo "$line"; done\necho "ran $*"\nexit ${2:-0}\n'
 FILES = {
     "crates.txt": "# the crates\nlow: std_thing\ncompactd: low\nother: low\n",
@@ -45,8 +46,8 @@ class Repository:
         for path in FILES:
             self.write(path, FILES[path])
         for name in ("compactd", "prove"):
-            shutil.copy(ROOT / name, self.top)
-        shutil.copytree(ROOT / "launch", self.top / "launch")
+            shutil.copy(runs.ROOT / name, self.top)
+        shutil.copytree(runs.ROOT / "launch", self.top / "launch")
         for it in (self.state, self.temporary, self.python):
             it.mkdir()
         (self.python / "python3").symlink_to(sys.executable)
@@ -63,7 +64,7 @@ class Repository:
 
     def begin(self, words, has_kit=True):
         """Begins a command of the repository. Without a kit, PATH has Python alone."""
-        path = f"{ROOT / 'checks/kit'}:{self.python}" if has_kit else str(self.python)
+        path = f"{runs.ROOT / 'checks/kit'}:{self.python}" if has_kit else str(self.python)
         environment = {"PATH": path, "KIT_STATE": str(self.state), "TMPDIR": str(self.temporary)}
         streams = dict.fromkeys(("stdin", "stdout", "stderr"), subprocess.PIPE)
         return subprocess.Popen([self.top / words[0], *words[1:]], env=environment, text=True, **streams)
@@ -91,7 +92,7 @@ def ended(begun):
         written, said = begun.communicate("a line\n", timeout=SECONDS)
     except subprocess.TimeoutExpired:
         begun.kill()
-        sys.exit(f"starts: {begun.args} had not ended after {SECONDS} seconds")
+        raise runs.Failed(f"starts: {begun.args} had not ended after {SECONDS} seconds")
     return begun.returncode, written, said
 
 
@@ -100,12 +101,12 @@ def wait_until(holds):
         if holds():
             return
         time.sleep(0.01)
-    sys.exit(f"starts: no call of the kit within {SECONDS} seconds")
+    raise runs.Failed(f"starts: no call of the kit within {SECONDS} seconds")
 
 
 def same(what, found, wanted):
     if found != wanted:
-        sys.exit(f"starts: {what}: {found!r}, and not {wanted!r}")
+        raise runs.Failed(f"starts: {what}: {found!r}, and not {wanted!r}")
 
 
 def answers(repository, what, calls=(), tells=()):
@@ -217,7 +218,7 @@ def proved_starts(repository):
 
 def gate_leaves(repository):
     """What the gate built is proved of the sources that it began with, and of no others."""
-    path = f"{ROOT / 'checks/kit'}:{os.environ['PATH']}"
+    path = f"{runs.ROOT / 'checks/kit'}:{os.environ['PATH']}"
     environment = {**os.environ, "PATH": path, "KIT_STATE": str(repository.state)}
     note = [sys.executable, "-B", repository.top / "launch/program.py"]
     sources = subprocess.check_output(note, text=True, env=environment).strip()
@@ -252,4 +253,4 @@ def main():
 
 
 if __name__ == "__main__":
-    print(main())
+    runs.start(main)

@@ -30,10 +30,6 @@ COUNTED = b"free=%d pages=%d moving=0 huge=0 whole=0\n" % (512 - PAGES, PAGES)
 ASKING, ASKED = b"look 0 0 0\ninfo 0\n", b"frame=0 dirty=0 unmovable=0 pins=0 maps=1\n" + COUNTED
 
 
-def kb_of(lines, name):
-    return next(int(line.split()[1]) for line in lines if line.startswith(name))
-
-
 class Run:
     """The program at the other end of two pipes, with a zone of a few pages."""
 
@@ -61,9 +57,8 @@ class Run:
     def memory_kb(self):
         """What the process has of its own at the moment, without the files that it stands on, and the peak with
         these."""
-        folder = f"/proc/{self.process.pid}"
-        with open(f"{folder}/smaps_rollup") as memory, open(f"{folder}/status") as status:
-            return kb_of(memory, "Anonymous:"), kb_of(status, "VmHWM:")
+        own = runs.memory_kb(self.process, "Anonymous:", "smaps_rollup")
+        return own, runs.memory_kb(self.process, "VmHWM:")
 
     def end(self):
         self.process.stdin.close()

@@ -14,6 +14,7 @@ The clauses of these functions say that the zone is the same, and the calls on i
 import re
 
 import runs
+from launch import program
 
 LIST = "frame_core"
 UNSAFE = re.compile(r"\bunsafe\b")
@@ -22,13 +23,6 @@ EXPORTED = "#[unsafe(no_mangle)]"
 OF_A_LIST = re.compile(r"told|journal|records?\b", re.IGNORECASE)
 HANDLE = re.compile(r"crates/compactd_c/(src/pool(/\w+)*\.rt|proofs/pool/.*\.antt)")
 ITS_OWN = {"crates/frame_core/proofs/seen/Seen/of/Proof.antt", "crates/frame_core/src/seen.rt"}
-
-
-def uses():
-    """Under each crate's name the libraries that it uses."""
-    lines = (line.partition("#")[0] for line in (runs.ROOT / "crates.txt").read_text().splitlines())
-    parts = (line.partition(":") for line in lines if line.strip())
-    return {name.split()[0]: libraries.split() for name, _, libraries in parts}
 
 
 def reaching(crates):
@@ -58,7 +52,7 @@ def names_a_list(file):
 
 
 def main():
-    crates = reaching(uses())
+    crates = reaching(program.libraries_used(runs.ROOT))
     found = [file for crate in crates for file in by_hand(crate)]
     of_handle = [file for file in found if HANDLE.fullmatch(file)]
     if wrong := [file for file in found if file not in of_handle]:

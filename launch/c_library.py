@@ -63,7 +63,7 @@ def libraries_of(root):
 def build_command(root, archive):
     """The command that builds the archive in the folder of the crate."""
     kit, found = kit_folder(), libraries_of(root)
-    used = program.lines_of_crates(root)[CRATE].partition(":")[2].split()
+    used = program.libraries_used(root)[CRATE]
     places = {name: found.get(name, kit / f"rlibs/{name}.rlib") for name in ("std", *used)}
     words = [kit / "bin/rattle", "build", "--crate-name", CRATE, "src/lib.rt", "--crate-type", "staticlib"]
     for name, place in places.items():

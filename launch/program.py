@@ -47,12 +47,17 @@ def lines_of_crates(root):
     return {line.partition(":")[0].split()[0]: line for line in lines if line}
 
 
+def libraries_used(root):
+    """Under each crate's name the libraries that it uses."""
+    return {crate: line.partition(":")[2].split() for crate, line in lines_of_crates(root).items()}
+
+
 def crates_below(root, top="compactd"):
     """The lines of crates.txt for a crate, that of the program, and those of the repository that it stands on."""
-    lines = lines_of_crates(root)
+    lines, used = lines_of_crates(root), libraries_used(root)
     found = [top]
     for crate in found:
-        found += [it for it in lines[crate].partition(":")[2].split() if it in lines and it not in found]
+        found += [it for it in used[crate] if it in lines and it not in found]
     return {crate: lines[crate] for crate in sorted(found)}
 
 
