@@ -35,38 +35,40 @@ impl Buffers {
     }
 
     /// Makes a fresh buffer for a block.
-    pub fn map(&mut self, block: VPage) -> Result<FrameNo, ZoneError> {
+    pub fn map(&mut self, block: VPage) -> Result<(), ZoneError> {
         self.count();
+        let address = self.address(block);
         let unmovable = false;
-        let (_page, frame) = self
-            .zone
-            .map(self.client, address(self.space, block), unmovable)?;
-        Ok(frame)
+        let _mapped = self.zone.map(self.client, address, unmovable)?;
+        Ok(())
     }
 
     /// Gives the buffer of a block up.
     pub fn unmap(&mut self, block: VPage) -> Result<(), ZoneError> {
         self.count();
-        self.zone.unmap(self.client, address(self.space, block))
+        let address = self.address(block);
+        self.zone.unmap(self.client, address)
     }
 
     /// Pins the buffer of a block: no round moves it then.
     pub fn pin(&mut self, block: VPage) -> Result<(), ZoneError> {
         self.count();
-        self.zone.pin(self.client, address(self.space, block))
+        let address = self.address(block);
+        self.zone.pin(self.client, address)
     }
 
     /// Takes a pin off the buffer of a block.
     pub fn unpin(&mut self, block: VPage) -> Result<(), ZoneError> {
         self.count();
-        self.zone.unpin(self.client, address(self.space, block))
+        let address = self.address(block);
+        self.zone.unpin(self.client, address)
     }
 
     /// Loads a word of a block.
     pub fn load(&mut self, block: VPage, word: WordOf<WORDS>) -> Result<u64, ZoneError> {
         self.count();
-        self.zone
-            .load(self.client, address(self.space, block), word)
+        let address = self.address(block);
+        self.zone.load(self.client, address, word)
     }
 
     /// Loads the header of a block.
@@ -77,32 +79,32 @@ impl Buffers {
     /// Stores the header of a block.
     pub fn store_header(&mut self, block: VPage, header: u64) -> Result<(), ZoneError> {
         self.count();
-        self.zone.store(self.client, address(self.space, block), self.first, header)
+        let address = self.address(block);
+        self.zone.store(self.client, address, self.first, header)
     }
 
     /// Reads all words of a block by one call. Whether they are these.
     pub fn holds(&mut self, block: VPage, content: &[u64; WORDS]) -> Result<bool, ZoneError> {
         self.count();
+        let address = self.address(block);
         let mut words = [0; WORDS];
-        self.zone.read(
-            self.client,
-            address(self.space, block),
-            self.first,
-            &mut words,
-        )?;
+        self.zone
+            .read(self.client, address, self.first, &mut words)?;
         Ok(words == *content)
     }
 
     /// Writes all words of a block by one call.
     pub fn write(&mut self, block: VPage, content: &[u64; WORDS]) -> Result<(), ZoneError> {
         self.count();
-        self.zone.write(self.client, address(self.space, block), self.first, content)
+        let address = self.address(block);
+        self.zone.write(self.client, address, self.first, content)
     }
 
     /// Where the buffer of a block is.
     pub fn look(&mut self, block: VPage) -> Result<Look, ZoneError> {
         self.count();
-        self.zone.look(address(self.space, block))
+        let address = self.address(block);
+        self.zone.look(address)
     }
 
     /// Hands out a large buffer of 2 MiB: the lowest whole pageblock, by its first frame.
@@ -138,15 +140,15 @@ impl Buffers {
         self.calls
     }
 
+    /// The address under which a block is mapped.
+    fn address(&self, block: VPage) -> Address {
+        Address {
+            space: self.space,
+            vpage: block,
+        }
+    }
+
     fn count(&mut self) {
         self.calls = self.calls.saturating_add(1);
-    }
-}
-
-/// The address under which a block is mapped.
-fn address(space: SpaceNo, block: VPage) -> Address {
-    Address {
-        space,
-        vpage: block,
     }
 }

@@ -29,7 +29,7 @@ pub fn run(alloc: Global) -> Result<Outcome, Trouble> {
         turn(&mut pool)?;
     }
     pool.see_left()?;
-    count(&mut pool)
+    outcome_of(&mut pool)
 }
 
 /// Transactions before and after a large buffer is given back, and the request for the next.
@@ -40,7 +40,7 @@ fn turn(pool: &mut Pool) -> Result<(), Trouble> {
     pool.ask_pinned()
 }
 
-fn count(pool: &mut Pool) -> Result<Outcome, Trouble> {
+fn outcome_of(pool: &mut Pool) -> Result<Outcome, Trouble> {
     Ok(Outcome {
         tally: pool.tally,
         moved: pool.buffers.moved()?,
