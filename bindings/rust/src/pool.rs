@@ -386,9 +386,9 @@ impl Pool {
         is_done(unsafe { raw::compactd_begin_round(&mut self.raw) });
     }
 
-    /// Isolates the next page of the round, which is moving from here on; None where the scanners have met. It has memory for the words.
+    /// Isolates the next page of the round, which is moving from here on; None where the scanners have met. It allocates the words.
     ///
-    /// Refused as [`Error::JournalFull`] where there aren't two places for its move.
+    /// Refused as [`Error::JournalFull`] where there aren't two places for its move, or 2^32 - 1 pages were taken.
     pub fn isolate(&mut self) -> Result<Option<Moving>, Error> {
         let mut carried = raw::Carried::default();
         let mut words = vec![0; self.page_size.words() as usize];

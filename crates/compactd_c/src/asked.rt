@@ -1,7 +1,7 @@
 //! What C asks of a zone, in numbers.
 
 ghost use Rattle.std.specs.Prelude.{◌≡◌, ◌≤◌, nat_lt, is_some, IfSome};
-ghost use Rattle.compactd_c.specs.Asked.{address_of, is_address, is_order, fits, call_of};
+ghost use Rattle.compactd_c.specs.Asked.{address_of, is_address, fits, call_of};
 
 use frame_core::{Address, BlockNo, FrameNo, Order, SpaceNo, VPage, WordOf};
 use state_core::ZoneCallOf as Call;

@@ -14,7 +14,8 @@ use std::alloc::Global;
 
 /// Reads words of the page that an address names, from one on: as loads of these words do, one after the other.
 ///
-/// Refused as 1 where a number is out of its range or the words go past the page, as 2, 3 or 4, or as 51 where the pool is closed.
+/// Refused as RANGE where a number is out of its range or the words go past the page, as JOURNAL_FULL, UNMAPPED or MOVING, or as
+/// CLOSED.
 #[unsafe(no_mangle)]
 pub extern "C" fn compactd_read(
     alloc: Global,
@@ -64,8 +65,8 @@ pub extern "C" fn compactd_write(
 
 /// Reads words of a block that was handed out, from one on: of its 2^order frames, one after the other. A fresh block holds zeros.
 ///
-/// Refused as 1 where a number is out of its range or the words go past the block, as 12 where no such block was handed out, or as 51
-/// where the pool is closed.
+/// Refused as RANGE where a number is out of its range or the words go past the block, as NOT_HUGE where no such block was handed
+/// out, or as CLOSED.
 #[unsafe(no_mangle)]
 pub extern "C" fn compactd_read_block(
     alloc: Global,

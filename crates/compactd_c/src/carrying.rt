@@ -31,7 +31,7 @@ pub struct Carried {
 
 /// Isolates the next page of a round, and copies its words. It is moving from here on. There have to be as many words as a page has.
 ///
-/// Refused as 1 where they are more or fewer, as 2, as 53 where the scanners have met, or as 51 where the pool is closed.
+/// Refused as RANGE where they are more or fewer, as JOURNAL_FULL, as MET where the scanners have met, or as CLOSED.
 #[unsafe(no_mangle)]
 pub extern "C" fn compactd_isolate(
     alloc: Global,
@@ -65,8 +65,8 @@ pub extern "C" fn compactd_isolate(
 /// Ends the move of a page that C copied, by its serial, its number and its words: it is in its new frame afterwards, or in its old one
 /// where it has a pin. Tells whether it was moved.
 ///
-/// Refused as 1 where the words are more or fewer than a page has, as 13 where they aren't those of a page that is moving under this
-/// serial, or as 51 where the pool is closed.
+/// Refused as RANGE where the words are more or fewer than a page has, as STRANGER where they aren't those of a page that is moving
+/// under this serial, or as CLOSED.
 #[unsafe(no_mangle)]
 pub extern "C" fn compactd_commit(
     alloc: Global,

@@ -28,20 +28,20 @@ const OPEN: u32 = 52;
 /// Opens a closed pool: an empty zone whose pages have 8 or 512 words, with 1 to 8 pageblocks of 512 frames. No record of its history
 /// is kept in memory.
 ///
-/// Refused as 52 where the pool is open, as 1 where a number is out of its range, or as 14 where there isn't enough memory.
+/// Refused as OPEN where the pool is open, as RANGE where a number is out of its range, or as MEMORY where there isn't enough memory.
 #[unsafe(no_mangle)]
-pub extern "C" fn compactd_open(alloc: Global, pool: &mut Pool, words: u32, blocks: u32) -> u32
+pub extern "C" fn compactd_open(alloc: Global, pool: &mut Pool, page_words: u32, blocks: u32) -> u32
     ensures open { ¬ (pool.old.zone ≡ None) → result ≡ 52 }
-    ensures range { pool.old.zone ≡ None → ¬ (IsPageSize words × IsSize blocks) → result ≡ 1 }
-    ensures memory { pool.old.zone ≡ None → IsPageSize words × IsSize blocks → ¬ (result ≡ 0) → result ≡ 14 }
-    ensures zone { result ≡ 0 → pool.new.zone ≡ Some (opened_told words 0 blocks) }
+    ensures range { pool.old.zone ≡ None → ¬ (IsPageSize page_words × IsSize blocks) → result ≡ 1 }
+    ensures memory { pool.old.zone ≡ None → IsPageSize page_words × IsSize blocks → ¬ (result ≡ 0) → result ≡ 14 }
+    ensures zone { result ≡ 0 → pool.new.zone ≡ Some (opened_told page_words 0 blocks) }
     ensures kept { ¬ (result ≡ 0) → pool.new.zone ≡ pool.old.zone }
 {
     if let Some(zone) = pool.take(alloc) {
         pool.put(alloc, zone);
         return OPEN;
     }
-    opened(pool, alloc, Zone::open_told(alloc, words, blocks))
+    opened(pool, alloc, Zone::open_told(alloc, page_words, blocks))
 }
 
 /// Opens a closed pool whose zone keeps its journal: each record of it, at most as many as there are places, 1 to 65,536.
@@ -51,21 +51,21 @@ pub extern "C" fn compactd_open(alloc: Global, pool: &mut Pool, words: u32, bloc
 pub extern "C" fn compactd_open_journal(
     alloc: Global,
     pool: &mut Pool,
-    words: u32,
+    page_words: u32,
     blocks: u32,
     places: u32,
 ) -> u32
     ensures open { ¬ (pool.old.zone ≡ None) → result ≡ 52 }
-    ensures range { pool.old.zone ≡ None → ¬ (IsPageSize words × IsOpenable blocks places) → result ≡ 1 }
-    ensures memory { pool.old.zone ≡ None → IsPageSize words × IsOpenable blocks places → ¬ (result ≡ 0) → result ≡ 14 }
-    ensures zone { result ≡ 0 → pool.new.zone ≡ Some (opened_with words 0 blocks places) }
+    ensures range { pool.old.zone ≡ None → ¬ (IsPageSize page_words × IsOpenable blocks places) → result ≡ 1 }
+    ensures memory { pool.old.zone ≡ None → IsPageSize page_words × IsOpenable blocks places → ¬ (result ≡ 0) → result ≡ 14 }
+    ensures zone { result ≡ 0 → pool.new.zone ≡ Some (opened_with page_words 0 blocks places) }
     ensures kept { ¬ (result ≡ 0) → pool.new.zone ≡ pool.old.zone }
 {
     if let Some(zone) = pool.take(alloc) {
         pool.put(alloc, zone);
         return OPEN;
     }
-    opened(pool, alloc, Zone::open(alloc, words, blocks, places))
+    opened(pool, alloc, Zone::open(alloc, page_words, blocks, places))
 }
 
 /// Puts a zone that was opened into a closed pool.
@@ -91,7 +91,7 @@ fn opened(pool: &mut Pool, alloc: Global, zone: Result<Zone, ZoneError>) -> u32
 
 /// Closes a pool: its zone is let go, with all its memory.
 ///
-/// Refused as 51 where the pool is closed.
+/// Refused as CLOSED.
 #[unsafe(no_mangle)]
 pub extern "C" fn compactd_close(alloc: Global, pool: &mut Pool) -> u32
     ensures answer { result ≡ answer pool.old.zone (λ z. None) }
@@ -105,7 +105,7 @@ pub extern "C" fn compactd_close(alloc: Global, pool: &mut Pool) -> u32
 
 /// Makes an address name a fresh page in the lowest free frame, and tells this frame. The page holds zeros.
 ///
-/// Refused as 1, 2, 5 or 6, or as 51 where the pool is closed.
+/// Refused as CLOSED, RANGE, JOURNAL_FULL, OCCUPIED or NO_FRAME.
 #[unsafe(no_mangle)]
 pub extern "C" fn compactd_map(
     alloc: Global,
@@ -138,7 +138,7 @@ pub extern "C" fn compactd_map(
 
 /// Makes an address name a fresh page in a given frame.
 ///
-/// Refused as 1, 2, 5 or 6, or as 51 where the pool is closed.
+/// Refused as CLOSED, RANGE, JOURNAL_FULL, OCCUPIED or NO_FRAME.
 #[unsafe(no_mangle)]
 pub extern "C" fn compactd_map_at(
     alloc: Global,
@@ -167,7 +167,7 @@ pub extern "C" fn compactd_map_at(
 
 /// Reads a word of the page that an address names.
 ///
-/// Refused as 1, 2, 3 or 4, or as 51 where the pool is closed.
+/// Refused as CLOSED, RANGE, JOURNAL_FULL, UNMAPPED or MOVING.
 #[unsafe(no_mangle)]
 pub extern "C" fn compactd_load(
     alloc: Global,
@@ -199,7 +199,7 @@ pub extern "C" fn compactd_load(
 
 /// Writes a word of the page that an address names.
 ///
-/// Refused as 1, 2, 3 or 4, or as 51 where the pool is closed.
+/// Refused as CLOSED, RANGE, JOURNAL_FULL, UNMAPPED or MOVING.
 #[unsafe(no_mangle)]
 pub extern "C" fn compactd_store(
     alloc: Global,
@@ -223,7 +223,7 @@ pub extern "C" fn compactd_store(
 
 /// Makes an alias name the page of an address too. A page has at most 4 addresses.
 ///
-/// Refused as 1, 2, 3, 4, 5 or 7, or as 51 where the pool is closed.
+/// Refused as CLOSED, RANGE, JOURNAL_FULL, UNMAPPED, MOVING, OCCUPIED or SHARE_FULL.
 #[unsafe(no_mangle)]
 pub extern "C" fn compactd_share(
     alloc: Global,
@@ -252,7 +252,7 @@ pub extern "C" fn compactd_share(
 
 /// Makes an address name no page any more.
 ///
-/// Refused as 1, 2, 3, 4 or 10, or as 51 where the pool is closed.
+/// Refused as CLOSED, RANGE, JOURNAL_FULL, UNMAPPED, MOVING or PINNED.
 #[unsafe(no_mangle)]
 pub extern "C" fn compactd_unmap(
     alloc: Global,
@@ -269,7 +269,7 @@ pub extern "C" fn compactd_unmap(
 
 /// Pins the page that an address names. No round moves it until each of its pins is taken off.
 ///
-/// Refused as 1, 2, 3 or 8, or as 51 where the pool is closed.
+/// Refused as CLOSED, RANGE, JOURNAL_FULL, UNMAPPED or PIN_FULL.
 #[unsafe(no_mangle)]
 pub extern "C" fn compactd_pin(
     alloc: Global,
@@ -286,7 +286,7 @@ pub extern "C" fn compactd_pin(
 
 /// Takes a pin off the page that an address names.
 ///
-/// Refused as 1, 2, 3 or 9, or as 51 where the pool is closed.
+/// Refused as CLOSED, RANGE, JOURNAL_FULL, UNMAPPED or NOT_PINNED.
 #[unsafe(no_mangle)]
 pub extern "C" fn compactd_unpin(
     alloc: Global,
@@ -303,7 +303,7 @@ pub extern "C" fn compactd_unpin(
 
 /// Hands out the lowest free block of an order, 3 to 9, and tells its first frame.
 ///
-/// Refused as 1, 2 or 11, or as 51 where the pool is closed.
+/// Refused as CLOSED, RANGE, JOURNAL_FULL or NO_BLOCK.
 #[unsafe(no_mangle)]
 pub extern "C" fn compactd_take_order(
     alloc: Global,
@@ -321,7 +321,7 @@ pub extern "C" fn compactd_take_order(
 
 /// Takes back a block that was handed out, by its first frame and its order.
 ///
-/// Refused as 1, 2 or 12, or as 51 where the pool is closed.
+/// Refused as CLOSED, RANGE, JOURNAL_FULL or NOT_HUGE.
 #[unsafe(no_mangle)]
 pub extern "C" fn compactd_give_order(alloc: Global, pool: &mut Pool, first: u32, order: u32) -> u32
     ensures answer { result ≡ answer pool.old.zone (λ z. ranged (nat_lt first 4096 && is_order order) (give_order_refusal z first order)) }
@@ -332,7 +332,7 @@ pub extern "C" fn compactd_give_order(alloc: Global, pool: &mut Pool, first: u32
 
 /// Marks a pageblock: rounds take no frame of it.
 ///
-/// Refused as 1, 2 or 17, or as 51 where the pool is closed.
+/// Refused as CLOSED, RANGE, JOURNAL_FULL or MARKED.
 #[unsafe(no_mangle)]
 pub extern "C" fn compactd_mark(alloc: Global, pool: &mut Pool, block: u32) -> u32
     ensures answer { result ≡ answer pool.old.zone (λ z. ranged (nat_lt block 8) (mark_refusal z block)) }
@@ -343,7 +343,7 @@ pub extern "C" fn compactd_mark(alloc: Global, pool: &mut Pool, block: u32) -> u
 
 /// Takes the mark of a pageblock off.
 ///
-/// Refused as 1, 2 or 18, or as 51 where the pool is closed.
+/// Refused as CLOSED, RANGE, JOURNAL_FULL or NOT_MARKED.
 #[unsafe(no_mangle)]
 pub extern "C" fn compactd_unmark(alloc: Global, pool: &mut Pool, block: u32) -> u32
     ensures answer { result ≡ answer pool.old.zone (λ z. ranged (nat_lt block 8) (unmark_refusal z block)) }

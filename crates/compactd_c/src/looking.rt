@@ -62,7 +62,7 @@ pub struct Ends {
 
 /// Tells the counts of the zone.
 ///
-/// Refused as 51 where the pool is closed.
+/// Refused as CLOSED.
 #[unsafe(no_mangle)]
 pub extern "C" fn compactd_info(alloc: Global, pool: &mut Pool, counts: &mut Counts) -> u32
     ensures answer { result ≡ answer pool.old.zone (λ z. None) }
@@ -94,7 +94,7 @@ fn counts_in(info: Info) -> Counts
 /// Tells whether the latest round is quiet: when it began nothing was stuck, and since then pages were loaded, stored, isolated and moved
 /// alone.
 ///
-/// Refused as 51 where the pool is closed.
+/// Refused as CLOSED.
 #[unsafe(no_mangle)]
 pub extern "C" fn compactd_quiet(alloc: Global, pool: &mut Pool, quiet: &mut bool) -> u32
     ensures answer { result ≡ answer pool.old.zone (λ z. None) }
@@ -112,7 +112,7 @@ pub extern "C" fn compactd_quiet(alloc: Global, pool: &mut Pool, quiet: &mut boo
 
 /// Tells whether a pageblock is marked.
 ///
-/// Refused as 1 where the zone has no such pageblock, or as 51 where the pool is closed.
+/// Refused as RANGE where the zone has no such pageblock, or as CLOSED.
 #[unsafe(no_mangle)]
 pub extern "C" fn compactd_marked(
     alloc: Global,
@@ -141,7 +141,7 @@ pub extern "C" fn compactd_marked(
 
 /// Tells what is known of the page that an address names.
 ///
-/// Refused as 1 where a number is out of its range, as 3 where the address names no page, or as 51 where the pool is closed.
+/// Refused as RANGE where a number is out of its range, as UNMAPPED where the address names no page, or as CLOSED.
 #[unsafe(no_mangle)]
 pub extern "C" fn compactd_look(
     alloc: Global,
@@ -197,7 +197,7 @@ fn seen_in(look: Look) -> Seen
 
 /// Tells what became of the pages that were isolated: each was moved or put back.
 ///
-/// Refused as 16 while a page is moving, or as 51 where the pool is closed.
+/// Refused as OUT while a page is moving, or as CLOSED.
 #[unsafe(no_mangle)]
 pub extern "C" fn compactd_audit(alloc: Global, pool: &mut Pool, ends: &mut Ends) -> u32
     ensures answer { result ≡ answer pool.old.zone audit_refusal }

@@ -1,6 +1,6 @@
 //! What C calls to read the journal of a zone that keeps one.
 
-ghost use Rattle.std.specs.Prelude.{◌≡◌, ◌+◌, length, reverse, slice_get, None, Some};
+ghost use Rattle.std.specs.Prelude.{◌≡◌, length, reverse, slice_get, None, Some};
 ghost use Rattle.std.specs.Option.{option_map};
 ghost use Rattle.compactd_c.specs.Answers.{answer};
 ghost use Rattle.compactd_c.specs.Records.{noted_of, record_refused};
@@ -32,7 +32,7 @@ pub struct Noted {
 
 /// Tells how many records the journal has, and how many places are left. The records of a journal that isn't kept count too.
 ///
-/// Refused as 51 where the pool is closed.
+/// Refused as CLOSED.
 #[unsafe(no_mangle)]
 pub extern "C" fn compactd_journal(
     alloc: Global,
@@ -57,7 +57,7 @@ pub extern "C" fn compactd_journal(
 
 /// Tells a record of the journal, by its place: 0 is the oldest.
 ///
-/// Refused as 1 where the journal has no such record or isn't kept, or as 51 where the pool is closed.
+/// Refused as RANGE where the journal has no such record or isn't kept, or as CLOSED.
 #[unsafe(no_mangle)]
 pub extern "C" fn compactd_record(
     alloc: Global,

@@ -21,7 +21,7 @@ use std::alloc::Global;
 /// Runs a whole round on the thread that calls, and tells whether its scanners met; else the journal had no room for a
 /// further move, or the pool has taken 2^32 - 1 pages in its rounds.
 ///
-/// Refused as 51 where the pool is closed.
+/// Refused as CLOSED.
 #[unsafe(no_mangle)]
 pub extern "C" fn compactd_compact(alloc: Global, pool: &mut Pool, met: &mut bool) -> u32
     ensures answer { result ≡ answer pool.old.zone (λ z. None) }
@@ -42,7 +42,7 @@ pub extern "C" fn compactd_compact(alloc: Global, pool: &mut Pool, met: &mut boo
 
 /// Begins a round whose pages C carries itself.
 ///
-/// Refused as 51 where the pool is closed.
+/// Refused as CLOSED.
 #[unsafe(no_mangle)]
 pub extern "C" fn compactd_begin_round(alloc: Global, pool: &mut Pool) -> u32
     ensures answer { result ≡ answer pool.old.zone (λ z. None) }
@@ -58,7 +58,7 @@ pub extern "C" fn compactd_begin_round(alloc: Global, pool: &mut Pool) -> u32
 
 /// Ends the move of a page that wasn't copied, by its serial and its number: it is in its old frame afterwards.
 ///
-/// Refused as 13 where no such page is moving, or as 51 where the pool is closed.
+/// Refused as STRANGER where no such page is moving, or as CLOSED.
 #[unsafe(no_mangle)]
 pub extern "C" fn compactd_put_back(alloc: Global, pool: &mut Pool, serial: u32, number: u32) -> u32
     ensures closed { pool.old.zone ≡ None → result ≡ 51 }

@@ -65,12 +65,12 @@ impl Model for Zone {
 
 impl Zone {
     /// An empty zone whose journal is told: pages of 8 or of 512 words, and 1 to 8 pageblocks.
-    pub(crate) fn open_told(alloc: Global, words: u32, blocks: u32) -> Result<Zone, ZoneError>
-        ensures range { ¬ (IsPageSize words × IsSize blocks) → result ≡ Err ZoneError.Range }
-        ensures memory { IsPageSize words × IsSize blocks → IfErr result (λ error. error ≡ ZoneError.Memory) }
-        ensures zone { IfOk result (λ zone. zone ≡ opened_told words 0 blocks) }
+    pub(crate) fn open_told(alloc: Global, page_words: u32, blocks: u32) -> Result<Zone, ZoneError>
+        ensures range { ¬ (IsPageSize page_words × IsSize blocks) → result ≡ Err ZoneError.Range }
+        ensures memory { IsPageSize page_words × IsSize blocks → IfErr result (λ error. error ≡ ZoneError.Memory) }
+        ensures zone { IfOk result (λ zone. zone ≡ opened_told page_words 0 blocks) }
     {
-        let kind = match words {
+        let kind = match page_words {
             8 => Kind::Small(BareZone::open_told(alloc, lowest(), blocks)?),
             512 => Kind::Large(BareZone::open_told(alloc, lowest(), blocks)?),
             _ => return Err(ZoneError::Range),
@@ -81,15 +81,15 @@ impl Zone {
     /// An empty zone with so many places in its journal, 1 to 65,536.
     pub(crate) fn open(
         alloc: Global,
-        words: u32,
+        page_words: u32,
         blocks: u32,
         places: u32,
     ) -> Result<Zone, ZoneError>
-        ensures range { ¬ (IsPageSize words × IsOpenable blocks places) → result ≡ Err ZoneError.Range }
-        ensures memory { IsPageSize words × IsOpenable blocks places → IfErr result (λ error. error ≡ ZoneError.Memory) }
-        ensures zone { IfOk result (λ zone. zone ≡ opened_with words 0 blocks places) }
+        ensures range { ¬ (IsPageSize page_words × IsOpenable blocks places) → result ≡ Err ZoneError.Range }
+        ensures memory { IsPageSize page_words × IsOpenable blocks places → IfErr result (λ error. error ≡ ZoneError.Memory) }
+        ensures zone { IfOk result (λ zone. zone ≡ opened_with page_words 0 blocks places) }
     {
-        let kind = match words {
+        let kind = match page_words {
             8 => Kind::Small(BareZone::open(alloc, lowest(), blocks, places)?),
             512 => Kind::Large(BareZone::open(alloc, lowest(), blocks, places)?),
             _ => return Err(ZoneError::Range),
