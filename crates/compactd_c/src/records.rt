@@ -3,12 +3,12 @@
 ghost use Rattle.std.specs.Prelude.{◌≡◌, length, reverse, slice_get, None, Some};
 ghost use Rattle.std.specs.Option.{option_map};
 ghost use Rattle.compactd_c.specs.Answers.{answer};
-ghost use Rattle.compactd_c.specs.Records.{noted_of, record_refused};
+ghost use Rattle.compactd_c.specs.Records.{of_client, of_zone, cause_of, noted_of, record_refused};
 ghost use Rattle.state_core.specs.ZoneState.{ZoneState};
 
 use crate::calls::{CLOSED, number as number_for};
 use crate::pool::Pool;
-use frame_core::{Cause, Record};
+use frame_core::{Address, Cause, ClientNo, Record};
 use std::alloc::Global;
 
 /// A record of the journal. Numbers that its kind doesn't have are 0.
@@ -84,134 +84,89 @@ pub extern "C" fn compactd_record(
     }
 }
 
+/// A record, in numbers.
 fn numbers_of(entry: Record) -> Noted
     ensures { result ≡ noted_of entry }
 {
-    let none = Noted {
-        kind: 0,
-        client: 0,
-        space: 0,
-        vpage: 0,
-        number: 0,
-        other: 0,
-        value: 0,
-    };
     match entry {
         Record::Map {
             client,
             address,
             page,
-        } => Noted {
-            kind: 1,
-            client: client.get(),
-            space: address.space.get(),
-            vpage: address.vpage.get(),
-            number: page.get(),
-            ..none
-        },
+        } => of_client(1, client, address, page.get(), 0, 0),
         Record::Share {
             client,
             address,
             alias,
-        } => Noted {
-            kind: 2,
-            client: client.get(),
-            space: address.space.get(),
-            vpage: address.vpage.get(),
-            number: alias.space.get(),
-            other: alias.vpage.get(),
-            ..none
-        },
-        Record::Unmap { client, address } => Noted {
-            kind: 3,
-            client: client.get(),
-            space: address.space.get(),
-            vpage: address.vpage.get(),
-            ..none
-        },
+        } => of_client(2, client, address, alias.space.get(), alias.vpage.get(), 0),
+        Record::Unmap { client, address } => of_client(3, client, address, 0, 0, 0),
         Record::Store {
             client,
             address,
             word,
             value,
-        } => Noted {
-            kind: 4,
-            client: client.get(),
-            space: address.space.get(),
-            vpage: address.vpage.get(),
-            number: u32::from(word),
-            value,
-            ..none
-        },
+        } => of_client(4, client, address, u32::from(word), 0, value),
         Record::Load {
             client,
             address,
             word,
             value,
-        } => Noted {
-            kind: 5,
-            client: client.get(),
-            space: address.space.get(),
-            vpage: address.vpage.get(),
-            number: u32::from(word),
-            value,
-            ..none
-        },
-        Record::Pin { client, address } => Noted {
-            kind: 6,
-            client: client.get(),
-            space: address.space.get(),
-            vpage: address.vpage.get(),
-            ..none
-        },
-        Record::Unpin { client, address } => Noted {
-            kind: 7,
-            client: client.get(),
-            space: address.space.get(),
-            vpage: address.vpage.get(),
-            ..none
-        },
-        Record::Isolate { serial, page } => Noted {
-            kind: 8,
-            number: serial,
-            other: page.get(),
-            ..none
-        },
-        Record::Moved { serial } => Noted {
-            kind: 9,
-            number: serial,
-            ..none
-        },
-        Record::Back { serial, cause } => Noted {
-            kind: 10,
-            number: serial,
-            other: match cause {
-                Cause::Pinned => 1,
-                Cause::NotCopied => 2,
-            },
-            ..none
-        },
-        Record::TakeHuge { frame, order } => Noted {
-            kind: 11,
-            number: frame.get(),
-            other: order.get(),
-            ..none
-        },
-        Record::GiveHuge { frame, order } => Noted {
-            kind: 12,
-            number: frame.get(),
-            other: order.get(),
-            ..none
-        },
-        Record::Mark { block } => Noted {
-            kind: 13,
-            number: block.get(),
-            ..none
-        },
-        Record::Unmark { block } => Noted {
-            kind: 14,
-            number: block.get(),
-            ..none
-        },
+        } => of_client(5, client, address, u32::from(word), 0, value),
+        Record::Pin { client, address } => of_client(6, client, address, 0, 0, 0),
+        Record::Unpin { client, address } => of_client(7, client, address, 0, 0, 0),
+        Record::Isolate { serial, page } => of_zone(8, serial, page.get()),
+        Record::Moved { serial } => of_zone(9, serial, 0),
+        Record::Back { serial, cause } => of_zone(10, serial, cause_of(cause)),
+        Record::TakeHuge { frame, order } => of_zone(11, frame.get(), order.get()),
+        Record::GiveHuge { frame, order } => of_zone(12, frame.get(), order.get()),
+        Record::Mark { block } => of_zone(13, block.get(), 0),
+        Record::Unmark { block } => of_zone(14, block.get(), 0),
+    }
+}
+
+/// A record of a client's call on an address.
+fn of_client(
+    kind: u32,
+    client: ClientNo,
+    address: Address,
+    number: u32,
+    other: u32,
+    value: u64,
+) -> Noted
+    ensures { result ≡ of_client kind client address number other value }
+{
+    Noted {
+        kind,
+        client: client.get(),
+        space: address.space.get(),
+        vpage: address.vpage.get(),
+        number,
+        other,
+        value,
+    }
+}
+
+/// A record of nobody's call on an address.
+fn of_zone(kind: u32, number: u32, other: u32) -> Noted
+    ensures { result ≡ of_zone kind number other }
+{
+    Noted {
+        kind,
+        client: 0,
+        space: 0,
+        vpage: 0,
+        number,
+        other,
+        value: 0,
+    }
+}
+
+/// The number of why a page was put back.
+fn cause_of(cause: Cause) -> u32
+    ensures { result ≡ cause_of cause }
+{
+    match cause {
+        Cause::Pinned => 1,
+        Cause::NotCopied => 2,
     }
 }
