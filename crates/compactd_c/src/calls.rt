@@ -31,10 +31,7 @@ pub(crate) fn make(
     };
     let answer = zone.make(client, asked);
     pool.put(alloc, zone);
-    match answer {
-        Ok(told) => Ok(told),
-        Err(error) => Err(number(error)),
-    }
+    answer.map_err(number)
 }
 
 /// The number of a refusal.
@@ -68,6 +65,21 @@ pub(crate) fn framed(answer: Result<ZoneAnswer, u32>, frame: &mut u32) -> u32
             0
         }
         Err(number) => number,
+    }
+}
+
+/// The number of an answer, whose value goes where C wants it.
+pub(crate) fn told<T: Copy>(answer: Result<T, ZoneError>, place: &mut T) -> u32
+    ensures number { result ≡ number_for (result_err answer) }
+    ensures value { result ≡ 0 → answer ≡ Ok place.new }
+    ensures kept { ¬ (result ≡ 0) → place.new ≡ place.old }
+{
+    match answer {
+        Ok(value) => {
+            *place = value;
+            0
+        }
+        Err(error) => number(error),
     }
 }
 

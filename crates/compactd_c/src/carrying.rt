@@ -9,7 +9,7 @@ ghost use Rattle.state_core.specs.Isolating.{next_state};
 ghost use Rattle.state_core.specs.Pairs.{HaveMet, next_pair};
 ghost use Rattle.state_core.specs.ZoneState.{ZoneState};
 
-use crate::calls::{CLOSED, number as number_for};
+use crate::calls::{CLOSED, number as number_for, told};
 use crate::pool::Pool;
 use state_core::Ended;
 use std::alloc::Global;
@@ -88,11 +88,5 @@ pub extern "C" fn compactd_commit(
     };
     let answer = zone.commit(serial, number, words);
     pool.put(alloc, zone);
-    match answer {
-        Ok(ended) => {
-            *moved = ended == Ended::Moved;
-            0
-        }
-        Err(error) => number_for(error),
-    }
+    told(answer.map(|ended| ended == Ended::Moved), moved)
 }

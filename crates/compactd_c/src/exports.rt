@@ -16,7 +16,7 @@ ghost use Rattle.state_core.specs.Unmapping.{unmap_refusal, unmapped};
 ghost use Rattle.state_core.specs.ZoneState.{ZoneState, lowest_free_frame};
 
 use crate::asked::Asked;
-use crate::calls::{CLOSED, done, framed, make, number, numbered};
+use crate::calls::{CLOSED, done, framed, make, number, numbered, told};
 use crate::pool::Pool;
 use crate::zone::Zone;
 use state_core::ZoneError;
@@ -188,13 +188,7 @@ pub extern "C" fn compactd_load(
     };
     let answer = zone.load(client, space, vpage, word);
     pool.put(alloc, zone);
-    match answer {
-        Ok(told) => {
-            *value = told;
-            0
-        }
-        Err(error) => number(error),
-    }
+    told(answer, value)
 }
 
 /// Writes a word of the page that an address names.

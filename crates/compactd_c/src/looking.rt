@@ -10,10 +10,10 @@ ghost use Rattle.state_core.specs.Looking.{look_of, info_of};
 ghost use Rattle.state_core.specs.Marking.{marked_of};
 ghost use Rattle.state_core.specs.ZoneState.{ZoneState, is_quiet};
 
-use crate::calls::{CLOSED, number};
+use crate::calls::{CLOSED, told};
 use crate::pool::Pool;
 use bitflags::Flags;
-use state_core::{Info, Look};
+use state_core::{Audit, Info, Look};
 use std::alloc::Global;
 
 /// The counts of a zone, in frames unless it says otherwise.
@@ -130,13 +130,7 @@ pub extern "C" fn compactd_marked(
     };
     let answer = zone.marked(block);
     pool.put(alloc, zone);
-    match answer {
-        Ok(told) => {
-            *marked = told;
-            0
-        }
-        Err(error) => number(error),
-    }
+    told(answer, marked)
 }
 
 /// Tells what is known of the page that an address names.
@@ -160,13 +154,7 @@ pub extern "C" fn compactd_look(
     };
     let answer = zone.look(space, vpage);
     pool.put(alloc, zone);
-    match answer {
-        Ok(look) => {
-            *seen = seen_in(look);
-            0
-        }
-        Err(error) => number(error),
-    }
+    told(answer.map(seen_in), seen)
 }
 
 fn seen_in(look: Look) -> Seen
@@ -213,16 +201,18 @@ pub extern "C" fn compactd_audit(alloc: Global, pool: &mut Pool, ends: &mut Ends
     };
     let answer = zone.audit();
     pool.put(alloc, zone);
-    match answer {
-        Ok(audit) => {
-            *ends = Ends {
-                isolated: audit.isolated,
-                moved: audit.moved,
-                back: audit.back,
-            };
-            0
-        }
-        Err(error) => number(error),
+    told(answer.map(ends_in), ends)
+}
+
+fn ends_in(audit: Audit) -> Ends
+    ensures isolated { result.isolated ≡ audit.isolated }
+    ensures moved { result.moved ≡ audit.moved }
+    ensures back { result.back ≡ audit.back }
+{
+    Ends {
+        isolated: audit.isolated,
+        moved: audit.moved,
+        back: audit.back,
     }
 }
 

@@ -6,7 +6,7 @@ ghost use Rattle.compactd_c.specs.Answers.{answer};
 ghost use Rattle.compactd_c.specs.Records.{of_client, of_zone, cause_of, noted_of, record_refused};
 ghost use Rattle.state_core.specs.ZoneState.{ZoneState};
 
-use crate::calls::{CLOSED, number as number_for};
+use crate::calls::{CLOSED, told};
 use crate::pool::Pool;
 use frame_core::{Address, Cause, ClientNo, Record};
 use std::alloc::Global;
@@ -75,13 +75,7 @@ pub extern "C" fn compactd_record(
     };
     let answer = zone.record(place);
     pool.put(alloc, zone);
-    match answer {
-        Ok(told) => {
-            *noted = numbers_of(told);
-            0
-        }
-        Err(error) => number_for(error),
-    }
+    told(answer.map(numbers_of), noted)
 }
 
 /// A record, in numbers.

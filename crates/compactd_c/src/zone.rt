@@ -358,13 +358,9 @@ impl Zone {
         ensures refused { result_err result ≡ record_refused self.now place }
         ensures value { IfOk result (λ entry. slice_get (reverse self.now.records) place ≡ Some entry) }
     {
-        let Some(records) = self.journal().kept() else {
-            return Err(ZoneError::Range);
-        };
-        match records.get(place) {
-            Some(entry) => Ok(*entry),
-            None => Err(ZoneError::Range),
-        }
+        let records = self.journal().kept().ok_or(ZoneError::Range)?;
+        let entry = records.get(place).ok_or(ZoneError::Range)?;
+        Ok(*entry)
     }
 
     /// The journal of the zone.
@@ -390,12 +386,8 @@ fn make<const W: usize>(
     ensures answer { IfOk result (λ answer. answer ≡ answer_for asked zone.old) }
     ensures ok { OnOk result (zone.new ≡ after_asked client asked zone.old) }
 {
-    let Some(client) = ClientNo::new(client) else {
-        return Err(ZoneError::Range);
-    };
-    let Some(call) = asked.call() else {
-        return Err(ZoneError::Range);
-    };
+    let client = ClientNo::new(client).ok_or(ZoneError::Range)?;
+    let call = asked.call().ok_or(ZoneError::Range)?;
     zone.make(client, call)
 }
 
@@ -499,10 +491,8 @@ fn put_back<const W: usize>(
 {
     let number = page_of(zone, number).ok_or(ZoneError::Stranger)?;
     let page = PageOf::new(zone.number(), number);
-    match zone.put_back(IsolatedOf::new(serial, page)) {
-        Ok(()) => Ok(()),
-        Err(_) => Err(ZoneError::Stranger),
-    }
+    zone.put_back(IsolatedOf::new(serial, page))
+        .or(Err(ZoneError::Stranger))
 }
 
 /// A block's first frame and its order, if both are in their ranges.
@@ -571,14 +561,10 @@ fn commit<const W: usize>(
     if words.len() != zone.page_words() {
         return Err(ZoneError::Range);
     }
-    let Some(number) = page_of(zone, number) else {
-        return Err(ZoneError::Stranger);
-    };
+    let number = page_of(zone, number).ok_or(ZoneError::Stranger)?;
     let mut held = [0; W];
     held.copy_from_slice(words);
     let page = PageOf::carrying(zone.number(), number, PageFlags::empty(), held);
-    match zone.commit(IsolatedOf::new(serial, page).copy_into_new()) {
-        Ok(ended) => Ok(ended),
-        Err(_) => Err(ZoneError::Stranger),
-    }
+    zone.commit(IsolatedOf::new(serial, page).copy_into_new())
+        .or(Err(ZoneError::Stranger))
 }
