@@ -1,8 +1,8 @@
 //! Measures rounds, clients beside rounds, the hand-over of pages, and calls of zones whose journals are told, each beside the same work
 //! done otherwise. The first word says which: `rounds`, `clients`, `hands` or `calls`. With no further word it prints what they did, which
 //! is the same in every run; with a number it prints how long they take. `rounds alone N` and `rounds filled N` do a part of the work N
-//! times, to be counted from outside. `calls told N` makes N stores and as many loads in a zone whose journal is told. Without any word it
-//! prints what rounds, clients and hands did, and a thousand such calls.
+//! times, to be counted from outside. `calls told N` makes N stores and as many loads in a zone whose journal is told, and `calls`
+//! alone a thousand of each. Without any word it prints what all four did.
 #![tactic(auto)]
 
 mod calls;
@@ -31,15 +31,15 @@ fn main(rt: HostRuntime) -> Result<()> {
     show(&rt, rt.alloc(), Subject::named(subject.as_str())?, words)
 }
 
-/// What rounds, clients and hands did.
+/// What each subject does.
 fn show_all<R: Threads + Wait + Print + Alloc + Clock + Sync>(
     rt: &R,
     alloc: Global,
 ) -> io::Result<()> {
-    rounds::show_moves(rt, alloc)?;
-    clients::show_settled(rt, alloc)?;
-    hands::show_loads(rt, alloc)?;
-    calls::show_calls(rt, alloc, 1000)
+    for subject in SUBJECTS {
+        show_doings(rt, alloc, subject)?;
+    }
+    Ok(())
 }
 
 /// What is measured.
@@ -50,6 +50,13 @@ enum Subject {
     Hands,
     Calls,
 }
+
+const SUBJECTS: [Subject; 4] = [
+    Subject::Rounds,
+    Subject::Clients,
+    Subject::Hands,
+    Subject::Calls,
+];
 
 impl Subject {
     /// The subject that a word names.
@@ -71,7 +78,7 @@ fn show<R: Threads + Wait + Print + Alloc + Clock + Sync>(
     mut words: Args,
 ) -> Result<()> {
     match (words.next(), words.next()) {
-        (None, _) => show_doings(rt, alloc, subject),
+        (None, _) => Ok(show_doings(rt, alloc, subject)?),
         (Some(times), None) => show_times(rt, alloc, subject, number_in(times.as_str())?),
         (Some(part), Some(times)) => {
             show_part(rt, alloc, subject, part.as_str(), times.as_str())
@@ -84,14 +91,13 @@ fn show_doings<R: Threads + Wait + Print + Alloc + Clock + Sync>(
     rt: &R,
     alloc: Global,
     subject: Subject,
-) -> Result<()> {
-    let shown = match subject {
+) -> io::Result<()> {
+    match subject {
         Subject::Rounds => rounds::show_moves(rt, alloc),
         Subject::Clients => clients::show_settled(rt, alloc),
         Subject::Hands => hands::show_loads(rt, alloc),
-        Subject::Calls => return Err(usage()),
-    };
-    Ok(shown?)
+        Subject::Calls => calls::show_calls(rt, alloc, 1000),
+    }
 }
 
 /// How long a subject takes.
