@@ -6,7 +6,7 @@ mod bulk;
 
 use crate::opening::{BLOCKS, PLACES, page};
 use crate::times::nanos_since;
-use frame_core::{Address, ClientNo, WordNo, ZoneNo};
+use frame_core::{Address, ClientNo, WordOf, ZoneNo};
 use std::alloc::Global;
 use std::io;
 use std::time::{Clock, Instant};
@@ -38,25 +38,29 @@ impl Journal {
 
 /// Who stores to a word of a page, and loads it.
 #[derive(Clone, Copy)]
-struct User {
+struct User<const W: usize> {
     client: ClientNo,
     address: Address,
-    word: WordNo,
+    word: WordOf<W>,
 }
 
-impl User {
-    /// The user whose page is mapped in a zone that has none.
-    fn of(zone: &mut BareZone<8>) -> Option<User> {
+impl<const W: usize> User<W> {
+    /// The user whose page is mapped in a zone that has none. The word is the first.
+    fn of(zone: &mut BareZone<W>) -> Option<User<W>>
+        requires { W ≤ 65536 }
+    {
         let user = User {
             client: ClientNo::new(0)?,
             address: page(0)?,
-            word: WordNo::new(0)?,
+            word: WordOf::new(0)?,
         };
         let unmovable = false;
         let _mapped = zone.map(user.client, user.address, unmovable).ok()?;
         Some(user)
     }
+}
 
+impl User<8> {
     /// Stores this number of values, one after the other. How many were accepted.
     fn store_all(&self, zone: &mut BareZone<8>, values: u32) -> u32 {
         let mut stored = 0u32;

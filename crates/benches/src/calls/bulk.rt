@@ -1,9 +1,7 @@
 //! Words that are written in bulk to a page of 512 words.
 
-use super::{Journal, Timed};
-use crate::opening::page;
+use super::{Journal, Timed, User};
 use crate::times::nanos_since;
-use frame_core::{Address, ClientNo, WordOf};
 use std::alloc::Global;
 use std::io;
 use std::time::{Clock, Instant};
@@ -26,33 +24,13 @@ pub fn time<R: Clock>(rt: &R, alloc: Global, journal: Journal) -> io::Result<Tim
     }
 }
 
-/// Who writes the page of a zone, from a word on.
-#[derive(Clone, Copy)]
-struct Writer {
-    client: ClientNo,
-    address: Address,
-    first: WordOf<WORDS>,
-}
-
-impl Writer {
-    /// The writer whose page is mapped in a zone that has none.
-    fn of(zone: &mut BareZone<WORDS>) -> Option<Writer> {
-        let writer = Writer {
-            client: ClientNo::new(0)?,
-            address: page(0)?,
-            first: WordOf::new(0)?,
-        };
-        let unmovable = false;
-        let _mapped = zone.map(writer.client, writer.address, unmovable).ok()?;
-        Some(writer)
-    }
-
+impl User<WORDS> {
     /// Writes all words of the page, again and again. How many writes were accepted.
     fn write_all(&self, zone: &mut BareZone<WORDS>) -> u32 {
         let values = [5; WORDS];
         let mut written = 0u32;
         for _write in 0..WRITES {
-            let call = zone.write(self.client, self.address, self.first, &values);
+            let call = zone.write(self.client, self.address, self.word, &values);
             written = written.saturating_add(u32::from(call.is_ok()));
         }
         written
@@ -60,11 +38,11 @@ impl Writer {
 }
 
 fn time_writes<R: Clock>(rt: &R, zone: &mut BareZone<WORDS>) -> io::Result<Timed> {
-    let Some(writer) = Writer::of(zone) else {
+    let Some(user) = User::of(zone) else {
         return Ok(Timed::NOTHING);
     };
     let start = Instant::now(rt)?;
-    let written = writer.write_all(zone);
+    let written = user.write_all(zone);
     let nanos = nanos_since(rt, &start)?;
     Ok(Timed {
         stores: written.saturating_mul(WORDS as u32),
