@@ -4,7 +4,7 @@ mod load;
 mod plain;
 mod ruled;
 
-use crate::settings::SETTINGS;
+use crate::settings::{SETTINGS, Setting};
 use crate::times::nanos_since;
 use load::Load;
 use std::alloc::Global;
@@ -21,11 +21,10 @@ pub fn show_loads<R: Threads + Wait + Print + Alloc + Sync>(
     rt: &R,
     alloc: Global,
 ) -> io::Result<()> {
-    for (takers, cap) in SETTINGS {
-        let Load { count, sum } = ruled::carry(rt, alloc, takers, cap, PAGES).unwrap_or(
-            Load::NOTHING,
-        );
-        println!(rt; "takers {takers} room {cap} pages {count} numbers {sum}")?;
+    for setting in SETTINGS {
+        let Setting { threads, capacity } = setting;
+        let Load { count, sum } = ruled::carry(rt, alloc, setting, PAGES).unwrap_or(Load::NOTHING);
+        println!(rt; "takers {threads} room {capacity} pages {count} numbers {sum}")?;
     }
     Ok(())
 }
@@ -37,10 +36,10 @@ pub fn show_times<R: Threads + Wait + Print + Alloc + Clock + Sync>(
     pages: u32,
 ) -> io::Result<()> {
     println!(rt; "takers room ruled plain percent")?;
-    for (takers, cap) in SETTINGS {
-        let ruled = time(rt, alloc, Queue::Ruled, takers, cap, pages)?;
-        let plain = time(rt, alloc, Queue::Plain, takers, cap, pages)?;
-        show_time(rt, takers, cap, pages, ruled, plain)?;
+    for setting in SETTINGS {
+        let ruled = time(rt, alloc, Queue::Ruled, setting, pages)?;
+        let plain = time(rt, alloc, Queue::Plain, setting, pages)?;
+        show_time(rt, setting, pages, ruled, plain)?;
     }
     Ok(())
 }
@@ -63,19 +62,19 @@ struct Carried {
 
 fn show_time<R: Print>(
     rt: &R,
-    takers: usize,
-    cap: usize,
+    setting: Setting,
     pages: u32,
     ruled: Carried,
     plain: Carried,
 ) -> io::Result<()> {
+    let Setting { threads, capacity } = setting;
     if ruled.pages != plain.pages {
-        return println!(rt; "{takers} {cap} failed");
+        return println!(rt; "{threads} {capacity} failed");
     }
     let each = u64::from(pages.max(1));
     let percent = ruled.nanos.saturating_mul(100) / plain.nanos.max(1);
     let (ruled_each, plain_each) = (ruled.nanos / each, plain.nanos / each);
-    println!(rt; "{takers} {cap} {ruled_each} {plain_each} {percent}")
+    println!(rt; "{threads} {capacity} {ruled_each} {plain_each} {percent}")
 }
 
 /// How many pages arrive, and how long that takes.
@@ -83,14 +82,13 @@ fn time<R: Threads + Wait + Clock + Sync>(
     rt: &R,
     alloc: Global,
     queue: Queue,
-    takers: usize,
-    cap: usize,
+    setting: Setting,
     pages: u32,
 ) -> io::Result<Carried> {
     let start = Instant::now(rt)?;
     let load = match queue {
-        Queue::Ruled => ruled::carry(rt, alloc, takers, cap, pages),
-        Queue::Plain => plain::carry(rt, alloc, takers, cap, pages),
+        Queue::Ruled => ruled::carry(rt, alloc, setting, pages),
+        Queue::Plain => plain::carry(rt, alloc, setting, pages),
     };
     let nanos = nanos_since(rt, &start)?;
     Ok(Carried {

@@ -3,7 +3,7 @@
 mod alone;
 mod timed;
 
-use crate::settings::SETTINGS;
+use crate::settings::{SETTINGS, Setting};
 use crate::times::Times;
 use alone::{fill_alone, move_alone};
 use std::alloc::Global;
@@ -20,9 +20,10 @@ pub fn show_moves<R: Threads + Wait + Print + Alloc + Clock + Sync>(
     rt: &R,
     alloc: Global,
 ) -> io::Result<()> {
-    for (copiers, cap) in SETTINGS {
-        let moved = best_round(rt, alloc, copiers, cap, 1)?.moved;
-        println!(rt; "copiers {copiers} room {cap} moved {moved}")?;
+    for setting in SETTINGS {
+        let Setting { threads, capacity } = setting;
+        let moved = best_round(rt, alloc, setting, 1)?.moved;
+        println!(rt; "copiers {threads} room {capacity} moved {moved}")?;
     }
     Ok(())
 }
@@ -37,23 +38,18 @@ pub fn show_times<R: Threads + Wait + Print + Alloc + Clock + Sync>(
     let (whole, each) = (alone.whole / 1000, alone.each());
     println!(rt; "copiers room us ns/page percent us/empty")?;
     println!(rt; "     -    - {whole:>4} {each:>5}     100")?;
-    for (copiers, cap) in SETTINGS {
-        let round = best_round(rt, alloc, copiers, cap, times)?;
-        show_round(rt, copiers, cap, round, alone)?;
+    for setting in SETTINGS {
+        let round = best_round(rt, alloc, setting, times)?;
+        show_round(rt, setting, round, alone)?;
     }
     Ok(())
 }
 
-fn show_round<R: Print>(
-    rt: &R,
-    copiers: usize,
-    cap: usize,
-    round: Times,
-    alone: Times,
-) -> io::Result<()> {
+fn show_round<R: Print>(rt: &R, setting: Setting, round: Times, alone: Times) -> io::Result<()> {
+    let Setting { threads, capacity } = setting;
     let percent = round.whole.saturating_mul(100) / alone.whole.max(1);
     let (whole, each, empty) = (round.whole / 1000, round.each(), round.empty / 1000);
-    println!(rt; "{copiers:>6} {cap:>4} {whole:>4} {each:>5} {percent:>7} {empty:>8}")
+    println!(rt; "{threads:>6} {capacity:>4} {whole:>4} {each:>5} {percent:>7} {empty:>8}")
 }
 
 /// Does the work of the zone alone so many times, or only fills the zone for it.
@@ -76,19 +72,12 @@ pub fn show_part<R: Print + Alloc + Clock>(
 fn best_round<R: Threads + Wait + Clock + Sync>(
     rt: &R,
     alloc: Global,
-    copiers: usize,
-    cap: usize,
+    setting: Setting,
     times: u32,
 ) -> io::Result<Times> {
     let mut best = Times::NONE;
     for _time in 0..times {
-        let round = run_round::<Brand, Brand, Brand, Brand, R>(
-            rt,
-            alloc,
-            copiers,
-            cap,
-            Blanks::new(),
-        )?;
+        let round = run_round::<Brand, Brand, Brand, Brand, R>(rt, alloc, setting, Blanks::new())?;
         best = best.or(round);
     }
     Ok(best)

@@ -1,6 +1,7 @@
 //! Pages over a plain channel.
 
 use super::load::{Load, page_of};
+use crate::settings::Setting;
 use crossbeam_channel::{Receiver, Sender, bounded};
 use frame_core::Isolated;
 use std::alloc::Global;
@@ -9,16 +10,16 @@ use std::thread::{Threads, join, map_vec};
 
 type Pages = Receiver<Isolated, Global>;
 
-/// What arrives at so many takers, each on a thread of its own.
+/// What arrives at the takers of a setting, each on a thread of its own.
 pub fn carry<R: Threads + Wait + Sync>(
     rt: &R,
     alloc: Global,
-    takers: usize,
-    cap: usize,
+    setting: Setting,
     pages: u32,
 ) -> Option<Load> {
-    let (to, from) = bounded::<Isolated, Global>(alloc, cap).ok()?;
-    let waiting = shared_by(alloc, from, takers)?;
+    let Setting { threads, capacity } = setting;
+    let (to, from) = bounded::<Isolated, Global>(alloc, capacity).ok()?;
+    let waiting = shared_by(alloc, from, threads)?;
     let (sent, loads) = join(
         rt,
         move || send_all(rt, to, pages),

@@ -3,20 +3,21 @@
 ghost use Rattle.std.specs.Prelude.{◌≡◌, [], false, All};
 
 use super::load::{Load, page_of};
+use crate::settings::Setting;
 use hand_core::{Giver, Taker, Takers, Took, open};
 use std::alloc::Global;
 use std::sync::Wait;
 use std::thread::{Threads, join, map_vec};
 
-/// What arrives at so many takers, each on a thread of its own.
+/// What arrives at the takers of a setting, each on a thread of its own.
 pub fn carry<R: Threads + Wait + Sync>(
     rt: &R,
     alloc: Global,
-    takers: usize,
-    cap: usize,
+    setting: Setting,
     pages: u32,
 ) -> Option<Load> {
-    let (giver, waiting) = open(rt, alloc, 0, takers, cap).ok()?;
+    let Setting { threads, capacity } = setting;
+    let (giver, waiting) = open(rt, alloc, 0, threads, capacity).ok()?;
     let (given, loads) = join(
         rt,
         move || -> bool

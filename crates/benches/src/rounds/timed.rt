@@ -1,11 +1,11 @@
 //! Rounds on threads.
 
-ghost use Rattle.std.specs.Prelude.{◌<◌, ◌≤◌};
 ghost use Rattle.zone_core.specs.Books.{AreFor};
 ghost use Rattle.zone_core.specs.ZoneIdentity.{HasIdentity};
 
 use super::alone::half_full;
 use crate::opening::Opening;
+use crate::settings::Setting;
 use crate::times::{Times, nanos_since};
 use round_core::{NoGate, SharedZone, ZoneIdentity, compact};
 use std::alloc::Global;
@@ -24,16 +24,13 @@ pub fn run_round<
     M: Ledger + Send + Sync,
     B: Ledger + Send + Sync,
     R: Threads + Wait + Clock + Sync,
->(rt: &R, alloc: Global, copiers: usize, cap: usize, blanks: Blanks) -> io::Result<Times>
+>(rt: &R, alloc: Global, setting: Setting, blanks: Blanks) -> io::Result<Times>
     requires blanks { AreFor blanks I.name I.parts N.name N.parts M.name M.parts B.name B.parts }
 {
-    if copiers == 0 || copiers > 4 || cap == 0 || cap > 64 {
-        return Ok(Times::NONE);
-    }
     let Some(Opening { zone, mut seats }) = half_full::<I, N, M, B>(alloc, blanks) else {
         return Ok(Times::NONE);
     };
-    time_rounds::<Brand, I, N, M, B, R>(rt, alloc, zone, &mut seats, copiers, cap)
+    time_rounds::<Brand, I, N, M, B, R>(rt, alloc, zone, &mut seats, setting)
 }
 
 /// How long both rounds take over a zone of the identity that the type names.
@@ -49,15 +46,12 @@ fn time_rounds<
     alloc: Global,
     zone: Zone<I, M, B>,
     seats: &mut Seats<I, N, M, B>,
-    copiers: usize,
-    cap: usize,
+    setting: Setting,
 ) -> io::Result<Times>
-    requires copiers { (0 < copiers) × (copiers ≤ 4) }
-    requires cap { (0 < cap) × (cap ≤ 64) }
     requires identity { HasIdentity K.number K.blocks zone }
 {
     let shared = SharedZone::<K, I, M, B>::new(zone);
-    time_both(rt, alloc, &shared, seats, copiers, cap)
+    time_both(rt, alloc, &shared, seats, setting)
 }
 
 /// How long a round takes, and one after it.
@@ -73,17 +67,13 @@ fn time_both<
     alloc: Global,
     shared: &SharedZone<K, I, M, B>,
     seats: &mut Seats<I, N, M, B>,
-    copiers: usize,
-    cap: usize,
-) -> io::Result<Times>
-    requires copiers { (0 < copiers) × (copiers ≤ 4) }
-    requires cap { (0 < cap) × (cap ≤ 64) }
-{
+    setting: Setting,
+) -> io::Result<Times> {
     let start = Instant::now(rt)?;
-    let moved = moved_by(rt, alloc, shared, seats, copiers, cap);
+    let moved = moved_by(rt, alloc, shared, seats, setting);
     let whole = nanos_since(rt, &start)?;
     let start = Instant::now(rt)?;
-    let _none = moved_by(rt, alloc, shared, seats, copiers, cap);
+    let _none = moved_by(rt, alloc, shared, seats, setting);
     let empty = nanos_since(rt, &start)?;
     Ok(Times {
         moved,
@@ -105,13 +95,10 @@ fn moved_by<
     alloc: Global,
     shared: &SharedZone<K, I, M, B>,
     seats: &mut Seats<I, N, M, B>,
-    copiers: usize,
-    cap: usize,
-) -> u32
-    requires copiers { (0 < copiers) × (copiers ≤ 4) }
-    requires cap { (0 < cap) × (cap ≤ 64) }
-{
-    match compact(rt, alloc, shared, seats, copiers, cap, &NoGate) {
+    setting: Setting,
+) -> u32 {
+    let Setting { threads, capacity } = setting;
+    match compact(rt, alloc, shared, seats, threads, capacity, &NoGate) {
         Ok(round) => round.moved,
         Err(_) => 0,
     }
