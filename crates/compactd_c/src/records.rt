@@ -140,7 +140,7 @@ fn of_client(
     }
 }
 
-/// A record of nobody's call on an address.
+/// A record that names no client and no address.
 fn of_zone(kind: u32, number: u32, other: u32) -> Noted
     ensures { result ≡ of_zone kind number other }
 {
