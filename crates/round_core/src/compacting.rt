@@ -111,10 +111,7 @@ fn audit<K: Keeping, I: Ledger, N: Ledger, M: Ledger, B: Ledger, R: Wait>(
     ensures same { (seats.new.scan ≡ seats.old.scan) × (seats.new.ends ≡ seats.old.ends) }
 {
     let mut room = shared.lock(rt);
-    let Ok(audit) = audit_zone(&mut room.zone, seats) else {
-        return Err(RoundError::Broken);
-    };
-    Ok(audit)
+    audit_zone(&mut room.zone, seats).or(Err(RoundError::Broken))
 }
 
 /// Runs the threads of a round in a scope of their own. None where one of them can't be started.
