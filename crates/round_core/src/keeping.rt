@@ -21,29 +21,29 @@ use crate::identity::ZoneIdentity;
 use std::marker::{Brand, PhantomData};
 
 /// What the lock of a zone keeps, beside that the zone is valid: a fact about the zone that each step of a round leaves true, and each
-/// call of a client that may make calls. Contracts alone know it, and whoever shares a zone picks it. `Open` keeps nothing;
-/// `compact_alone` keeps what its round comes to, and no client may make calls.
+/// call of a client that may make calls. Contracts alone know it, and whoever shares a zone picks it. `Open` keeps nothing, as the
+/// members' defaults say; `compact_alone` keeps what its round comes to, and no client may make calls.
 pub trait Keeping: ZoneIdentity {
     /// What is so whenever the lock is free.
-    ghost keeps: { ZoneState → Type 0 };
+    ghost keeps: { ZoneState → Type 0 } = { λ z. ⊤ };
 
     /// What is so while the scanner has the lock, once its round has begun.
-    ghost keeps_scanning: { ZoneState → Type 0 };
+    ghost keeps_scanning: { ZoneState → Type 0 } = { λ z. ⊤ };
 
     /// Where so many pages were isolated a round may begin.
-    ghost begins_at: { ℕ → Type 0 };
+    ghost begins_at: { ℕ → Type 0 } = { λ n. ⊤ };
 
     /// Where so many pages are isolated the scanner stops, and why.
-    ghost stops_at: { ℕ → Stopped → Type 0 };
+    ghost stops_at: { ℕ → Stopped → Type 0 } = { λ n stop. ⊤ };
 
     /// No moving page has a pin.
-    ghost unpinned: { Type 0 };
+    ghost unpinned: { Type 0 } = { ⊥ };
 
     /// The client with this number may make calls, and its slip is of this pair, if it has one.
-    ghost allows: { ℕ → Option Pair → Type 0 };
+    ghost allows: { ℕ → Option Pair → Type 0 } = { λ client pair. None ≡ pair };
 
     /// Where receipts are kept, the pair of the stub under the lock, and the receipts that clients have of this journal.
-    ghost told: { List Record → Option Told };
+    ghost told: { List Record → Option Told } = { λ records. None };
 
     // A round begins, its scanner takes the lock again, and lets it go.
     ghost begins: { (z : ZoneState) → IsValidZone z → begins_at (isolated z.records) → keeps z → keeps_scanning (round_begun z) };
@@ -77,20 +77,6 @@ pub trait Keeping: ZoneIdentity {
 
 // Nothing: a call that passes `Brand` picks its own.
 impl Keeping for Brand {
-    ghost keeps = { λ z. ⊤ };
-
-    ghost keeps_scanning = { λ z. ⊤ };
-
-    ghost begins_at = { λ n. ⊤ };
-
-    ghost stops_at = { λ n stop. ⊤ };
-
-    ghost unpinned = { ⊥ };
-
-    ghost allows = { λ client pair. None ≡ pair };
-
-    ghost told = { λ records. None };
-
     ghost begins = { λ z law at keeps. tt };
 
     ghost goes_on = { λ z law begun keeps. tt };
@@ -128,20 +114,6 @@ impl<K: ZoneIdentity> ZoneIdentity for Open<K> {
 }
 
 impl<K: ZoneIdentity> Keeping for Open<K> {
-    ghost keeps = { λ z. ⊤ };
-
-    ghost keeps_scanning = { λ z. ⊤ };
-
-    ghost begins_at = { λ n. ⊤ };
-
-    ghost stops_at = { λ n stop. ⊤ };
-
-    ghost unpinned = { ⊥ };
-
-    ghost allows = { λ client pair. None ≡ pair };
-
-    ghost told = { λ records. None };
-
     ghost begins = { λ z law at keeps. tt };
 
     ghost goes_on = { λ z law begun keeps. tt };
