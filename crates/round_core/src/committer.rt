@@ -1,5 +1,5 @@
 ghost use Rattle.std.specs.Prelude.{◌≡◌, false, IfOk, IfErr};
-ghost use Rattle.hand_core.specs.CopyEnds.{has_ended, IsTriedInTime};
+ghost use Rattle.hand_core.specs.CopyEnds.{has_ended};
 
 use crate::gate::{COMMITTER, Gate, Point, tell_all};
 use crate::keeping::Keeping;
@@ -70,7 +70,12 @@ fn gather<R: Wait>(rt: &R, copies: &mut DoneTaker, gathered: &mut VecDeque<Copie
     ensures { result ≡ Following.More → has_ended copies.new ≡ false }
 {
     while gathered.len() < gathered.capacity() {
-        match next_copy(rt, copies, gathered.is_empty()) {
+        let came = if gathered.is_empty() {
+            Some(copies.take(rt))
+        } else {
+            copies.try_take(rt)
+        };
+        match came {
             Some(Came::Copy(copy)) => gathered.push_back_reserved(copy),
             Some(Came::End) => return Following::End,
             Some(Came::Gone) => return Following::Gone,
@@ -78,18 +83,6 @@ fn gather<R: Wait>(rt: &R, copies: &mut DoneTaker, gathered: &mut VecDeque<Copie
         }
     }
     Following::More
-}
-
-/// Takes the next copy. Where it isn't to wait, the answer is none if no copy is there.
-fn next_copy<R: Wait>(rt: &R, copies: &mut DoneTaker, waits: bool) -> Option<Came>
-    requires { has_ended copies.old ≡ false }
-    ensures { IsTriedInTime copies.new result }
-{
-    if waits {
-        Some(copies.take(rt))
-    } else {
-        copies.try_take(rt)
-    }
 }
 
 /// The committer hands back the one part of the end seat that it was given.
