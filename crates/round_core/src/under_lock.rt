@@ -1,6 +1,6 @@
 //! Steps under one hold of the lock.
 
-ghost use Rattle.std.specs.Prelude.{◌≡◌, ◌+◌, ◌<◌, ◌≤◌, [], length, Some, None, IfSome, IfNone, IfOk, IfErr, OnOk, OnErr};
+ghost use Rattle.std.specs.Prelude.{◌≡◌, ◌⊎◌, ◌+◌, ◌<◌, ◌≤◌, [], length, Some, None, IfSome, IfNone, IfOk, IfErr, OnOk, OnErr};
 ghost use Rattle.std.specs.VecDeque.{deque_capacity};
 ghost use Rattle.frame_core.specs.Moves.{isolated};
 ghost use Rattle.state_core.specs.Valid.{IsValidZone};
@@ -162,10 +162,12 @@ fn put_back_page<K: Keeping, I: Ledger, M: Ledger, B: Ledger>(
 
 /// The least of two serials, of which each may be none.
 pub(crate) fn least(one: Option<Serial>, other: Option<Serial>) -> Option<Serial>
-    ensures { result ≡ None → (one ≡ None) × (other ≡ None) }
+    ensures none { result ≡ None → (one ≡ None) × (other ≡ None) }
+    ensures some { IfSome result (λ serial. (one ≡ Some serial) ⊎ (other ≡ Some serial)) }
+    ensures least { IfSome result (λ serial. IfSome one (λ n. serial ≤ n) × IfSome other (λ n. serial ≤ n)) }
 {
     match (one, other) {
-        (Some(one), Some(other)) => Some(if one < other { one } else { other }),
+        (Some(one), Some(other)) => Some(one.min(other)),
         (one, other) => one.or(other),
     }
 }
