@@ -27,7 +27,8 @@ use std::sync::Wait;
 use std::sync::ledger::Ledger;
 use zone_core::{ClientCall, ZoneAnswer, ZoneCall, ZoneError};
 
-/// Makes calls of a shared zone under one number, and has a receipt for each call that was accepted: its record.
+/// Makes calls of a shared zone under one number, and has a receipt for each call that was accepted, its record, or one for each word
+/// of a call that reads or writes several.
 ///
 /// `T` says where the receipts go. Those of a `Client` are kept in a list that grows with each call. Those of a `ToldClient` are
 /// told: contracts see the same list, and no memory has it, so such a client can make calls for ever.

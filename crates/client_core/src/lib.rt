@@ -1,4 +1,4 @@
-//! Clients of a shared zone, each with a receipt for every call that was accepted, and the comparison of receipts with a journal.
+//! Clients of a shared zone, each with receipts of its calls that were accepted, and the comparison of receipts with a journal.
 //!
 //! A call whose page is moving waits until the move has ended. Contracts see a client as its number and its receipts. The receipts of
 //! a told client are seen by contracts alone, and take no memory.

@@ -83,7 +83,7 @@ pub fn reserve_alone<
     (zone, Report { got, rounds, stop })
 }
 
-/// Takes free blocks of an order until there are `n`, or until the zone refuses one. There are fewer before.
+/// Takes free blocks of an order until there are `n`, or until the zone refuses one. It is called with fewer.
 fn fill_alone<I: Ledger, M: Ledger, B: Ledger>(
     zone: &mut Zone<I, M, B>,
     order: Order,

@@ -56,6 +56,7 @@ pub fn compact_alone<
     ensures round { IfOk result.1 (λ r. IsRound seats.old.scan seats.new.scan seats.old.ends seats.new.ends r) }
     ensures early { IsRefusedEarly seats.old.scan seats.new.scan seats.old.ends seats.new.ends result.1 }
 {
+    // The audits are for contracts: they say how many pages were isolated and how many moves have ended, before the round and after it.
     let _ = zone.audit(&mut seats.scan, &mut seats.ends);
     let (mut zone, round) = compact_shared::<Brand, I, N, M, B, G, R>(
         rt, alloc, zone, seats, copiers, cap, gate,
