@@ -1,4 +1,4 @@
-ghost use Rattle.std.specs.Prelude.{◌≡◌, ◌+◌, ◌*◌, ◌<◌, ◌≤◌, ◌↔◌, ℕ, true, map, Some, IsSome, IsOk, IfOk, IfErr, OnOk, OnSome, length};
+ghost use Rattle.std.specs.Prelude.{◌≡◌, ◌+◌, ◌*◌, ◌<◌, ◌≤◌, ◌↔◌, true, map, Some, IsOk, IfOk, IfErr, OnOk, length};
 ghost use Rattle.round_core.specs.Counts.{AreCounted};
 ghost use Rattle.round_core.specs.Kept.{AreAllEnded};
 ghost use Rattle.round_core.specs.Rounds.{AreShared, IsRound, IsRefusedEarly, IsAfter, IsWant};

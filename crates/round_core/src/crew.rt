@@ -1,4 +1,4 @@
-ghost use Rattle.std.specs.Prelude.{◌≡◌, ◌+◌, ◌<◌, ◌≤◌, ℕ, false, All, IfOk, IfErr, OnSome, vec_len, []};
+ghost use Rattle.std.specs.Prelude.{◌≡◌, ◌+◌, ◌<◌, ◌≤◌, false, All, IfOk, IfErr, OnSome, vec_len, []};
 ghost use Rattle.std.specs.VecDeque.{deque_capacity};
 ghost use Rattle.hand_core.specs.CopyEnds.{has_ended};
 ghost use Rattle.round_core.specs.Runs.{IsFresh, IsUnstarted, IsEmpty, IsReady, AreJoined, IsRunOver, IsRunOrNot};

@@ -1,4 +1,4 @@
-ghost use Rattle.std.specs.Prelude.{◌≡◌, ◌+◌, ◌++◌, ◌<◌, ◌≤◌, [], false, Some, None, Err, length, IfSome, IfNone, OnSome, IfOk, OnOk};
+ghost use Rattle.std.specs.Prelude.{◌≡◌, ◌+◌, ◌++◌, ◌<◌, ◌≤◌, [], false, None, Err, length, IfSome, IfNone, OnSome, IfOk, OnOk};
 ghost use Rattle.std.specs.VecDeque.{deque_capacity};
 ghost use Rattle.frame_core.specs.Serials.{HasSerialsFrom};
 ghost use Rattle.round_core.specs.Counts.{CountsBack};

@@ -40,7 +40,6 @@ impl<K: Keeping, I: Ledger, M: Ledger, B: Ledger> Model for Room<K, I, M, B> {
 }
 
 impl<K: Keeping, I: Ledger, M: Ledger, B: Ledger> Room<K, I, M, B> {
-    ghost use Rattle.std.specs.Prelude.{◌≡◌};
     ghost use Rattle.round_core.specs.Kept.{LockInvariant};
     ghost use Rattle.zone_core.specs.ZoneIdentity.{HasIdentity};
 
@@ -141,9 +140,8 @@ impl<K: Keeping, I: Ledger, M: Ledger, B: Ledger> Drop for KeptZone<K, I, M, B> 
 pub type SharedZone<K, I, M, B> = KeptZone<Open<K>, I, M, B>;
 
 impl<K: Keeping, I: Ledger, M: Ledger, B: Ledger> KeptZone<K, I, M, B> {
-    ghost use Rattle.std.specs.Prelude.{◌≡◌, ◌+◌, ◌<◌, ◌≤◌, [], length, Some, None, IfSome, IfNone, OnSome};
+    ghost use Rattle.std.specs.Prelude.{◌+◌, [], length, None, IfNone};
     ghost use Rattle.std.specs.VecDeque.{deque_capacity};
-    ghost use Rattle.zone_core.specs.Seats.{seat_begun};
     ghost use Rattle.round_core.specs.Kept.{LockInvariant};
     ghost use Rattle.round_core.specs.Counts.{CountsBack};
     ghost use Rattle.round_core.specs.Scanning.{HasBegun, HasIsolated};
