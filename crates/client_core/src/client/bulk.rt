@@ -54,7 +54,7 @@ impl<J: Telling, T: Receipts> Client<J, T> {
             address,
             from,
         };
-        all_once_there(
+        retry_bulk_while_moving(
             rt,
             shared,
             &call,
@@ -92,7 +92,7 @@ impl<J: Telling, T: Receipts> Client<J, T> {
             from,
             values,
         };
-        all_once_there(
+        retry_bulk_while_moving(
             rt,
             shared,
             &call,
@@ -230,7 +230,15 @@ impl Bulk for Write<'_> {
 
 /// Makes a call under the lock of a zone. While its page is moving, it waits until a move has ended and makes the call again. The
 /// receipts of an accepted call are added, and written on the client's slip too.
-fn all_once_there<C: Bulk, T: Receipts, K: Keeping, I: Ledger, M: Ledger, B: Ledger, R: Wait>(
+fn retry_bulk_while_moving<
+    C: Bulk,
+    T: Receipts,
+    K: Keeping,
+    I: Ledger,
+    M: Ledger,
+    B: Ledger,
+    R: Wait,
+>(
     rt: &R,
     shared: &KeptZone<K, I, M, B>,
     call: &C,
@@ -249,7 +257,7 @@ fn all_once_there<C: Bulk, T: Receipts, K: Keeping, I: Ledger, M: Ledger, B: Led
 {
     let mut room = shared.lock(rt);
     for _ in rt.forever() {
-        match make_all::<C, T, K, I, M, B>(call, &mut room, words, slip, receipts) {
+        match make_bulk_kept::<C, T, K, I, M, B>(call, &mut room, words, slip, receipts) {
             Err(ZoneError::Moving) => room = room.wait_for_end(rt),
             answer => return answer,
         }
@@ -258,7 +266,7 @@ fn all_once_there<C: Bulk, T: Receipts, K: Keeping, I: Ledger, M: Ledger, B: Led
 }
 
 /// Makes a call while the lock of a zone is held. The receipts of an accepted call are added, and written on the client's slip too.
-fn make_all<C: Bulk, T: Receipts, K: Keeping, I: Ledger, M: Ledger, B: Ledger>(
+fn make_bulk_kept<C: Bulk, T: Receipts, K: Keeping, I: Ledger, M: Ledger, B: Ledger>(
     call: &C,
     room: &mut Room<K, I, M, B>,
     words: &mut [u64],

@@ -7,12 +7,12 @@ use Rattle.client_core.proofs.client.Client.read.Goals as goal
 pub invariant_of-self-2 : goal.invariant_of-self-2
 invariant_of-self-2 g c =
     let client = c.self.inside in
-    let made = c.in_ok-all_once_there.ensures in
-    holds_all g.J.Telling.pair g.J.Telling.before (records_each (Load client.number c.args.address) c.args.from c.all_once_there.new.words)
-    client.slip c.all_once_there.new.slip (g.T.Receipts.items client.receipts) (g.T.Receipts.items c.all_once_there.new.receipts)
+    let made = c.in_ok-retry_bulk_while_moving.ensures in
+    holds_all g.J.Telling.pair g.J.Telling.before (records_each (Load client.number c.args.address) c.args.from c.retry_bulk_while_moving.new.words)
+    client.slip c.retry_bulk_while_moving.new.slip (g.T.Receipts.items client.receipts) (g.T.Receipts.items c.retry_bulk_while_moving.new.receipts)
     c.self.invariant made.slip (search rules)
 
 pub returns-clause-accepted : goal.returns-clause-accepted
 returns-clause-accepted g c =
     let is : c.self.inside.number ≡ c.args.self.now.number = search rules in
-    rw (← is) c.in_ok-all_once_there.ensures.accepted
+    rw (← is) c.in_ok-retry_bulk_while_moving.ensures.accepted

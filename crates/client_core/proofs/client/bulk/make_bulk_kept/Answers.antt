@@ -3,7 +3,7 @@ use Rattle.frame_core.specs.Access.{access_record}
 use Rattle.hand_core.specs.Told.{pair_of}
 use Rattle.client_core.specs.Bulk.{records_each}
 use Rattle.client_core.proofs.ManyCalls.{kept_by}
-use Rattle.client_core.proofs.client.bulk.make_all.Goals as goal
+use Rattle.client_core.proofs.client.bulk.make_bulk_kept.Goals as goal
 
 pub invariant_of-room-2 : goal.invariant_of-room-2
 invariant_of-room-2 g c =

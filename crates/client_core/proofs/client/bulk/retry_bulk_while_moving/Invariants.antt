@@ -1,5 +1,5 @@
 use Rattle.std.proofs.Common.{◌≡◌}
-use Rattle.client_core.proofs.client.bulk.all_once_there.Given as goal
+use Rattle.client_core.proofs.client.bulk.retry_bulk_while_moving.Given as goal
 
 -- each call before was refused
 abbrev pub invariant-loop : goal.invariant-loop

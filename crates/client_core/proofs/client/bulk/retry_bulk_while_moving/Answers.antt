@@ -4,11 +4,11 @@ use Rattle.state_core.specs.Bulk.{bulk_refusal}
 use Rattle.state_core.specs.ZoneState.{ZoneState}
 use Rattle.client_core.specs.Calls.{IsAccepted, IsRefused}
 use Rattle.client_core.proofs.Calls.{accepted, refused}
-use Rattle.client_core.proofs.client.bulk.all_once_there.Goals as goal
+use Rattle.client_core.proofs.client.bulk.retry_bulk_while_moving.Goals as goal
 
 pub returns-in_default-clause-accepted : goal.returns-in_default-clause-accepted
 returns-in_default-clause-accepted g c =
-    let made = c.make_all in
+    let made = c.make_bulk_kept in
     let call = c.args.call.now in
     let refusal = λ (words : List ℕ) (zone : ZoneState). bulk_refusal zone (g.C.Bulk.access call).address (g.C.Bulk.from call) (length (g.C.Bulk.values call words)) in
     let leaves = g.C.Bulk.leaves c.args.call.now in
@@ -19,7 +19,7 @@ returns-in_default-clause-accepted g c =
 
 pub returns-in_default-clause-refused : goal.returns-in_default-clause-refused
 returns-in_default-clause-refused g c =
-    let made = c.make_all in
+    let made = c.make_bulk_kept in
     let call = c.args.call.now in
     let refusal = λ (words : List ℕ) (zone : ZoneState). bulk_refusal zone (g.C.Bulk.access call).address (g.C.Bulk.from call) (length (g.C.Bulk.values call words)) in
     let is = subst (λ (words : List ℕ). IfErr made.result (IsRefused (refusal words))) c.loop.invariant.words
