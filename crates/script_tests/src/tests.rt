@@ -42,17 +42,18 @@ struct Outcome {
 impl Outcome {
     /// Compares it with what is wanted. A failure tells the run, and the number of bytes that was tried.
     fn assert_is(&self, rt: &impl Abort, wanted: Wanted<'_>, run: &str, bytes: usize) {
-        assert_eq!(rt;
-            self.replies.as_slice(),
-            wanted.replies,
-            "{run}, {bytes} bytes"
+        assert!(rt;
+            self.replies.as_slice() == wanted.replies,
+            "{run}, {bytes} bytes: other replies"
         );
-        assert_eq!(rt;
-            self.faults.as_slice(),
-            wanted.faults,
-            "{run}, {bytes} bytes"
+        assert!(rt;
+            self.faults.as_slice() == wanted.faults,
+            "{run}, {bytes} bytes: another fault"
         );
-        assert_eq!(rt; self.status, wanted.status, "{run}, {bytes} bytes");
+        assert!(rt;
+            self.status == wanted.status,
+            "{run}, {bytes} bytes: another status"
+        );
     }
 }
 

@@ -135,7 +135,7 @@ impl<
         self.keeps(rt, scene.before);
         let watch = Watch::by(scene.plan);
         let (clients, counts) = run_beside(rt, &self.shared, &mut self.seats, &watch, scene);
-        assert_eq!(rt; counts, scene.counts);
+        assert!(rt; counts == scene.counts);
         watch.assert_let_go(rt);
         let keeper = [self.keeper.try_clone().expect(rt, "memory")];
         assert!(rt; self.settled(rt, &clients) == Ok(()));

@@ -128,6 +128,14 @@ impl Watch {
         self.came.fetch_add(1, Ordering::SeqCst).saturating_add(1)
     }
 
+    /// Holds the first thread that came to a point.
+    fn hold_first(&self, until: Until) {
+        self.come();
+        self.hold(until);
+        let isolated = self.told.count(Point::Isolated);
+        self.ahead.store(isolated, Ordering::SeqCst);
+    }
+
     /// Holds a copier with its first page.
     fn hold_in_turn(&self, who: usize, copiers: u64, pages: u64) {
         let came = self.come();
@@ -153,7 +161,7 @@ impl Watch {
             Plan::HoldsFirstCopier(_) => self.taken.numbers()[0],
             Plan::HoldsAllButTheLast(copiers, _) => copiers,
         };
-        assert_eq!(rt; self.came.load(Ordering::SeqCst), wanted);
+        assert!(rt; self.came.load(Ordering::SeqCst) == wanted);
         assert!(rt; self.held_in_vain.load(Ordering::SeqCst) == 0);
     }
 }
@@ -180,10 +188,7 @@ impl Gate for Watch {
         };
         match self.plan {
             Plan::HoldsFirst(held, until) if point == held && before == 0 => {
-                self.come();
-                self.hold(until);
-                let isolated = self.told.count(Point::Isolated);
-                self.ahead.store(isolated, Ordering::SeqCst);
+                self.hold_first(until)
             }
             Plan::HoldsFirstCopier(until) if point == Point::Taken && who == 1 => {
                 self.come();

@@ -1,7 +1,7 @@
 use super::calls::{Answer, Call};
 use super::opening::Opening;
 use super::{Trial, tries};
-use huge_core::Stop;
+use huge_core::{Report, Stop};
 use round_core::{NoGate, RoundError, ZoneIdentity};
 use std::process::Abort;
 use std::sync::Wait;
@@ -105,6 +105,22 @@ const CASES: [Case; 9] = [
     },
 ];
 
+impl Case {
+    /// The report has the blocks of the case, and tells as many rounds and the same reason.
+    fn assert_reported(&self, rt: &impl Abort, report: &Report) {
+        assert!(rt; report.got.len() == self.got.len(), "{}", self.name);
+        for (block, frame) in report.got.iter().zip(self.got) {
+            assert!(rt;
+                matches!(block, Some(huge) if huge.frame().get() == *frame),
+                "{}",
+                self.name
+            );
+        }
+        assert!(rt; report.rounds == self.ran, "{}", self.name);
+        assert!(rt; report.stop == self.stop, "{}", self.name);
+    }
+}
+
 impl<
     K: ZoneIdentity + Send + Sync,
     I: Ledger + Send + Sync,
@@ -127,16 +143,7 @@ impl<
             self.seats.ends.split()
         };
         let report = self.reserved(rt, 2, 8, case.rounds, case.order, case.n, &NoGate);
-        assert_eq!(rt; report.got.len(), case.got.len(), "{}", case.name);
-        for (block, frame) in report.got.iter().zip(case.got) {
-            assert!(rt;
-                matches!(block, Some(huge) if huge.frame().get() == *frame),
-                "{}",
-                case.name
-            );
-        }
-        assert_eq!(rt; report.rounds, case.ran, "{}", case.name);
-        assert_eq!(rt; report.stop, case.stop, "{}", case.name);
+        case.assert_reported(rt, &report);
         assert!(rt; part.is_none() == case.is_whole);
     }
 }

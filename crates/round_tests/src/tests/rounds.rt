@@ -16,6 +16,22 @@ impl<
     M: Ledger + Send + Sync,
     B: Ledger + Send + Sync,
 > Opening<K, I, N, M, B> {
+    /// Stores its number to a word of each page of the lower half.
+    fn stores_each<R: Wait + Abort>(&mut self, rt: &R) {
+        for number in 0..512 {
+            let stored = u64::from(number);
+            self.keeps(rt, &[(Call::Store(number, 7, stored), Answer::Done)]);
+        }
+    }
+
+    /// Loads these words, which are the numbers.
+    fn loads_each<R: Wait + Abort>(&mut self, rt: &R) {
+        for number in 0..512 {
+            let stored = u64::from(number);
+            self.keeps(rt, &[(Call::Load(number, 7), Answer::Value(stored))]);
+        }
+    }
+
     /// The pages of the lower half move up with their words, and a second round moves nothing.
     pub fn moves_the_lower_half<R: Threads + Wait + Abort + AllocGlobal + Sync>(
         &mut self,
@@ -23,21 +39,11 @@ impl<
         copiers: usize,
     ) {
         self.fill(rt, 512);
-        for number in 0..512 {
-            self.keeps(
-                rt,
-                &[(Call::Store(number, 7, u64::from(number)), Answer::Done)],
-            );
-        }
+        self.stores_each(rt);
         let round = tried_round(rt, &self.shared, &mut self.seats, copiers, 3, &NoGate);
         assert!(rt; counts_of(rt, &round) == (512, 512, 0));
         assert!(rt; matches!(&round, Ok(round) if round.stopped == Stop::Met));
-        for number in 0..512 {
-            self.keeps(
-                rt,
-                &[(Call::Load(number, 7), Answer::Value(u64::from(number)))],
-            );
-        }
+        self.loads_each(rt);
         let round = tried_round(rt, &self.shared, &mut self.seats, copiers, 3, &NoGate);
         assert!(rt; counts_of(rt, &round) == (0, 0, 0));
         let (info, _records) = self.told(rt);

@@ -2,7 +2,8 @@
 
 use super::fakes::Pieces;
 use super::played;
-use script_core::{Options, Sink, Source, Totals, run, run_text};
+use script_core::{Options, RunError, Sink, Source, Totals, run, run_text};
+use std::process::Abort;
 
 const OPTIONS: Options = Options {
     copiers: 2,
@@ -62,38 +63,23 @@ fn lines_of(text: &str) -> u64 {
     text.bytes().filter(|byte| *byte == b'\n').count() as u64
 }
 
+/// What was written on one thread, and what the run ended with, is what the row says.
+fn assert_alone(rt: &impl Abort, row: &Row, sink: Sink<Vec<u8>>, ended: Result<Totals, RunError>) {
+    let replies = sink.into_inner();
+    assert!(rt; replies.as_slice() == row.alone.as_bytes(), "{}", row.name);
+    let totals = Totals {
+        lines: lines_of(row.script),
+        replies: lines_of(row.alone),
+    };
+    assert!(rt; ended == Ok(totals), "{}", row.name);
+}
+
 #[test]
-fn pools_without_a_round(rt: HostRuntime) {
+fn answers_on_one_thread(rt: HostRuntime) {
     for row in ROWS.iter() {
         let mut sink = Sink::new(Vec::new(rt.alloc()));
         let ended = run_text(rt.alloc(), row.script.as_bytes(), &mut sink, OPTIONS);
-        let replies = sink.into_inner();
-        assert_eq!(rt; replies.as_slice(), row.alone.as_bytes(), "{}", row.name);
-        let totals = Totals {
-            lines: lines_of(row.script),
-            replies: lines_of(row.alone),
-        };
-        assert_eq!(rt; ended, Ok(totals), "{}", row.name);
-    }
-}
-
-#[test]
-fn pools_where_there_are_threads(rt: HostRuntime) {
-    for row in ROWS.iter() {
-        let found = played(&rt, &[], row.script.as_bytes());
-        assert_eq!(rt;
-            found.replies.as_slice(),
-            row.on_threads.as_bytes(),
-            "{}",
-            row.name
-        );
-        assert_eq!(rt; found.status, 0, "{}", row.name);
-    }
-}
-
-#[test]
-fn reads_a_script_on_one_thread(rt: HostRuntime) {
-    for row in ROWS.iter() {
+        assert_alone(&rt, row, sink, ended);
         let mut source = Source::new(Pieces {
             rest: row.script.as_bytes(),
             size: 7,
@@ -101,8 +87,19 @@ fn reads_a_script_on_one_thread(rt: HostRuntime) {
         });
         let mut sink = Sink::new(Vec::new(rt.alloc()));
         let ended = run(rt.alloc(), &mut source, &mut sink, OPTIONS);
-        assert!(rt; ended.is_ok(), "{}", row.name);
-        let replies = sink.into_inner();
-        assert_eq!(rt; replies.as_slice(), row.alone.as_bytes(), "{}", row.name);
+        assert_alone(&rt, row, sink, ended);
+    }
+}
+
+#[test]
+fn pools_where_there_are_threads(rt: HostRuntime) {
+    for row in ROWS.iter() {
+        let found = played(&rt, &[], row.script.as_bytes());
+        assert!(rt;
+            found.replies.as_slice() == row.on_threads.as_bytes(),
+            "{}",
+            row.name
+        );
+        assert!(rt; found.status == 0, "{}", row.name);
     }
 }
