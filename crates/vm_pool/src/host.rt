@@ -4,8 +4,7 @@ ghost use Rattle.std.specs.Prelude.{◌≡◌, ◌≤◌};
 ghost use Rattle.zone_core.specs.Books.{AreFor};
 
 use crate::guest::Guest;
-use crate::small_pages::{Counted, SmallPages};
-use crate::trouble::Trouble;
+use crate::small_pages::{SmallPages, count_kept};
 use arrayvec::ArrayVec;
 use frame_core::{Order, ZoneNo};
 use huge_core::{Collector, Stop, give};
@@ -71,14 +70,14 @@ pub fn serve<
     M: Ledger + Send + Sync,
     B: Ledger + Send + Sync,
     R: Threads + Wait + Sync,
->(rt: &R, alloc: Global, rounds: u32, blanks: Blanks) -> Result<Tally, Trouble>
+>(rt: &R, alloc: Global, rounds: u32, blanks: Blanks) -> Option<Tally>
     requires rounds { rounds ≤ 16 }
     requires identity { (K.number ≡ 0) × (K.blocks ≡ 8) }
     requires blanks { AreFor blanks I.name I.parts N.name N.parts M.name M.parts B.name B.parts }
 {
-    let number = ZoneNo::new(0).ok_or(Trouble::Range)?;
+    let number = ZoneNo::new(0)?;
     let opened = Zone::<I, M, B>::open_told::<N>(alloc, number, BLOCKS, blanks);
-    let (zone, scan, ends) = opened?;
+    let (zone, scan, ends) = opened.ok()?;
     let mut host = Host::<K, I, N, M, B> {
         shared: SharedZone::new(zone),
         seats: Seats { scan, ends },
@@ -88,13 +87,13 @@ pub fn serve<
             rounds,
             order: Order::of_pageblock(),
         },
-        pages: SmallPages::new()?,
+        pages: SmallPages::new(),
         guests: ArrayVec::new(),
         draws: Pcg32::new(2, 7),
         turns: 0,
         tally: Tally::default(),
     };
-    host.pass_days(rt, alloc)
+    Some(host.pass_days(rt, alloc))
 }
 
 impl<
@@ -105,40 +104,35 @@ impl<
     B: Ledger + Send + Sync,
 > Host<K, I, N, M, B> {
     /// Passes all days. At the end no guest is left.
-    fn pass_days<R: Threads + Wait + Sync>(
-        &mut self,
-        rt: &R,
-        alloc: Global,
-    ) -> Result<Tally, Trouble> {
+    fn pass_days<R: Threads + Wait + Sync>(&mut self, rt: &R, alloc: Global) -> Tally {
         for _day in 0..DAYS {
-            self.pass_day(rt, alloc)?;
+            self.pass_day(rt, alloc);
         }
         for guest in self.guests.take() {
-            self.let_go(rt, guest)?;
+            self.let_go(rt, guest);
         }
-        let Counted { pages, kept } = self.pages.count_kept(rt, &self.shared)?;
-        Ok(Tally {
+        let (pages, kept) = count_kept(rt, &self.shared);
+        Tally {
             calls: self.pages.calls(),
             pages,
             kept,
             ..self.tally
-        })
+        }
     }
 
     /// Fragments the zone, and lets the guests of a day come and go.
-    fn pass_day<R: Threads + Wait + Sync>(&mut self, rt: &R, alloc: Global) -> Result<(), Trouble> {
-        self.pages.churn(rt, &self.shared, 3000)?;
+    fn pass_day<R: Threads + Wait + Sync>(&mut self, rt: &R, alloc: Global) {
+        self.pages.churn(rt, &self.shared, 3000);
         for _guest in 0..GUESTS {
-            self.pages.churn(rt, &self.shared, 200)?;
-            self.let_leave(rt)?;
-            self.receive(rt, alloc)?;
+            self.pages.churn(rt, &self.shared, 200);
+            self.let_leave(rt);
+            self.receive(rt, alloc);
             self.turns = self.turns.saturating_add(1);
         }
-        Ok(())
     }
 
     /// Reserves the blocks of a guest, which fills them. One that gets fewer than it wants goes without.
-    fn receive<R: Threads + Wait + Sync>(&mut self, rt: &R, alloc: Global) -> Result<(), Trouble> {
+    fn receive<R: Threads + Wait + Sync>(&mut self, rt: &R, alloc: Global) {
         let (size, stays) = (1 + self.draws.next_u32() % 4, 1 + self.draws.next_u32() % 4);
         let report = self.collector.reserve(
             rt,
@@ -161,41 +155,38 @@ impl<
         self.tally.served = self.tally.served.saturating_add(1);
         let written = guest.fill(rt, &self.shared);
         self.tally.written = self.tally.written.saturating_add(written);
-        self.keep(rt, guest)
+        self.keep(rt, guest);
     }
 
     /// Each guest whose turn it is leaves.
-    fn let_leave<R: Wait>(&mut self, rt: &R) -> Result<(), Trouble> {
+    fn let_leave<R: Wait>(&mut self, rt: &R) {
         for guest in self.guests.take() {
             if guest.leaves <= self.turns {
-                self.let_go(rt, guest)?;
+                self.let_go(rt, guest);
             } else {
-                self.keep(rt, guest)?;
+                self.keep(rt, guest);
             }
         }
-        Ok(())
     }
 
     /// Lets a guest stay, where there is a place for it.
-    fn keep<R: Wait>(&mut self, rt: &R, guest: Guest) -> Result<(), Trouble> {
-        match self.guests.try_push(guest) {
-            Ok(()) => Ok(()),
-            Err(full) => self.let_go(rt, full.element()),
+    fn keep<R: Wait>(&mut self, rt: &R, guest: Guest) {
+        if let Err(full) = self.guests.try_push(guest) {
+            self.let_go(rt, full.element());
         }
     }
 
     /// Lets a guest see whether its words are there, and takes its blocks back.
-    fn let_go<R: Wait>(&mut self, rt: &R, guest: Guest) -> Result<(), Trouble> {
+    fn let_go<R: Wait>(&mut self, rt: &R, guest: Guest) {
         let right = guest.count_right(rt, &self.shared);
         self.tally.right = self.tally.right.saturating_add(right);
-        self.take_back(rt, guest)
+        self.take_back(rt, guest);
     }
 
     /// Gives the blocks of a guest back to the zone.
-    fn take_back<R: Wait>(&self, rt: &R, guest: Guest) -> Result<(), Trouble> {
+    fn take_back<R: Wait>(&self, rt: &R, guest: Guest) {
         for huge in guest.blocks.into_iter().flatten() {
-            give(rt, &self.shared, huge).map_err(|(refused, _huge)| refused)?;
+            let _ = give(rt, &self.shared, huge);
         }
-        Ok(())
     }
 }

@@ -7,7 +7,6 @@ ghost use Rattle.std.specs.Prelude.{◌≤◌};
 mod guest;
 mod host;
 mod small_pages;
-mod trouble;
 
 use host::{Tally, serve};
 use std::alloc::Global;
@@ -15,7 +14,6 @@ use std::io;
 use std::marker::Brand;
 use std::sync::Wait;
 use std::thread::Threads;
-use trouble::Trouble;
 use zone_core::Blanks;
 
 fn main(rt: HostRuntime) -> io::Result<()> {
@@ -24,13 +22,16 @@ fn main(rt: HostRuntime) -> io::Result<()> {
 }
 
 /// What comes of the guests where the collector may run so many rounds for each.
-fn tally<R: Threads + Wait + Sync>(rt: &R, alloc: Global, rounds: u32) -> Result<Tally, Trouble>
+fn tally<R: Threads + Wait + Sync>(rt: &R, alloc: Global, rounds: u32) -> Option<Tally>
     requires { rounds ≤ 16 }
 {
     serve::<Brand, Brand, Brand, Brand, Brand, R>(rt, alloc, rounds, Blanks::new())
 }
 
-fn show<R: Print>(rt: &R, how: &str, tally: Result<Tally, Trouble>) -> io::Result<()> {
+fn show<R: Print>(rt: &R, how: &str, tally: Option<Tally>) -> io::Result<()> {
+    let Some(tally) = tally else {
+        return println!(rt; "{how}: no memory");
+    };
     let Tally {
         guests,
         served,
@@ -40,10 +41,7 @@ fn show<R: Print>(rt: &R, how: &str, tally: Result<Tally, Trouble>) -> io::Resul
         calls,
         pages,
         kept,
-    } = match tally {
-        Ok(tally) => tally,
-        Err(trouble) => return println!(rt; "{how}: failed: {trouble}"),
-    };
+    } = tally;
     println!(rt; "{how}: {served} of {guests} guests got their huge pages, {rounds} rounds")?;
     println!(rt;
         "{how}: {right} of {written} words of huge pages were there when their guests left"

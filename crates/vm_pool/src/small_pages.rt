@@ -1,6 +1,5 @@
 //! The small pages of a host, which stand between its huge ones.
 
-use crate::trouble::Trouble;
 use bitflags::Flags;
 use frame_core::{Address, ClientNo, PageFlags, SpaceNo, VPage, WordNo};
 use rand_core::Rng;
@@ -15,34 +14,18 @@ const VPAGES: u32 = 4096;
 /// Small pages that are mapped one after the other, each at the next virtual page, and most of which are unmapped soon.
 #[derive(Drop)]
 pub struct SmallPages {
-    client: ClientNo,
-    space: SpaceNo,
-    /// The word of a page in which a number is stored.
-    word: WordNo,
     draws: Pcg32,
     next: u32,
     calls: u32,
 }
 
-/// What is counted of small pages.
-#[derive(Clone, Copy)]
-pub struct Counted {
-    /// Those that are mapped.
-    pub pages: u32,
-    /// Those of them that hold what was stored in them.
-    pub kept: u32,
-}
-
 impl SmallPages {
-    pub fn new() -> Result<Self, Trouble> {
-        Ok(SmallPages {
-            client: ClientNo::new(0).ok_or(Trouble::Range)?,
-            space: SpaceNo::new(0).ok_or(Trouble::Range)?,
-            word: WordNo::new(0).ok_or(Trouble::Range)?,
+    pub fn new() -> Self {
+        SmallPages {
             draws: Pcg32::new(1, 5),
             next: 0,
             calls: 0,
-        })
+        }
     }
 
     /// How many calls of the zone were made.
@@ -56,119 +39,89 @@ impl SmallPages {
         rt: &R,
         shared: &SharedZone<K, I, M, B>,
         count: u32,
-    ) -> Result<(), Trouble> {
-        self.map_all(rt, shared, count)?;
-        self.thin(rt, shared, count)?;
-        self.next = self.next.saturating_add(count) % VPAGES;
-        Ok(())
-    }
-
-    /// Maps the next pages.
-    fn map_all<K: ZoneIdentity, I: Ledger, M: Ledger, B: Ledger, R: Wait>(
-        &mut self,
-        rt: &R,
-        shared: &SharedZone<K, I, M, B>,
-        count: u32,
-    ) -> Result<(), Trouble> {
+    ) {
+        let first = self.next;
         for page in 0..count {
-            let address = self.address(self.next.saturating_add(page))?;
-            self.map(rt, shared, address)?;
+            let mapped = map(rt, shared, first.saturating_add(page) % VPAGES);
+            self.count(1 + u32::from(mapped.is_some()));
         }
-        Ok(())
-    }
-
-    /// Unmaps all of the next pages but about one in sixteen.
-    fn thin<K: ZoneIdentity, I: Ledger, M: Ledger, B: Ledger, R: Wait>(
-        &mut self,
-        rt: &R,
-        shared: &SharedZone<K, I, M, B>,
-        count: u32,
-    ) -> Result<(), Trouble> {
         for page in 0..count {
             if self.draws.next_u32() % 16 != 0 {
-                let address = self.address(self.next.saturating_add(page))?;
-                self.unmap(rt, shared, address);
+                let _ = unmap(rt, shared, first.saturating_add(page) % VPAGES);
+                self.count(1);
             }
         }
-        Ok(())
+        self.next = first.saturating_add(count) % VPAGES;
     }
 
-    /// How many pages there are, and how many of them hold what was stored in them.
-    pub fn count_kept<K: ZoneIdentity, I: Ledger, M: Ledger, B: Ledger, R: Wait>(
-        &self,
-        rt: &R,
-        shared: &SharedZone<K, I, M, B>,
-    ) -> Result<Counted, Trouble> {
-        let (mut pages, mut kept) = (0u32, 0u32);
-        for page in 0..VPAGES {
-            let address = self.address(page)?;
-            if let Some(value) = self.load(rt, shared, address) {
-                pages = pages.saturating_add(1);
-                kept = kept.saturating_add(u32::from(value == stored_at(address)));
-            }
-        }
-        Ok(Counted { pages, kept })
-    }
-
-    /// Maps a fresh page at an address, and stores a number in it. An address that names a page is left alone, and so is each address
-    /// where no frame is free.
-    fn map<K: ZoneIdentity, I: Ledger, M: Ledger, B: Ledger, R: Wait>(
-        &mut self,
-        rt: &R,
-        shared: &SharedZone<K, I, M, B>,
-        address: Address,
-    ) -> Result<(), Trouble> {
-        let mut room = shared.lock(rt);
-        self.count();
-        let mapped = room.zone.map(self.client, address, PageFlags::empty());
-        if mapped.is_err() {
-            return Ok(());
-        }
-        self.count();
-        room.zone
-            .store(self.client, address, self.word, stored_at(address))?;
-        Ok(())
-    }
-
-    /// Unmaps an address. One that names no page is left alone.
-    fn unmap<K: ZoneIdentity, I: Ledger, M: Ledger, B: Ledger, R: Wait>(
-        &mut self,
-        rt: &R,
-        shared: &SharedZone<K, I, M, B>,
-        address: Address,
-    ) {
-        self.count();
-        let _ = shared.lock(rt).zone.unmap(self.client, address);
-    }
-
-    /// What is stored in the page of an address, if it is mapped.
-    fn load<K: ZoneIdentity, I: Ledger, M: Ledger, B: Ledger, R: Wait>(
-        &self,
-        rt: &R,
-        shared: &SharedZone<K, I, M, B>,
-        address: Address,
-    ) -> Option<u64> {
-        shared
-            .lock(rt)
-            .zone
-            .load(self.client, address, self.word)
-            .ok()
-    }
-
-    /// The address of a page: after the last virtual page comes the first.
-    fn address(&self, page: u32) -> Result<Address, Trouble> {
-        Ok(Address {
-            space: self.space,
-            vpage: VPage::new(page % VPAGES).ok_or(Trouble::Range)?,
-        })
-    }
-
-    fn count(&mut self) {
-        self.calls = self.calls.saturating_add(1);
+    fn count(&mut self, calls: u32) {
+        self.calls = self.calls.saturating_add(calls);
     }
 }
 
-/// What is stored in the page of an address.
-fn stored_at(address: Address) -> u64 {
-    u64::from(address.vpage.get()) + 1
+/// How many pages there are, and how many of them hold what was stored in them.
+pub fn count_kept<K: ZoneIdentity, I: Ledger, M: Ledger, B: Ledger, R: Wait>(
+    rt: &R,
+    shared: &SharedZone<K, I, M, B>,
+) -> (u32, u32) {
+    let (mut pages, mut kept) = (0u32, 0u32);
+    for page in 0..VPAGES {
+        if let Some(value) = load(rt, shared, page) {
+            pages = pages.saturating_add(1);
+            kept = kept.saturating_add(u32::from(value == stored_in(page)));
+        }
+    }
+    (pages, kept)
+}
+
+/// What is stored in a page.
+fn stored_in(page: u32) -> u64 {
+    u64::from(page) + 1
+}
+
+/// Maps a fresh page at a virtual page, and stores its number there. A virtual page that is mapped is left alone.
+fn map<K: ZoneIdentity, I: Ledger, M: Ledger, B: Ledger, R: Wait>(
+    rt: &R,
+    shared: &SharedZone<K, I, M, B>,
+    page: u32,
+) -> Option<()> {
+    let (client, address, word) = (host()?, address(page)?, first_word()?);
+    let mut room = shared.lock(rt);
+    let _frame = room.zone.map(client, address, PageFlags::empty()).ok()?;
+    room.zone.store(client, address, word, stored_in(page)).ok()
+}
+
+/// Lets a virtual page name no page any more.
+fn unmap<K: ZoneIdentity, I: Ledger, M: Ledger, B: Ledger, R: Wait>(
+    rt: &R,
+    shared: &SharedZone<K, I, M, B>,
+    page: u32,
+) -> Option<()> {
+    let (client, address) = (host()?, address(page)?);
+    shared.lock(rt).zone.unmap(client, address).ok()
+}
+
+/// What is stored in a virtual page, if it is mapped.
+fn load<K: ZoneIdentity, I: Ledger, M: Ledger, B: Ledger, R: Wait>(
+    rt: &R,
+    shared: &SharedZone<K, I, M, B>,
+    page: u32,
+) -> Option<u64> {
+    let (client, address, word) = (host()?, address(page)?, first_word()?);
+    shared.lock(rt).zone.load(client, address, word).ok()
+}
+
+fn host() -> Option<ClientNo> {
+    ClientNo::new(0)
+}
+
+fn first_word() -> Option<WordNo> {
+    WordNo::new(0)
+}
+
+fn address(page: u32) -> Option<Address> {
+    Some(Address {
+        space: SpaceNo::new(0)?,
+        vpage: VPage::new(page)?,
+    })
 }
