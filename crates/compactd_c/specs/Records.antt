@@ -22,7 +22,7 @@ of_client kind client address number other value = record {
   value = value;
 }
 
--- a record of nobody's call on an address
+-- a record that names no client and no address
 abbrev pub of_zone : ℕ → ℕ → ℕ → Noted
 of_zone kind number other = record { kind = kind; client = 0; space = 0; vpage = 0; number = number; other = other; value = 0 }
 
