@@ -21,7 +21,7 @@ use Rattle.text_core.specs.declared.pool.PoolBlocks.{PoolBlocks}
 use Rattle.text_core.specs.declared.pool.PoolBlocks.TheVariants.{Pageblocks}
 use Rattle.text_core.specs.declared.profile.Profile.TheVariants.{Untold, One as Profile1, Two}
 use Rattle.text_core.specs.Grammar.{address_of, blocks_of, call_on, command_of, compacting, hand_of, opening, pageblock_of, pooling, row_of, row_of_profile_2, series_on, zone_call_on, zone_of, during_row, row_in}
-use Rattle.text_core.specs.Line.{command_in, said_or_fault, is_skipped, lexemes_say, line_of}
+use Rattle.text_core.specs.Line.{command_in, said_or_fault, is_comment, lexemes_say, line_of}
 use Rattle.text_core.specs.Profile.{is_profile_2}
 use Rattle.text_core.specs.Token.{lexemes, token_of}
 
@@ -153,7 +153,8 @@ or_skipped_alike words true = (refl, refl, λ e. cc)
 or_skipped_alike words false = or_faults_alike (command_in Profile1 words) (command_in Untold words) (command_in Two words) (alike_words words)
 
 lexemes_alike : (words : List (List ℕ)) → SayAlike (lexemes_say Profile1 words) (lexemes_say Untold words) (lexemes_say Two words)
-lexemes_alike words = or_skipped_alike words (is_skipped words)
+lexemes_alike [] = (refl, refl, λ e. cc)
+lexemes_alike (first ∷ more) = or_skipped_alike (first ∷ more) (is_comment first)
 
 pub lines_alike : (line : List ℕ) → SayAlike (line_of Profile1 line) (line_of Untold line) (line_of Two line)
 lines_alike line = by_test (nat_lt 200 (length line)) where

@@ -23,7 +23,7 @@ use Rattle.text_core.specs.declared.error.ScriptError.TheVariants.{LongLine}
 use Rattle.text_core.specs.declared.profile.Profile.{Profile}
 use Rattle.text_core.specs.declared.profile.Profile.TheVariants.{Untold, One as Profile1, Two}
 use Rattle.text_core.specs.Grammar.{address_of, blocks_of, call_on, zone_call_on, command_of, compacting, frame_of, give_order_call, hand_of, load_call, map_at_call, map_call, opening, order_of, own_row, pageblock_of, pooling, row_in, row_of, row_of_profile_2, series_on, share_call, store_call, word_of, zone_of, during_row}
-use Rattle.text_core.specs.Line.{command_in, said_or_fault, is_skipped, lexemes_say, line_of}
+use Rattle.text_core.specs.Line.{command_in, said_or_fault, is_comment, lexemes_say, line_of}
 use Rattle.text_core.specs.Pool.{pool_order}
 use Rattle.text_core.specs.Profile.{is_profile_2}
 use Rattle.text_core.specs.Token.{lexemes, token_of}
@@ -198,10 +198,11 @@ or_fault_ranged (Some c) r = r
 or_fault_ranged None r = tt
 
 words_ranged : (profile : Profile) (words : List (List ℕ)) → SaysInRange (lexemes_say profile words)
-words_ranged profile words = by_test (is_skipped words) where
-  by_test : (b : Bool) → SaysInRange (if b then Ok None else said_or_fault (command_in profile words))
+words_ranged profile [] = tt
+words_ranged profile (first ∷ more) = by_test (is_comment first) where
+  by_test : (b : Bool) → SaysInRange (if b then Ok None else said_or_fault (command_in profile (first ∷ more)))
   by_test true = tt
-  by_test false = or_fault_ranged (command_in profile words) (command_in_ranged profile words)
+  by_test false = or_fault_ranged (command_in profile (first ∷ more)) (command_in_ranged profile (first ∷ more))
 
 pub line_ranged : (profile : Profile) (line : List ℕ) → SaysInRange (line_of profile line)
 line_ranged profile line = by_test (nat_lt 200 (length line)) where

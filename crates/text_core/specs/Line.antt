@@ -1,5 +1,5 @@
 -- What a line says.
-use Rattle.std.specs.Prelude.{ℕ, List, [], ◌∷◌, map, Bool, true, length, nat_eq, nat_lt, codes, Option, Some, None, Result, Ok, Err, if◌then◌else◌}
+use Rattle.std.specs.Prelude.{ℕ, List, [], ◌∷◌, map, Bool, length, nat_eq, nat_lt, codes, Option, Some, None, Result, Ok, Err, if◌then◌else◌}
 use Rattle.std.specs.List.{starts_with}
 use Rattle.text_core.specs.declared.command.BlockLine.{BlockLine}
 use Rattle.text_core.specs.declared.command.Command.{Command}
@@ -12,10 +12,9 @@ use Rattle.text_core.specs.Grammar.{block_line_of, command_of}
 use Rattle.text_core.specs.Profile.{is_profile_2}
 use Rattle.text_core.specs.Token.{lexemes, token_of}
 
--- whether a line with these words is skipped: it has none, or it is a comment, whose first word begins with `#`
-abbrev pub is_skipped : List (List ℕ) → Bool
-is_skipped [] = true
-is_skipped (first ∷ more) = starts_with nat_eq first (codes "#")
+-- whether a line whose first word this is is a comment: the word begins with `#`
+abbrev pub is_comment : List ℕ → Bool
+is_comment lexeme = starts_with nat_eq lexeme (codes "#")
 
 -- the command that the words of a line are, if they are one; they may be `profile 2` where no line has decided the profile yet
 abbrev pub command_in : Profile → List (List ℕ) → Option Command
@@ -27,9 +26,10 @@ abbrev pub said_or_fault : {A : Type 0} → Option A → Result (Option A) Scrip
 said_or_fault None = Err Syntax
 said_or_fault (Some said) = Ok (Some said)
 
--- what the words of a line say
+-- what the words of a line say: nothing where there are none, or where the line is a comment
 abbrev pub lexemes_say : Profile → List (List ℕ) → Result (Option Command) ScriptError
-lexemes_say profile lexemes = if is_skipped lexemes then Ok None else said_or_fault (command_in profile lexemes)
+lexemes_say profile [] = Ok None
+lexemes_say profile (first ∷ more) = if is_comment first then Ok None else said_or_fault (command_in profile (first ∷ more))
 
 -- what a line says; a line of more than 200 bytes is a fault, whatever they are
 abbrev pub line_of : Profile → List ℕ → Result (Option Command) ScriptError
@@ -37,7 +37,8 @@ line_of profile line = if nat_lt 200 (length line) then Err LongLine else lexeme
 
 -- what the words of a line say in a block for the zone with this number
 abbrev pub block_lexemes_say : ℕ → List (List ℕ) → Result (Option BlockLine) ScriptError
-block_lexemes_say zone lexemes = if is_skipped lexemes then Ok None else said_or_fault (block_line_of zone (map token_of lexemes))
+block_lexemes_say zone [] = Ok None
+block_lexemes_say zone (first ∷ more) = if is_comment first then Ok None else said_or_fault (block_line_of zone (map token_of (first ∷ more)))
 
 -- what a line says in a block for the zone with this number
 abbrev pub line_within : ℕ → List ℕ → Result (Option BlockLine) ScriptError

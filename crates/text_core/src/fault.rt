@@ -43,13 +43,6 @@ impl Fault {
             Fault::Memory => 48,
         }
     }
-
-    /// The error that this fault is at a line.
-    pub(crate) fn at(self, line: u64) -> RunError
-        ensures { result ≡ record { fault = self; line = line } }
-    {
-        RunError { fault: self, line }
-    }
 }
 
 /// Why a run ended, and at which line. Lines count from 1. For Read it is the line that was being read, for Write the one whose reply

@@ -1,6 +1,6 @@
-ghost use Rattle.std.specs.Prelude.{◌≡◌, IfErr, IfNone, IfOk, IfSome, IsFalse, IsTrue, OnOk, length, nat_lt};
+ghost use Rattle.std.specs.Prelude.{◌≡◌, length, nat_lt};
 ghost use Rattle.text_core.specs.Token.{lexemes};
-ghost use Rattle.text_core.specs.Line.{command_in, is_skipped, line_of, line_within};
+ghost use Rattle.text_core.specs.Line.{command_in, line_of, line_within};
 ghost use Rattle.text_core.specs.Profile.{is_profile_2};
 
 use crate::command::{BlockLine, Command};
@@ -13,13 +13,17 @@ use crate::token::{first_lexeme, is_word, without_spaces};
 fn is_profile_2(text: &[u8]) -> bool
     ensures { result ≡ is_profile_2 (lexemes text.now) }
 {
-    let Some((keyword, after)) = first_lexeme(text) else {
-        return false;
-    };
-    let Some((number, rest)) = first_lexeme(after) else {
-        return false;
-    };
-    is_word(keyword, b"profile") && is_word(number, b"2") && first_lexeme(rest).is_none()
+    match first_lexeme(text) {
+        Some((keyword, after)) => match first_lexeme(after) {
+            Some((number, rest)) => {
+                is_word(keyword, b"profile")
+                    && is_word(number, b"2")
+                    && first_lexeme(rest).is_none()
+            }
+            None => false,
+        },
+        None => false,
+    }
 }
 
 /// The command that a line is, if it is one.
@@ -32,21 +36,11 @@ fn command(profile: Profile, text: &[u8]) -> Option<Command>
     grammar::command(profile, text)
 }
 
-/// A line from its first word on; none where it is empty or a comment. Refused as LongLine where it has more than 200 bytes.
-#[inline(always)]
-fn from_first_word(line: &[u8]) -> Result<Option<&[u8]>, ScriptError>
-    ensures long { IfErr result (λ error. (error ≡ ScriptError.LongLine) × IsTrue (nat_lt 200 (length line.now))) }
-    ensures short { OnOk result (IsFalse (nat_lt 200 (length line.now))) }
-    ensures none { IfOk result (λ words. IfNone words (IsTrue (is_skipped (lexemes line.now)))) }
-    ensures some { IfOk result (λ words. IfSome words (λ text. (lexemes text.now ≡ lexemes line.now) × IsFalse (is_skipped (lexemes line.now)))) }
+/// Whether a line has more than 200 bytes.
+fn is_long(line: &[u8]) -> bool
+    ensures { result ≡ nat_lt 200 (length line.now) }
 {
-    if line.len() > 200 {
-        return Err(ScriptError::LongLine);
-    }
-    match without_spaces(line) {
-        [] | [b'#', ..] => Ok(None),
-        text => Ok(Some(text)),
-    }
+    line.len() > 200
 }
 
 /// The command that a line is, or begins, where it is read by this profile; none where the line is empty or a comment.
@@ -56,10 +50,13 @@ fn from_first_word(line: &[u8]) -> Result<Option<&[u8]>, ScriptError>
 pub fn read_line(profile: Profile, line: &[u8]) -> Result<Option<Command>, ScriptError>
     ensures { result ≡ line_of profile line.now }
 {
-    let Some(text) = from_first_word(line)? else {
-        return Ok(None);
-    };
-    command(profile, text).map(Some).ok_or(ScriptError::Syntax)
+    if is_long(line) {
+        return Err(ScriptError::LongLine);
+    }
+    match without_spaces(line) {
+        [] | [b'#', ..] => Ok(None),
+        text => command(profile, text).map(Some).ok_or(ScriptError::Syntax),
+    }
 }
 
 /// What a line says in a block for the zone with this number; none where the line is empty or a comment.
@@ -68,10 +65,13 @@ pub fn read_line(profile: Profile, line: &[u8]) -> Result<Option<Command>, Scrip
 pub fn read_block_line(zone: u64, line: &[u8]) -> Result<Option<BlockLine>, ScriptError>
     ensures { result ≡ line_within zone line.now }
 {
-    let Some(text) = from_first_word(line)? else {
-        return Ok(None);
-    };
-    grammar::block_line(zone, text)
-        .map(Some)
-        .ok_or(ScriptError::Syntax)
+    if is_long(line) {
+        return Err(ScriptError::LongLine);
+    }
+    match without_spaces(line) {
+        [] | [b'#', ..] => Ok(None),
+        text => grammar::block_line(zone, text)
+            .map(Some)
+            .ok_or(ScriptError::Syntax),
+    }
 }

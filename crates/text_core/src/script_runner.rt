@@ -105,7 +105,10 @@ impl<A: Respond> ScriptRunner<A> {
                     command => self.answer(writer, command),
                 }
             }
-            Err(error) => Err(Fault::from(error).at(line)),
+            Err(error) => Err(RunError {
+                fault: Fault::from(error),
+                line,
+            }),
         }
     }
 
@@ -119,10 +122,12 @@ impl<A: Respond> ScriptRunner<A> {
         ensures err { IfErr result (λ error. error ≡ record { fault = Fault.Memory; line = self.old.line }) }
     {
         let line = self.line;
-        let block = self
-            .blocks
-            .begin(line, zone)
-            .map_err(|_| Fault::Memory.at(line))?;
+        let Ok(block) = self.blocks.begin(line, zone) else {
+            return Err(RunError {
+                fault: Fault::Memory,
+                line,
+            });
+        };
         self.block = Some(block);
         self.line = line + 1;
         Ok(())
@@ -151,7 +156,10 @@ impl<A: Respond> ScriptRunner<A> {
                 self.line = line + 1;
                 Ok(())
             }
-            Err(error) => Err(Fault::from(error).at(line)),
+            Err(error) => Err(RunError {
+                fault: Fault::from(error),
+                line,
+            }),
         }
     }
 
@@ -165,7 +173,10 @@ impl<A: Respond> ScriptRunner<A> {
     {
         let line = self.line;
         if block.is_full() {
-            return Err(Fault::Syntax.at(line));
+            return Err(RunError {
+                fault: Fault::Syntax,
+                line,
+            });
         }
         block.push(ClientLine::new(line, call));
         self.block = Some(block);
@@ -184,11 +195,17 @@ impl<A: Respond> ScriptRunner<A> {
         let line = self.line;
         let mut reply = Reply::Done;
         let Ok(()) = self.machine.respond(command, &mut reply) else {
-            return Err(Fault::Memory.at(line));
+            return Err(RunError {
+                fault: Fault::Memory,
+                line,
+            });
         };
         self.line = line + 1;
         if let Err(line) = self.post(writer, line, &reply) {
-            return Err(Fault::Write.at(line));
+            return Err(RunError {
+                fault: Fault::Write,
+                line,
+            });
         }
         Ok(())
     }
@@ -203,11 +220,17 @@ impl<A: Respond> ScriptRunner<A> {
     {
         let line = block.line();
         let Ok(answers) = self.machine.respond_to_block(block) else {
-            return Err(Fault::Memory.at(line));
+            return Err(RunError {
+                fault: Fault::Memory,
+                line,
+            });
         };
         self.line += 1;
         if let Err(line) = self.post_all(writer, answers) {
-            return Err(Fault::Write.at(line));
+            return Err(RunError {
+                fault: Fault::Write,
+                line,
+            });
         }
         Ok(())
     }
@@ -273,7 +296,10 @@ impl<A: Respond> ScriptRunner<A> {
         ensures fault { IfErr result (λ error. error.fault ≡ Fault.LongLine) }
     {
         if self.held.remaining_capacity() < text.len() {
-            return Err(Fault::LongLine.at(self.line));
+            return Err(RunError {
+                fault: Fault::LongLine,
+                line: self.line,
+            });
         }
         let _ = self.held.try_extend_from_slice(text);
         Ok(())
@@ -347,7 +373,10 @@ impl<A: Respond> ScriptRunner<A> {
     fn read_error(&self) -> RunError
         ensures { result ≡ record { fault = Fault.Read; line = self.now.line } }
     {
-        Fault::Read.at(self.line)
+        RunError {
+            fault: Fault::Read,
+            line: self.line,
+        }
     }
 
     /// What the end of the input is: the end of the script, or a fault where a line is cut off or a block isn't ended.
@@ -361,7 +390,10 @@ impl<A: Respond> ScriptRunner<A> {
         ensures syntax { IfErr result (λ error. error.fault ≡ Fault.Syntax) }
     {
         if let Some(line) = self.cut_line() {
-            return Err(Fault::Syntax.at(line));
+            return Err(RunError {
+                fault: Fault::Syntax,
+                line,
+            });
         }
         Ok(Totals {
             lines: self.line - 1,
@@ -391,9 +423,10 @@ impl<A: Respond> ScriptRunner<A> {
         ensures write { IfErr result (λ error. error.fault ≡ Fault.Write) }
         ensures stuck { OnErr result (IsTrue (W.stuck writer.new)) }
     {
-        self.outbox
-            .flush(writer)
-            .map_err(|line| Fault::Write.at(line))
+        self.outbox.flush(writer).map_err(|line| RunError {
+            fault: Fault::Write,
+            line,
+        })
     }
 }
 

@@ -7,12 +7,12 @@ use Rattle.text_core.proofs.script_runner.ScriptRunner.answer.Goals as goal
 pub returns-in_default-clause-reads : goal.returns-in_default-clause-reads
 returns-in_default-clause-reads g c =
     let begins = ap (λ (s : ScriptRunner _). s.held) c.self.view_is ∙ c.requires.begins in
-    rw (c.at.ensures, ← c.self.view_is) (read_lacking g.A.Respond.may g.A.Respond.asks (command_of_line c.self.inside.line c.args.command) _ _ begins _ c.self.inside.line refl refl c.in_default.ensures.memory)
+    rw (← c.self.view_is) (read_lacking g.A.Respond.may g.A.Respond.asks (command_of_line c.self.inside.line c.args.command) _ _ begins _ c.self.inside.line refl refl c.in_default.ensures.memory)
 
 pub returns-in-Err-clause-reads : goal.returns-in-Err-clause-reads
 returns-in-Err-clause-reads g c =
     let begins = ap (λ (s : ScriptRunner _). s.held) c.self.view_is ∙ c.requires.begins in
-    rw (c.at-in-Err.ensures, ← c.self.view_is) (read_stopped g.A.Respond.may g.A.Respond.asks (command_of_line c.self.inside.line c.args.command) _ _ begins
+    rw (← c.self.view_is) (read_stopped g.A.Respond.may g.A.Respond.asks (command_of_line c.self.inside.line c.args.command) _ _ begins
     (record { line = c.self.inside.line; reply = c.respond.new.reply } ∷ []) c.respond.new.self c.post.new.self _ c.in-Err.line (c.in-Ok.ensures.ok c.self.inside.line) c.in-Err.ensures.err)
 
 pub returns-clause-reads : goal.returns-clause-reads

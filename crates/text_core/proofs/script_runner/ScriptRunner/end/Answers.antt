@@ -38,8 +38,8 @@ none_of None other = refl
 none_of (Some n) other = absurd (other n refl)
 
 pub returns-in-Some-clause-err : goal.returns-in-Some-clause-err
-returns-in-Some-clause-err g c = λ start input first now read. rw c.at.ensures
-    (cut_finishes g.A.Respond.may start c.args.self.now input first now read c.cut_line.result c.cut_line.ensures.held c.cut_line.ensures.block (Some c.in-Some.line) c.in-Some.is)
+returns-in-Some-clause-err g c = λ start input first now read.
+    cut_finishes g.A.Respond.may start c.args.self.now input first now read c.cut_line.result c.cut_line.ensures.held c.cut_line.ensures.block (Some c.in-Some.line) c.in-Some.is
 
 pub returns-clause-ok : goal.returns-clause-ok
 unfolding cut_finishes

@@ -6,4 +6,4 @@ pub returns-then-remaining_capacity-text-clause-reads : goal.returns-then-remain
 returns-then-remaining_capacity-text-clause-reads g c =
     let held = c.self.inside.held.items in
     let long : 200 < length (held ++ c.args.text.now) = omega (arith, c.remaining_capacity.ensures, length-append held c.args.text.now) in
-    λ now. rw (c.at.ensures, ← c.self.view_is) (read_long g.A.Respond.may g.A.Respond.asks _ c.args.text.now now c.requires long)
+    λ now. rw (← c.self.view_is) (read_long g.A.Respond.may g.A.Respond.asks _ c.args.text.now now c.requires long)

@@ -37,7 +37,7 @@ returns-in-Err-clause-reads g c =
     let begins = ap (λ (s : ScriptRunner _). s.held) c.self.view_is ∙ c.requires.begins in
     let outside = ap (λ (s : ScriptRunner _). s.reading.block) c.self.view_is ∙ c.requires.outside in
     let here = outside-line q c.self.inside.line c.args.text.now outside ∙ ap (comes_outside q.profile c.self.inside.line) (sym c.in-Err.ensures) in
-    rw (c.at.ensures, ← c.self.view_is) (read_wrong g.A.Respond.may g.A.Respond.asks _ c.args.text.now _ begins _ c.in-Err.error c.from.result refl c.from.ensures here)
+    rw (← c.self.view_is) (read_wrong g.A.Respond.may g.A.Respond.asks _ c.args.text.now _ begins _ c.in-Err.error c.from.result refl c.from.ensures here)
 
 pub returns-in-Ok-None-clause-reads : goal.returns-in-Ok-None-clause-reads
 returns-in-Ok-None-clause-reads g c =

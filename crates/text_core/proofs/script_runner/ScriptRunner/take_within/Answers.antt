@@ -76,4 +76,4 @@ returns-in-Err-clause-reads g c =
     let text = c.args.text.now in
     let begins = ap (λ (s : ScriptRunner _). s.held) c.self.view_is ∙ c.requires.begins in
     let says : line_within block.zone text ≡ Err c.in-Err.error = ap (λ (z : ℕ). line_within z text) (sym c.zone.ensures) ∙ sym c.in-Err.ensures in
-    rw (c.at.ensures, ← c.self.view_is) (read_wrong g.A.Respond.may g.A.Respond.asks _ text _ begins _ c.in-Err.error c.from.result refl c.from.ensures (ap (comes_within c.self.inside.profile block c.self.inside.line) says))
+    rw (← c.self.view_is) (read_wrong g.A.Respond.may g.A.Respond.asks _ text _ begins _ c.in-Err.error c.from.result refl c.from.ensures (ap (comes_within c.self.inside.profile block c.self.inside.line) says))
