@@ -5,6 +5,8 @@ use Rattle.std.specs.FinMap as map
 use Rattle.std.specs.FinSet as set
 use Rattle.std.proofs.lemmas.Bool.{eq-eqb, eqb-true, and_parts}
 use Rattle.std.proofs.lemmas.Option.{cond_some, same_Some}
+use Rattle.frame_core.specs.declared.place.Address.{Address}
+use Rattle.frame_core.specs.History.{page_at}
 use Rattle.frame_core.proofs.Searches.{some_one}
 use Rattle.frame_core.specs.PageFlags.{page_flags}
 use Rattle.frame_core.specs.declared.state.FrameState.{FrameState}
@@ -93,6 +95,10 @@ note_seen {W} {z} {v} view sound {page} used {note} at =
       placement_in : Option PageNote → Option Placement
       placement_in None = None
       placement_in (Some note) = note.placement
+
+-- a page that an address names is in use
+pub named_in_use : {W : ℕ} {z : Inside W} {v : ZoneState} → state_of z ≡ v → IsSound z (state_of z) → (address : Address) (page : ℕ) → page_at v.records address ≡ Some page → IsSome (map.get v.placement page)
+named_in_use view invariant address page named = ((is_sound view invariant).valid.agrees.named address page named).1
 
 -- a page in use is noted as such, also in a changed note that leaves it where it is
 pub use_seen : {W : ℕ} (z : Inside W) {v : ZoneState} → state_of z ≡ v → (page : ℕ) → IsSome (map.get v.placement page) → is_in_use z.notes page ≡ true

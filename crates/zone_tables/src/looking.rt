@@ -38,7 +38,6 @@ impl<const W: usize> ZoneTables<W> {
     pub fn uses_at(&self, address: &Address) -> Uses
         requires { IsSome (page_at self.now.records address.now) }
         ensures named { page_at self.now.records address.now ≡ Some result.page }
-        ensures in_use { IsSome (map.get self.now.placement result.page) }
         ensures pins { result.pins ≡ pins_at self.now address.now }
         ensures maps { result.maps ≡ maps_at self.now address.now }
     {

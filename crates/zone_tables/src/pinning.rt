@@ -1,7 +1,6 @@
 //! Pinning pages, moving ones too.
 
-ghost use Rattle.std.specs.Prelude.{◌≡◌, ◌<◌, ℕ, true, Some, IsSome, IsTrue};
-ghost use Rattle.std.specs.FinMap as map;
+ghost use Rattle.std.specs.Prelude.{◌≡◌, ◌<◌, ℕ, true, Some, IsTrue};
 ghost use Rattle.scan_core.specs.Frames.{holds_at};
 ghost use Rattle.frame_core.specs.History.{page_at};
 ghost use Rattle.state_core.specs.Valid.{IsValidZone};
@@ -21,7 +20,6 @@ impl<const W: usize> ZoneTables<W> {
     pub fn pin(&mut self, client: ClientNo, address: Address, page: PageNo)
         requires room { IsTrue (has_room self.old) }
         requires named { page_at self.old.records address ≡ Some page }
-        requires in_use { IsSome (map.get self.old.placement page) }
         requires few { pins_at self.old address < 255 }
         ensures step { self.new ≡ pinned self.old client address }
         ensures valid { IsValidZone self.new }
@@ -36,7 +34,6 @@ impl<const W: usize> ZoneTables<W> {
     pub fn unpin(&mut self, client: ClientNo, address: Address, page: PageNo)
         requires room { IsTrue (has_room self.old) }
         requires named { page_at self.old.records address ≡ Some page }
-        requires in_use { IsSome (map.get self.old.placement page) }
         requires some { 0 < pins_at self.old address }
         ensures step { self.new ≡ unpinned self.old client address }
         ensures valid { IsValidZone self.new }

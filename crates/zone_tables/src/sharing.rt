@@ -1,7 +1,6 @@
 //! A second address for a page.
 
-ghost use Rattle.std.specs.Prelude.{◌≡◌, ◌<◌, None, Some, IsSome, IsTrue};
-ghost use Rattle.std.specs.FinMap as map;
+ghost use Rattle.std.specs.Prelude.{◌≡◌, ◌<◌, None, Some, IsTrue};
 ghost use Rattle.frame_core.specs.History.{page_at};
 ghost use Rattle.state_core.specs.Valid.{IsValidZone};
 ghost use Rattle.state_core.specs.Sharing.{maps_at, shared};
@@ -23,7 +22,6 @@ impl<const W: usize> ZoneTables<W> {
     )
         requires room { IsTrue (has_room self.old) }
         requires named { page_at self.old.records address ≡ Some page }
-        requires in_use { IsSome (map.get self.old.placement page) }
         requires frame { placement_at self.old address ≡ Some (At frame) }
         requires vacant { page_at self.old.records alias ≡ None }
         requires few { maps_at self.old address < 4 }

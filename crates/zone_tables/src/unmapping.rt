@@ -1,6 +1,6 @@
 //! Taking an address from a page. With its last address the page goes out of use.
 
-ghost use Rattle.std.specs.Prelude.{◌≡◌, ◌≢◌, ℕ, Some, IsSome, IsTrue};
+ghost use Rattle.std.specs.Prelude.{◌≡◌, ◌≢◌, ℕ, Some, IsTrue};
 ghost use Rattle.std.specs.FinMap as map;
 ghost use Rattle.frame_core.specs.History.{page_at, maps};
 ghost use Rattle.frame_core.specs.declared.record.Record.TheVariants.{Unmap};
@@ -17,7 +17,6 @@ impl<const W: usize> ZoneTables<W> {
     pub fn unmap(&mut self, client: ClientNo, address: Address, page: PageNo, frame: FrameNo)
         requires room { IsTrue (has_room self.old) }
         requires named { page_at self.old.records address ≡ Some page }
-        requires in_use { IsSome (map.get self.old.placement page) }
         requires frame { placement_at self.old address ≡ Some (At frame) }
         ensures step { self.new ≡ unmapped self.old client address }
         ensures valid { IsValidZone self.new }

@@ -9,25 +9,25 @@ use Rattle.scan_core.specs.Frames.{is_holding_state}
 use Rattle.zone_tables.proofs.Facts.{held_by, is_sound}
 use Rattle.zone_tables.proofs.Noting.{Noting, noting_holds}
 use Rattle.zone_tables.proofs.Pinned.{pinning}
-use Rattle.zone_tables.proofs.Tables.{note_seen, use_seen, note_stays}
+use Rattle.zone_tables.proofs.Tables.{named_in_use, note_seen, use_seen, note_stays}
 use Rattle.zone_tables.proofs.zone.ZoneTables.pin.Given.{Over}
 use Rattle.zone_tables.proofs.zone.ZoneTables.pin.Goals as goal
 use Rattle.zone_tables.proofs.zone.ZoneTables.pin.Goals.{After-note}
 
 pub with_pin-note-requires : goal.with_pin-note-requires
 with_pin-note-requires g c =
-    let seen = note_seen c.self.view_is (is_sound c.self.view_is c.self.invariant) c.requires.in_use c.get.ensures in
+    let seen = note_seen c.self.view_is (is_sound c.self.view_is c.self.invariant) (named_in_use c.self.view_is c.self.invariant c.args.address c.args.page c.requires.named) c.get.ensures in
     omega (arith, c.requires.few, ap (λ (o : Option ℕ). pins c.args.self.now.records (unwrap_or o 0)) c.requires.named, seen.fits.pins)
 
 pub say_movable-requires : goal.say_movable-requires
 say_movable-requires g c frame at =
     let sound = is_sound c.self.view_is c.self.invariant in
-    let seen = note_seen c.self.view_is sound c.requires.in_use c.get.ensures in
+    let seen = note_seen c.self.view_is sound (named_in_use c.self.view_is c.self.invariant c.args.address c.args.page c.requires.named) c.get.ensures in
     ap is_holding_state (held_by c.self.inside.frames.states c.args.self.now sound.frames c.args.page frame (sym seen.placement ∙ sym (ap (λ (n : PageNote). n.placement) c.with_pin-note.ensures) ∙ at))
 
 known : {g : Over} (c : After-note g) → Noting c.self.inside c.args.self.now c.args.page (Pin c.args.client c.args.address) c.get.result (record c.get.result { pins = c.get.result.pins + 1 }) c.say_movable.new.frames c.self.inside.tables c.note.new.self
 known c =
-    pinning c.self.inside c.args.self.now (is_sound c.self.view_is c.self.invariant) c.self.view_is c.args.page c.requires.in_use c.get.result c.get.ensures
+    pinning c.self.inside c.args.self.now (is_sound c.self.view_is c.self.invariant) c.self.view_is c.args.page (named_in_use c.self.view_is c.self.invariant c.args.address c.args.page c.requires.named) c.get.result c.get.ensures
     c.args.client c.args.address c.requires.named (spare c.args.self.now c.requires.room) c.say_movable.new.frames c.note.new.self
     (omega (arith, c.requires.few, ap (λ (o : Option ℕ). pins c.args.self.now.records (unwrap_or o 0)) c.requires.named))
     (c.say_movable.ensures ∙ ap (λ (n : PageNote). record c.self.inside.frames { movable = movable_by c.self.inside.frames.movable n }) c.with_pin-note.ensures)
@@ -43,7 +43,7 @@ pub returns-clause-valid : goal.returns-clause-valid
 returns-clause-valid g c = (invariant_of-self g c).valid
 
 pub revise-requires-clause-used : goal.revise-requires-clause-used
-revise-requires-clause-used g c = use_seen c.self.inside c.self.view_is c.args.page c.requires.in_use
+revise-requires-clause-used g c = use_seen c.self.inside c.self.view_is c.args.page (named_in_use c.self.view_is c.self.invariant c.args.address c.args.page c.requires.named)
 
 pub revise-requires-clause-stays : goal.revise-requires-clause-stays
-revise-requires-clause-stays g c = note_stays c.self.view_is c.self.invariant c.args.page c.requires.in_use c.get.ensures c.with_pin-note.result (ap (λ (n : PageNote). n.placement) c.with_pin-note.ensures)
+revise-requires-clause-stays g c = note_stays c.self.view_is c.self.invariant c.args.page (named_in_use c.self.view_is c.self.invariant c.args.address c.args.page c.requires.named) c.get.ensures c.with_pin-note.result (ap (λ (n : PageNote). n.placement) c.with_pin-note.ensures)

@@ -9,7 +9,7 @@ use Rattle.zone_tables.proofs.Facts.{is_sound}
 use Rattle.zone_tables.proofs.ListedAddresses.{count_names, page_rests}
 use Rattle.zone_tables.proofs.Noting.{Noting, noting_holds}
 use Rattle.zone_tables.proofs.Shared.{sharing}
-use Rattle.zone_tables.proofs.Tables.{note_seen, use_seen, note_stays}
+use Rattle.zone_tables.proofs.Tables.{named_in_use, note_seen, use_seen, note_stays}
 use Rattle.zone_tables.specs.declared.note.PageNote.{PageNote}
 use Rattle.zone_tables.proofs.zone.ZoneTables.share.Given.{Over}
 use Rattle.zone_tables.proofs.zone.ZoneTables.share.Goals as goal
@@ -17,7 +17,7 @@ use Rattle.zone_tables.proofs.zone.ZoneTables.share.Goals.{After-note}
 
 pub with_address-requires : goal.with_address-requires
 with_address-requires g c =
-    let seen = note_seen c.self.view_is (is_sound c.self.view_is c.self.invariant) c.requires.in_use c.get-note.ensures in
+    let seen = note_seen c.self.view_is (is_sound c.self.view_is c.self.invariant) (named_in_use c.self.view_is c.self.invariant c.args.address c.args.page c.requires.named) c.get-note.ensures in
     omega (arith, c.requires.few, ap (λ (o : Option ℕ). maps c.args.self.now.records (unwrap_or o 0)) c.requires.named, seen.fits.maps)
 
 can : {g : Over} (c : After-note g) → CanShare c.args.self.now c.args.address c.args.alias c.args.page c.args.frame
@@ -59,10 +59,10 @@ set-requires-clause-room g c =
     omega (arith, c.requires.few, ap (λ (o : Option ℕ). maps c.args.self.now.records (unwrap_or o 0)) c.requires.named, count_names c.self.inside.tables.entries c.args.self.now sound.entries sound.valid c.args.page c.args.frame at)
 
 pub revise-requires-clause-used : goal.revise-requires-clause-used
-revise-requires-clause-used g c = use_seen c.self.inside c.self.view_is c.args.page c.requires.in_use
+revise-requires-clause-used g c = use_seen c.self.inside c.self.view_is c.args.page (named_in_use c.self.view_is c.self.invariant c.args.address c.args.page c.requires.named)
 
 pub revise-requires-clause-stays : goal.revise-requires-clause-stays
-revise-requires-clause-stays g c = note_stays c.self.view_is c.self.invariant c.args.page c.requires.in_use c.get-note.ensures c.with_address.result (ap (λ (n : PageNote). n.placement) c.with_address.ensures)
+revise-requires-clause-stays g c = note_stays c.self.view_is c.self.invariant c.args.page (named_in_use c.self.view_is c.self.invariant c.args.address c.args.page c.requires.named) c.get-note.ensures c.with_address.result (ap (λ (n : PageNote). n.placement) c.with_address.ensures)
 
 pub set-requires-clause-resting : goal.set-requires-clause-resting
 set-requires-clause-resting g c =
