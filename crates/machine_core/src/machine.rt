@@ -327,7 +327,7 @@ fn answer_series<I: Ledger, N: Ledger, M: Ledger, B: Ledger>(
     let count = count.get();
     let mut page = u128::from(first);
     for done in 0..count {
-        if let Reply::Refused(refusal) = answer_at(world, call, address(space, page)) {
+        if let Err(refusal) = answer_at(world, call, address(space, page)) {
             return Reply::DoneUntil { done, refusal };
         }
         page += u128::from(step);
@@ -335,37 +335,39 @@ fn answer_series<I: Ledger, N: Ledger, M: Ledger, B: Ledger>(
     Reply::AllDone(count)
 }
 
-/// Answers the call of a series for a page, which is refused where the space has no such page.
+/// Makes the call of a series for a page, or answers the number of its refusal. It is refused where the space has no such page.
 fn answer_at<I: Ledger, N: Ledger, M: Ledger, B: Ledger>(
     world: &mut World<I, N, M, B>,
     repeated: Repeated,
     address: Option<Address>,
-) -> Reply
-    ensures { record { reply = result; world = world.new } ≡ page_step repeated world.old address }
+) -> Result<(), u16>
+    ensures ok { OnOk result (record { reply = Reply.Done; world = world.new } ≡ page_step repeated world.old address) }
+    ensures err { IfErr result (λ refusal. record { reply = Reply.Refused refusal; world = world.new } ≡ page_step repeated world.old address) }
 {
     match address {
         Some(address) => repeat(world, repeated, address),
-        None => Refusal::OutOfRange.reply(),
+        None => Err(Refusal::OutOfRange.number()),
     }
 }
 
-/// Makes the call of a series at an address.
+/// Makes the call of a series at an address, or answers the number of its refusal.
 fn repeat<I: Ledger, N: Ledger, M: Ledger, B: Ledger>(
     world: &mut World<I, N, M, B>,
     repeated: Repeated,
     address: Address,
-) -> Reply
-    ensures { record { reply = result; world = world.new } ≡ make_step world.old (call_at repeated address) }
+) -> Result<(), u16>
+    ensures ok { OnOk result (record { reply = Reply.Done; world = world.new } ≡ make_step world.old (call_at repeated address)) }
+    ensures err { IfErr result (λ refusal. record { reply = Reply.Refused refusal; world = world.new } ≡ make_step world.old (call_at repeated address)) }
 {
     let client = script_client();
     match repeated {
         Repeated::Map => match world.map(client, address, PageFlags::of(false, false)) {
-            Ok(_) => Reply::Done,
-            Err(error) => zone_refusal(error),
+            Ok(_) => Ok(()),
+            Err(error) => Err(error.number()),
         },
         Repeated::Unmap => match world.unmap(client, address) {
-            Ok(()) => Reply::Done,
-            Err(error) => zone_refusal(error),
+            Ok(()) => Ok(()),
+            Err(error) => Err(error.number()),
         },
     }
 }

@@ -78,6 +78,7 @@ impl Tables {
     }
 
     /// Makes an address that names a frame name nothing.
+    #[inline(always)]
     pub fn clear(&mut self, address: Address)
         requires { (frame : ℕ) × (entry_at self.old.entries address ≡ Entry.Present frame) }
         ensures cleared { ChangesOnly self.old.entries self.new.entries address Entry.Absent }

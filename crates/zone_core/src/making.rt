@@ -15,6 +15,7 @@ use std::sync::ledger::Ledger;
 impl<const W: usize, I: Ledger, M: Ledger, B: Ledger> Zone<W, I, M, B> {
     /// Makes a call of a client: the method of its name does it, and may refuse it. A call that names no address is the same
     /// whichever client makes it.
+    #[inline(always)]
     pub fn make(&mut self, client: ClientNo, call: Call<W>) -> Result<ZoneAnswer, ZoneError>
         ensures refused { result_err result ≡ refusal_of call.entry self.old }
         ensures err { OnErr result (self.new ≡ self.old) }

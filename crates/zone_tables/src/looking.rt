@@ -35,6 +35,7 @@ impl<const W: usize> ZoneTables<W> {
     }
 
     /// The page of an address that is known to name one, and how it is used.
+    #[inline(always)]
     pub fn uses_at(&self, address: &Address) -> Uses
         requires { IsSome (page_at self.now.records address.now) }
         ensures named { page_at self.now.records address.now ≡ Some result.page }

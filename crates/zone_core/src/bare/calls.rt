@@ -18,6 +18,7 @@ use state_core::{ZoneAnswer, ZoneCallOf as Call, ZoneError};
 
 impl<const W: usize> BareZone<W> {
     /// Makes a call of a client, and may refuse it. A call that names no address is the same whichever client makes it.
+    #[inline(always)]
     pub fn make(&mut self, client: ClientNo, call: Call<W>) -> Result<ZoneAnswer, ZoneError>
         ensures made { IsMade call.entry client self.old self.new result }
         ensures answer { IfOk result (λ answer. answer ≡ answer_of call.entry self.old) }

@@ -1,7 +1,13 @@
-use Rattle.std.proofs.Common.{◌≡◌, ◌∙◌, ℕ, suc, ◌+◌, ◌-◌, sym, ap, arith}
+use Rattle.std.proofs.Common.{◌≡◌, ◌∙◌, ℕ, suc, ◌+◌, ◌-◌, refl, sym, ap, arith}
+use Rattle.std.specs.Prelude.{⊤, Result, Ok, Err, OnOk}
 use Rattle.machine_core.specs.Machine.{page_step, series_from}
 use Rattle.machine_core.proofs.SeriesOfCalls.{series_from-on}
 use Rattle.machine_core.proofs.machine.answer_series.Goals as goal
+
+-- a call of a series that isn't refused is accepted
+accepted : {P : Type 0} (made : Result ⊤ ℕ) → ((refusal : ℕ) → made ≡ Err refusal → ⊥) → OnOk made P → P
+accepted (Ok _) _ holds = holds
+accepted (Err refusal) none _ = absurd (none refusal refl)
 
 pub loop-done-preserved : goal.loop-done-preserved
 loop-done-preserved g c =
@@ -9,10 +15,10 @@ loop-done-preserved g c =
     let done = c.loop-done.done in
     let m = c.get-count.result - (done + 1) in
     let left : c.get-count.result - done ≡ suc m = omega (arith, c.loop-done-test.true) in
-    let told = c.answer_at.ensures ∙ ap (page_step s.call c.loop-done.world) c.address.ensures in
+    let told = accepted c.answer_at.result c.in_default.not-Err c.answer_at.ensures.ok ∙ ap (page_step s.call c.loop-done.world) c.address.ensures in
     record {
       page = omega (arith, c.loop-done.invariant.page, c.from-page-in-loop-done.ensures);
       left = ap (λ (n : ℕ). series_from s.call s.space (c.loop-done.page + n) s.step (done + 1) m c.answer_at.new.world) c.from-page-in-loop-done.ensures
-          ∙ sym (series_from-on s.call s.space c.loop-done.page s.step done _ m c.loop-done.world c.answer_at.new.world left c.answer_at.result told c.in_default.not-Refused)
+          ∙ sym (series_from-on s.call s.space c.loop-done.page s.step done _ m c.loop-done.world c.answer_at.new.world left told)
           ∙ c.loop-done.invariant.left;
     }
