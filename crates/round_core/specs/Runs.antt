@@ -36,9 +36,16 @@ pub record IsEmpty (copiers : ℕ) (j : CopierResults) : Type 0 where
 pub record IsReady (serial : ℕ) (m : Memory) : Type 0 where
   pub giver : IsFresh serial m.copier_parts.giver
   pub copier_parts : IsUnstarted m.copier_parts
-  pub copies : has_ended m.copies ≡ false
-  pub pages : (m.page_lists.pages.items ≡ []) × (0 < deque_capacity m.page_lists.pages)
+  pub copies : has_ended m.copies.taker ≡ false
+  pub pages : (m.pages.list.items ≡ []) × (0 < deque_capacity m.pages.list)
   pub joined : IsEmpty (vec_len m.copier_parts.takers) m.joined
+
+-- the threads of a round can be run with this memory, by the seats before it: a round may begin where so many pages are isolated, and
+-- the end seat has a part for the committer
+pub record CanRun (begins_at : ℕ → Type 0) (scan : ScanSeat) (ends : EndSeat) (m : Memory) : Type 0 where
+  pub memory : IsReady scan.count m
+  pub parts : 1 < ends.parts
+  pub begins : begins_at scan.count
 
 -- the takers are of the giver's hand-over, and where all copiers came to their ends the lists have the serials of the pages that they took
 pub record AreJoined (g : Giver) (j : CopierResults) : Type 0 where

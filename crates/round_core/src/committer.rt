@@ -3,12 +3,12 @@ ghost use Rattle.hand_core.specs.CopyEnds.{has_ended};
 
 use crate::gate::{COMMITTER, Gate, Point, tell_all};
 use crate::keeping::Keeping;
-use crate::memory::CopierParts;
+use crate::memory::{CopierParts, Copies};
 use crate::shared_zone::KeptZone;
 use crate::stack::stack;
-use frame_core::{Copied, Serial};
-use hand_core::{Came, DoneTaker};
-use std::collections::VecDeque;
+use crate::under_lock::commit_copies;
+use frame_core::Serial;
+use hand_core::Came;
 use std::marker::PhantomData;
 use std::sync::Wait;
 use std::sync::ledger::Ledger;
@@ -35,20 +35,20 @@ enum Following {
 fn commit_all<K: Keeping, I: Ledger, M: Ledger, B: Ledger, G: Gate, R: Wait>(
     rt: &R,
     shared: &KeptZone<K, I, M, B>,
-    mut copies: DoneTaker,
-    mut gathered: VecDeque<Copied>,
+    mut copies: Copies,
     mut seat: EndSeat<M, B>,
     gate: &G,
 ) -> Committed<M, B>
-    requires { has_ended copies ≡ false }
+    requires { has_ended copies.taker ≡ false }
     ensures parts { result.seat.parts ≡ seat.parts }
     ensures back { K.unpinned → result.seat.back ≡ seat.back }
 {
     let mut stranger = None;
     for _ in rt.forever() {
-        let following = gather(rt, &mut copies, &mut gathered);
+        let following = gather(rt, &mut copies);
+        let gathered = &mut copies.gathered;
         let count = gathered.len();
-        stranger = shared.commit_copies(rt, &mut seat, &mut gathered, stranger);
+        stranger = commit_copies(&mut shared.lock(rt), &mut seat, gathered, stranger);
         tell_all(gate, Point::Ended, COMMITTER, count);
         let whole = match following {
             Following::More => continue,
@@ -65,15 +65,16 @@ fn commit_all<K: Keeping, I: Ledger, M: Ledger, B: Ledger, G: Gate, R: Wait>(
 }
 
 /// Gathers the copies that are there, until the list is full. It waits for the first one only.
-fn gather<R: Wait>(rt: &R, copies: &mut DoneTaker, gathered: &mut VecDeque<Copied>) -> Following
-    requires { has_ended copies.old ≡ false }
-    ensures { result ≡ Following.More → has_ended copies.new ≡ false }
+fn gather<R: Wait>(rt: &R, copies: &mut Copies) -> Following
+    requires { has_ended copies.old.taker ≡ false }
+    ensures { result ≡ Following.More → has_ended copies.new.taker ≡ false }
 {
+    let Copies { taker, gathered } = copies;
     while gathered.len() < gathered.capacity() {
         let came = if gathered.is_empty() {
-            Some(copies.take(rt))
+            Some(taker.take(rt))
         } else {
-            copies.try_take(rt)
+            taker.try_take(rt)
         };
         match came {
             Some(Came::Copy(copy)) => gathered.push_back_reserved(copy),
@@ -115,13 +116,11 @@ pub(crate) fn start_committer<
     rt: &'e R,
     shared: &'e KeptZone<K, I, M, B>,
     copier_parts: CopierParts,
-    copies: DoneTaker,
-    gathered: VecDeque<Copied>,
+    copies: Copies,
     seat: EndSeat<M, B>,
     gate: &'e G,
 ) -> Result<(CopierParts, Committer<K, M, B>), EndSeat<M, B>>
-    requires copies { has_ended copies ≡ false }
-    requires part { (seat.parts ≡ 1) × (seat.back ≡ 0) }
+    requires { (has_ended copies.taker ≡ false) × (seat.parts ≡ 1) × (seat.back ≡ 0) }
     ensures copier_parts { IfOk result (λ started. started.0 ≡ copier_parts) }
     ensures part { IfErr result (λ seat. seat.parts ≡ 1) }
 {
@@ -129,10 +128,9 @@ pub(crate) fn start_committer<
         scope,
         HandsPartBack::<K> { of: PhantomData },
         move || -> Committed<M, B>
-            requires copies { has_ended copies ≡ false }
-            requires part { (seat.parts ≡ 1) × (seat.back ≡ 0) }
+            requires { (has_ended copies.taker ≡ false) × (seat.parts ≡ 1) × (seat.back ≡ 0) }
             ensures { (result.seat.parts ≡ 1) × (K.unpinned → result.seat.back ≡ 0) }
-        { commit_all(rt, shared, copies, gathered, seat, gate) },
+        { commit_all(rt, shared, copies, seat, gate) },
     );
     match started {
         Ok(committer) => Ok((copier_parts, committer)),

@@ -1,8 +1,7 @@
 ghost use Rattle.std.specs.Prelude.{◌≡◌, ◌+◌, ◌*◌, ◌<◌, ◌≤◌, ◌↔◌, true, map, Some, IsOk, IfOk, IfErr, OnOk, length};
 ghost use Rattle.round_core.specs.Counts.{AreCounted};
-ghost use Rattle.round_core.specs.Kept.{AreAllEnded};
 ghost use Rattle.round_core.specs.Rounds.{AreShared, IsRound, IsRefusedEarly, IsAfter, IsWant};
-ghost use Rattle.round_core.specs.Runs.{IsReady, AreJoined, HasRun, IsRunOrNot};
+ghost use Rattle.round_core.specs.Runs.{CanRun, AreJoined, HasRun, IsRunOrNot};
 
 use crate::crew::{RoundRun, run};
 use crate::error::RoundError;
@@ -18,7 +17,7 @@ use std::sync::Wait;
 use std::sync::ledger::Ledger;
 use std::thread;
 use std::thread::Threads;
-use zone_core::{Audit, Seats, Zone, ZoneError};
+use zone_core::{Audit, Seats};
 
 /// Moves what can be moved, with 1 to 4 copiers, over queues with room for `cap` pages and for `cap` copies, 1 to 64. Under one hold of
 /// the lock as many pages are isolated as a queue has room for, or as there are in a batch for each copier where that is more. A
@@ -55,7 +54,7 @@ pub fn compact<
 {
     let before = audit(rt, shared, seats)?;
     let serials = 256 * shared.blocks() as usize;
-    let Some(memory) = reserve(rt, alloc, before.isolated, copiers, serials, cap) else {
+    let Ok(memory) = reserve(rt, alloc, before.isolated, copiers, serials, cap) else {
         return Err(RoundError::Memory);
     };
     let Some(ran) = in_scope(rt, shared, seats, memory, gate) else {
@@ -82,21 +81,6 @@ fn not_started<K: Keeping, I: Ledger, N: Ledger, M: Ledger, B: Ledger, R: Wait>(
     }
 }
 
-/// Audits the zone with its seats. Where the answer is Ok, each isolated page has ended once, and none is out.
-fn audit_zone<I: Ledger, N: Ledger, M: Ledger, B: Ledger>(
-    zone: &mut Zone<I, M, B>,
-    seats: &mut Seats<I, N, M, B>,
-) -> Result<Audit, ZoneError>
-    ensures ended { OnOk result (AreAllEnded zone.old seats.old.scan.count) }
-    ensures counts { IfOk result (AreCounted seats.old.scan seats.old.ends) }
-    ensures whole { OnOk result (seats.old.ends.parts ≡ 64) }
-    ensures exact { 64 ≤ seats.old.ends.parts → (IsOk result ↔ (seats.old.ends.moved + seats.old.ends.back ≡ seats.old.scan.count)) }
-    ensures most { 64 ≤ seats.old.ends.parts → seats.old.ends.moved + seats.old.ends.back ≤ seats.old.scan.count }
-    ensures same { (zone.new ≡ zone.old) × (seats.new.scan ≡ seats.old.scan) × (seats.new.ends ≡ seats.old.ends) }
-{
-    zone.audit(&mut seats.scan, &mut seats.ends)
-}
-
 /// Audits the zone under the lock, with its seats.
 fn audit<K: Keeping, I: Ledger, N: Ledger, M: Ledger, B: Ledger, R: Wait>(
     rt: &R,
@@ -111,7 +95,8 @@ fn audit<K: Keeping, I: Ledger, N: Ledger, M: Ledger, B: Ledger, R: Wait>(
     ensures same { (seats.new.scan ≡ seats.old.scan) × (seats.new.ends ≡ seats.old.ends) }
 {
     let mut room = shared.lock(rt);
-    audit_zone(&mut room.zone, seats).or(Err(RoundError::Broken))
+    let audit = room.zone.audit(&mut seats.scan, &mut seats.ends);
+    audit.or(Err(RoundError::Broken))
 }
 
 /// Runs the threads of a round in a scope of their own. None where one of them can't be started.
@@ -130,9 +115,7 @@ fn in_scope<
     memory: Memory,
     gate: &G,
 ) -> Option<RoundRun>
-    requires memory { IsReady seats.old.scan.count memory }
-    requires parts { 1 < seats.old.ends.parts }
-    requires begins { K.begins_at seats.old.scan.count }
+    requires { CanRun K.begins_at seats.old.scan seats.old.ends memory }
     ensures { IsRunOrNot K.stops_at K.unpinned seats.old.scan seats.new.scan seats.old.ends seats.new.ends result }
 {
     let lent = &mut *seats;
@@ -140,11 +123,8 @@ fn in_scope<
         thread::scope_env(),
         rt,
         move |scope| -> (&mut Seats<I, N, M, B>, Option<RoundRun>)
-            requires memory { IsReady lent.now.scan.count memory }
-            requires parts { 1 < lent.now.ends.parts }
-            requires begins { K.begins_at lent.now.scan.count }
-            ensures ran { IsRunOrNot K.stops_at K.unpinned lent.entry.now.scan result.0.now.scan lent.entry.now.ends result.0.now.ends result.1 }
-            ensures lent { result.0.ghost_name ≡ lent.entry.ghost_name }
+            requires { CanRun K.begins_at lent.now.scan lent.now.ends memory }
+            ensures { (result.0.ghost_name ≡ lent.entry.ghost_name) × IsRunOrNot K.stops_at K.unpinned lent.entry.now.scan result.0.now.scan lent.entry.now.ends result.0.now.ends result.1 }
         {
             let ran = run(scope, rt, shared, lent, memory, gate);
             (lent, ran)

@@ -1,5 +1,5 @@
-ghost use Rattle.std.specs.Prelude.{◌≡◌, ◌≢◌, ◌<◌, ◌++◌, ◌∷◌, [], true, false, IfSome, length, vec_len, vec_capacity};
-ghost use Rattle.round_core.specs.Copying.{IsCarried};
+ghost use Rattle.std.specs.Prelude.{◌≡◌, ◌≢◌, ◌<◌, ◌≤◌, ◌++◌, ◌∷◌, [], true, false, IfSome, length, vec_len, vec_capacity};
+ghost use Rattle.round_core.specs.Copying.{IsCarried, IsUnderWay};
 ghost use Rattle.round_core.specs.Crews.{IsUnused, IsUnsent};
 
 use crate::gate::{Gate, Point};
@@ -26,9 +26,9 @@ pub struct Carried {
 /// where it takes a page while its list is full.
 pub fn carry<G: Gate, R: Wait>(
     rt: &R,
-    mut taker: Taker,
-    mut sender: DoneSender,
-    mut serials: Vec<Serial>,
+    taker: Taker,
+    sender: DoneSender,
+    serials: Vec<Serial>,
     gate: &G,
     who: usize,
 ) -> Carried
@@ -38,28 +38,54 @@ pub fn carry<G: Gate, R: Wait>(
     ensures { IsCarried taker sender result }
 {
     let most = sender.most();
+    let mut carried = Carried {
+        taker,
+        sender,
+        serials,
+        whole: false,
+    };
     let mut copies = Batch::new();
     for _ in rt.forever() {
-        match taker.take(rt) {
-            Took::Page(page) => {
-                gate.at(Point::Taken, who);
-                if serials.len() >= serials.capacity() {
-                    return given_up(taker, sender, serials);
-                }
-                copy_page(page, &mut serials, &mut copies);
-                gate.at(Point::Copied, who);
-                if takes_another(&taker, &copies, most) {
-                    continue;
-                }
-                if sender.send_all(rt, copies.take()).is_err() {
-                    return given_up(taker, sender, serials);
-                }
-            }
-            Took::End => return at_end(rt, taker, sender, serials),
-            Took::Gone => return given_up(taker, sender, serials),
+        if !carry_next(rt, &mut carried, &mut copies, most, gate, who) {
+            return carried;
         }
     }
     unreachable!()
+}
+
+/// Takes the next page, copies it, and sends the copies unless another page is taken first. The answer is whether more may come.
+fn carry_next<G: Gate, R: Wait>(
+    rt: &R,
+    carried: &mut Carried,
+    copies: &mut Batch<Copied>,
+    most: usize,
+    gate: &G,
+    who: usize,
+) -> bool
+    requires most { (most ≡ carried.old.sender.most) × (most ≤ 8) }
+    requires way { IsUnderWay carried.old.taker carried.old.sender carried.old copies.old.items }
+    ensures more { result ≡ true → IsUnderWay carried.old.taker carried.old.sender carried.new copies.new.items }
+    ensures over { result ≡ false → IsCarried carried.old.taker carried.old.sender carried.new }
+{
+    match carried.taker.take(rt) {
+        Took::Page(page) => {
+            gate.at(Point::Taken, who);
+            if carried.serials.len() >= carried.serials.capacity() {
+                return false;
+            }
+            copy_page(page, &mut carried.serials, copies);
+            gate.at(Point::Copied, who);
+            if takes_another(&carried.taker, copies, most) {
+                return true;
+            }
+            carried.sender.send_all(rt, copies.take()).is_ok()
+        }
+        Took::End => {
+            at_end(rt, carried);
+            false
+        }
+        Took::Gone => false,
+    }
 }
 
 /// Copies a page, and notes its serial.
@@ -81,32 +107,14 @@ fn takes_another(taker: &Taker, copies: &Batch<Copied>, most: usize) -> bool
     taker.has_more() && copies.len() < most
 }
 
-/// What a copier hands back that took the end mark: it closes its sender.
-fn at_end<R: Wait>(rt: &R, taker: Taker, mut sender: DoneSender, serials: Vec<Serial>) -> Carried
-    requires { sender.closed ≡ false }
-    ensures same { (result.taker ≡ taker) × (result.serials ≡ serials) }
-    ensures closed { result.sender ≡ record sender { closed = true; marked = result.sender.marked } }
-    ensures marked { result.sender.marked ≡ result.whole }
+/// Closes the sender of a copier that took the end mark.
+fn at_end<R: Wait>(rt: &R, carried: &mut Carried)
+    requires { carried.old.sender.closed ≡ false }
+    ensures same { (carried.new.taker ≡ carried.old.taker) × (carried.new.serials ≡ carried.old.serials) }
+    ensures closed { carried.new.sender ≡ record carried.old.sender { closed = true; marked = carried.new.sender.marked } }
+    ensures marked { carried.new.sender.marked ≡ carried.new.whole }
 {
-    let whole = sender.close(rt).is_ok();
-    Carried {
-        taker,
-        sender,
-        serials,
-        whole,
-    }
-}
-
-/// What a copier hands back that didn't come to its end.
-fn given_up(taker: Taker, sender: DoneSender, serials: Vec<Serial>) -> Carried
-    ensures { result ≡ record { taker = taker; sender = sender; serials = serials; whole = false } }
-{
-    Carried {
-        taker,
-        sender,
-        serials,
-        whole: false,
-    }
+    carried.whole = carried.sender.close(rt).is_ok();
 }
 
 /// A copier hands back the taker and the sender that it was given, and what it did with them.

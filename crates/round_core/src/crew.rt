@@ -1,21 +1,19 @@
 ghost use Rattle.std.specs.Prelude.{◌≡◌, ◌+◌, ◌<◌, ◌≤◌, false, All, IfOk, IfErr, OnSome, vec_len, []};
 ghost use Rattle.std.specs.VecDeque.{deque_capacity};
 ghost use Rattle.hand_core.specs.CopyEnds.{has_ended};
-ghost use Rattle.round_core.specs.Runs.{IsFresh, IsUnstarted, IsEmpty, IsReady, AreJoined, IsRunOver, IsRunOrNot};
+ghost use Rattle.round_core.specs.Runs.{IsFresh, IsUnstarted, IsEmpty, CanRun, AreJoined, IsRunOver, IsRunOrNot};
 
 use crate::committer::{Committed, Committer, start_committer};
 use crate::copier::{Carried, Copier, start_copier};
-use crate::division::Division;
 use crate::gate::Gate;
 use crate::keeping::Keeping;
-use crate::memory::{CopierParts, CopierResults, Memory, PageLists};
+use crate::memory::{CopierParts, CopierResults, Copies, Memory, Pages};
 use crate::round::Stop;
 use crate::scanner::scan_all;
 use crate::shared_zone::KeptZone;
 use crate::under_lock::least;
-use frame_core::{Copied, Isolated, Serial};
-use hand_core::{DoneTaker, Giver};
-use std::collections::VecDeque;
+use frame_core::Serial;
+use hand_core::Giver;
 use std::sync::Wait;
 use std::sync::ledger::Ledger;
 use std::thread::{Scope, Threads};
@@ -125,14 +123,12 @@ fn start_crew<
     rt: &'e R,
     shared: &'e KeptZone<K, I, M, B>,
     copier_parts: CopierParts,
-    copies: DoneTaker,
-    gathered: VecDeque<Copied>,
+    copies: Copies,
     part: EndSeat<M, B>,
     gate: &'e G,
 ) -> Result<Crew<K, M, B>, EndSeat<M, B>>
     requires copier_parts { IsUnstarted copier_parts }
-    requires copies { has_ended copies ≡ false }
-    requires part { (part.parts ≡ 1) × (part.back ≡ 0) }
+    requires committer { (has_ended copies.taker ≡ false) × (part.parts ≡ 1) × (part.back ≡ 0) }
     ensures giver { IfOk result (λ crew. crew.giver ≡ copier_parts.giver) }
     ensures copiers { IfOk result (λ crew. (vec_len crew.copiers ≡ vec_len copier_parts.takers) × All (λ c. c.promise.taker.value.hand_over ≡ copier_parts.giver.hand_over) crew.copiers.items) }
     ensures part { IfErr result (λ part. part.parts ≡ 1) }
@@ -143,7 +139,6 @@ fn start_crew<
         shared,
         copier_parts,
         copies,
-        gathered,
         part,
         gate,
     )?;
@@ -165,14 +160,13 @@ fn run_crew<K: Keeping, I: Ledger, N: Ledger, M: Ledger, B: Ledger, G: Gate, R: 
     scan: &mut ScanSeat<I, N>,
     ends: &mut EndSeat<M, B>,
     crew: Crew<K, M, B>,
-    mut pages: VecDeque<Isolated>,
-    division: Division,
+    mut pages: Pages,
     joined: CopierResults,
     gate: &G,
 ) -> RoundRun
     requires giver { IsFresh scan.old.count crew.giver }
     requires copiers { All (λ c. c.promise.taker.value.hand_over ≡ crew.giver.hand_over) crew.copiers.items }
-    requires pages { (pages.items ≡ []) × (0 < deque_capacity pages) }
+    requires pages { (pages.list.items ≡ []) × (0 < deque_capacity pages.list) }
     requires joined { IsEmpty (vec_len crew.copiers) joined }
     requires begins { K.begins_at scan.old.count }
     ensures ran { IsRunOver K.stops_at K.unpinned scan.old scan.new ends.old ends.new result }
@@ -183,9 +177,7 @@ fn run_crew<K: Keeping, I: Ledger, N: Ledger, M: Ledger, B: Ledger, G: Gate, R: 
         copiers,
         committer,
     } = crew;
-    let scanned = scan_all(
-        rt, shared, scan, ends, &mut giver, &mut pages, division, gate,
-    );
+    let scanned = scan_all(rt, shared, scan, ends, &mut giver, &mut pages, gate);
     let _ = giver.close(rt);
     let mut joined = join_copiers(rt, &giver, copiers, joined);
     let Committed {
@@ -226,37 +218,21 @@ pub(crate) fn run<
     memory: Memory,
     gate: &'e G,
 ) -> Option<RoundRun>
-    requires memory { IsReady seats.old.scan.count memory }
-    requires parts { 1 < seats.old.ends.parts }
-    requires begins { K.begins_at seats.old.scan.count }
+    requires { CanRun K.begins_at seats.old.scan seats.old.ends memory }
     ensures { IsRunOrNot K.stops_at K.unpinned seats.old.scan seats.new.scan seats.old.ends seats.new.ends result }
 {
     let Memory {
         copier_parts,
         copies,
-        page_lists,
+        pages,
         joined,
     } = memory;
-    let PageLists {
-        division,
-        pages,
-        gathered,
-    } = page_lists;
     let Seats { scan, ends } = seats;
     let Some(part) = ends.split() else {
         unreachable!()
     };
-    match start_crew(
-        scope,
-        rt,
-        shared,
-        copier_parts,
-        copies,
-        gathered,
-        part,
-        gate,
-    ) {
-        Ok(crew) => Some(run_crew(rt, shared, scan, ends, crew, pages, division, joined, gate)),
+    match start_crew(scope, rt, shared, copier_parts, copies, part, gate) {
+        Ok(crew) => Some(run_crew(rt, shared, scan, ends, crew, pages, joined, gate)),
         Err(part) => {
             ends.join(part);
             None

@@ -1,7 +1,6 @@
 //! The memory of a round, which is taken before it begins.
 
-ghost use Rattle.std.specs.Prelude.{◌≡◌, ◌<◌, ◌≤◌, [], false, All, IfOk, IfSome, vec_len, vec_capacity};
-ghost use Rattle.std.specs.VecDeque.{deque_capacity};
+ghost use Rattle.std.specs.Prelude.{◌≡◌, ◌<◌, ◌≤◌, [], false, All, IfOk, vec_len};
 ghost use Rattle.hand_core.specs.CopyEnds.{has_ended};
 ghost use Rattle.round_core.specs.Crews.{IsUnused, IsUnsent};
 ghost use Rattle.round_core.specs.Runs.{IsFresh, IsEmpty, IsReady};
@@ -19,8 +18,8 @@ use std::collections::VecDeque;
 #[derive(Drop)]
 pub(crate) struct Memory {
     pub(crate) copier_parts: CopierParts,
-    pub(crate) copies: DoneTaker,
-    pub(crate) page_lists: PageLists,
+    pub(crate) copies: Copies,
+    pub(crate) pages: Pages,
     pub(crate) joined: CopierResults,
 }
 
@@ -36,14 +35,20 @@ pub(crate) struct CopierParts {
     pub(crate) copiers: Vec<Copier>,
 }
 
-/// Lists for what is done under one hold of the lock, and how pages are divided.
+/// The copies that come to the committer.
 #[derive(Drop)]
-pub(crate) struct PageLists {
-    pub(crate) division: Division,
-    /// The pages that are isolated under one hold.
-    pub(crate) pages: VecDeque<Isolated>,
-    /// The copies that are committed under one hold.
+pub(crate) struct Copies {
+    pub(crate) taker: DoneTaker,
+    /// Those that are committed under one hold of the lock.
     pub(crate) gathered: VecDeque<Copied>,
+}
+
+/// The pages of the scanner, and how they are divided.
+#[derive(Drop)]
+pub(crate) struct Pages {
+    pub(crate) division: Division,
+    /// Those that are isolated under one hold of the lock.
+    pub(crate) list: VecDeque<Isolated>,
 }
 
 /// What the copiers handed back.
@@ -54,25 +59,8 @@ pub(crate) struct CopierResults {
     pub(crate) whole: bool,
 }
 
-/// All ends of both queues.
-#[derive(Drop)]
-struct Queues {
-    giver: Giver,
-    takers: Takers,
-    senders: Vec<DoneSender>,
-    copies: DoneTaker,
-}
-
-/// The lists that the copiers fill.
-#[derive(Drop)]
-struct Lists {
-    serials: Vec<Vec<Serial>>,
-    copiers: Vec<Copier>,
-    joined: CopierResults,
-}
-
 /// Takes the memory of a round whose first page has the serial `base`: `cap` pages and copies in the queues, and `serials`
-/// serials in the list of each copier. None where there isn't enough.
+/// serials in the list of each copier.
 pub(crate) fn reserve<R>(
     rt: &R,
     alloc: Global,
@@ -80,56 +68,37 @@ pub(crate) fn reserve<R>(
     copiers: usize,
     serials: usize,
     cap: usize,
-) -> Option<Memory>
+) -> Result<Memory, AllocError>
     requires copiers { (0 < copiers) × (copiers ≤ 4) }
     requires cap { (0 < cap) × (cap ≤ 64) }
-    ensures { IfSome result (IsReady base) }
+    ensures { IfOk result (IsReady base) }
 {
     let division = Division::new(copiers, cap);
-    let Ok(lists) = reserve_lists(alloc, copiers, serials) else {
-        return None;
-    };
-    let Ok(page_lists) = reserve_page_lists(alloc, division) else {
-        return None;
-    };
-    let Ok(queues) = open_queues(rt, alloc, base, copiers, division) else {
-        return None;
-    };
-    let Lists {
-        serials,
-        copiers,
-        joined,
-    } = lists;
-    let Queues {
-        giver,
-        takers,
-        senders,
-        copies,
-    } = queues;
-    Some(Memory {
-        copier_parts: CopierParts {
-            giver,
-            takers,
-            senders,
-            serials,
-            copiers,
-        },
-        copies,
-        page_lists,
+    let hold = division.pages_a_hold();
+    let list = VecDeque::with_capacity(alloc, hold)?;
+    let gathered = VecDeque::with_capacity(alloc, hold)?;
+    let joined = reserve_joined(alloc, copiers)?;
+    let serials = empty_lists(alloc, copiers, serials)?;
+    let started = Vec::with_capacity(alloc, copiers)?;
+    let (copier_parts, taker) = open_queues(rt, alloc, base, division, serials, started).or(Err(
+        AllocError,
+    ))?;
+    Ok(Memory {
+        copier_parts,
+        copies: Copies { taker, gathered },
+        pages: Pages { division, list },
         joined,
     })
 }
 
-/// Takes the memory of the copiers' lists, each with room for this many serials.
-fn reserve_lists(alloc: Global, copiers: usize, serials: usize) -> Result<Lists, AllocError>
-    ensures serials { IfOk result (λ l. (vec_len l.serials ≡ copiers) × All (λ list. list.items ≡ []) l.serials.items) }
-    ensures copiers { IfOk result (λ l. (l.copiers.items ≡ []) × (copiers ≤ vec_capacity l.copiers)) }
-    ensures joined { IfOk result (λ l. IsEmpty copiers l.joined) }
+/// Takes the memory for what this many copiers hand back.
+fn reserve_joined(alloc: Global, copiers: usize) -> Result<CopierResults, AllocError>
+    ensures { IfOk result (IsEmpty copiers) }
 {
-    Ok(Lists {
-        serials: empty_lists(alloc, copiers, serials)?,
-        copiers: Vec::with_capacity(alloc, copiers)?,
-        joined: reserve_joined(alloc, copiers)?,
+    Ok(CopierResults {
+        takers: Vec::with_capacity(alloc, copiers)?,
+        lists: Vec::with_capacity(alloc, copiers)?,
+        whole: true,
     })
 }
 
@@ -148,50 +117,33 @@ fn empty_lists(
     Ok(lists)
 }
 
-/// Takes the memory for what this many copiers hand back.
-fn reserve_joined(alloc: Global, copiers: usize) -> Result<CopierResults, AllocError>
-    ensures { IfOk result (IsEmpty copiers) }
-{
-    Ok(CopierResults {
-        takers: Vec::with_capacity(alloc, copiers)?,
-        lists: Vec::with_capacity(alloc, copiers)?,
-        whole: true,
-    })
-}
-
-/// Takes the memory of the lists of pages, for this division.
-fn reserve_page_lists(alloc: Global, division: Division) -> Result<PageLists, AllocError>
-    ensures { IfOk result (λ b. (b.pages.items ≡ []) × (0 < deque_capacity b.pages)) }
-{
-    let pages = division.pages_a_hold();
-    Ok(PageLists {
-        division,
-        pages: VecDeque::with_capacity(alloc, pages)?,
-        gathered: VecDeque::with_capacity(alloc, pages)?,
-    })
-}
-
-/// Opens both queues, for batches and with room for pages and copies as this division has them.
+/// Opens both queues, for batches and with room for pages and copies as this division has them. Each copier gets one of the lists of
+/// serials, and those that are started have room in the other list.
 fn open_queues<R>(
     rt: &R,
     alloc: Global,
     base: Serial,
-    copiers: usize,
     division: Division,
-) -> Result<Queues, HandError>
-    requires { 0 < copiers }
-    ensures giver { IfOk result (λ q. IsFresh base q.giver) }
-    ensures takers { IfOk result (λ q. (vec_len q.takers ≡ copiers) × All (IsUnused q.giver.hand_over) q.takers.items) }
-    ensures senders { IfOk result (λ q. (vec_len q.senders ≡ copiers) × All IsUnsent q.senders.items) }
-    ensures copies { IfOk result (λ q. has_ended q.copies ≡ false) }
+    serials: Vec<Vec<Serial>>,
+    copiers: Vec<Copier>,
+) -> Result<(CopierParts, DoneTaker), HandError>
+    requires { 0 < vec_len serials }
+    ensures giver { IfOk result (λ opened. IsFresh base opened.0.giver) }
+    ensures takers { IfOk result (λ opened. (vec_len opened.0.takers ≡ vec_len serials) × All (IsUnused opened.0.giver.hand_over) opened.0.takers.items) }
+    ensures senders { IfOk result (λ opened. (vec_len opened.0.senders ≡ vec_len serials) × All IsUnsent opened.0.senders.items) }
+    ensures lists { IfOk result (λ opened. (opened.0.serials ≡ serials) × (opened.0.copiers ≡ copiers)) }
+    ensures copies { IfOk result (λ opened. has_ended opened.1 ≡ false) }
 {
     let Division { room, most, .. } = division;
-    let (giver, takers) = open_in_batches(rt, alloc, base, copiers, room, most)?;
-    let (senders, copies) = done_open_in_batches(rt, alloc, copiers, room, most)?;
-    Ok(Queues {
+    let many = serials.len();
+    let (giver, takers) = open_in_batches(rt, alloc, base, many, room, most)?;
+    let (senders, copies) = done_open_in_batches(rt, alloc, many, room, most)?;
+    let copier_parts = CopierParts {
         giver,
         takers,
         senders,
-        copies,
-    })
+        serials,
+        copiers,
+    };
+    Ok((copier_parts, copies))
 }

@@ -8,8 +8,10 @@ ghost use Rattle.round_core.specs.Scanning.{HasStopped};
 use crate::division::Division;
 use crate::gate::{Gate, Point, SCANNER, tell_all};
 use crate::keeping::Keeping;
+use crate::memory::Pages;
 use crate::round::Stop;
 use crate::shared_zone::KeptZone;
+use crate::under_lock::{begin_and_isolate, isolate_more, put_back_pages};
 use frame_core::{Isolated, Serial};
 use hand_core::{Batch, Giver};
 use std::collections::VecDeque;
@@ -26,12 +28,11 @@ pub(crate) fn scan_all<K: Keeping, I: Ledger, N: Ledger, M: Ledger, B: Ledger, G
     scan: &mut ScanSeat<I, N>,
     ends: &mut EndSeat<M, B>,
     giver: &mut Giver,
-    pages: &mut VecDeque<Isolated>,
-    division: Division,
+    pages: &mut Pages,
     gate: &G,
 ) -> Result<Stop, Option<Serial>>
     requires next { IsNext scan.old.count giver.old }
-    requires pages { (pages.old.items ≡ []) × (0 < deque_capacity pages.old) }
+    requires pages { (pages.old.list.items ≡ []) × (0 < deque_capacity pages.old.list) }
     requires begins { K.begins_at scan.old.count }
     ensures giver { giver.new ≡ record giver.old { given = giver.new.given } }
     ensures count { OnOk result (IsNext scan.new.count giver.new) }
@@ -42,48 +43,68 @@ pub(crate) fn scan_all<K: Keeping, I: Ledger, N: Ledger, M: Ledger, B: Ledger, G
     // Where the zone refused none, each page that was counted was given or put back.
     ensures left { result ≡ Err None → giver.new.base + length giver.new.given + ends.new.back ≡ scan.new.count + ends.old.back }
 {
-    let mut stop = shared.begin_and_isolate(rt, scan, pages);
-    for _ in rt.forever() {
-        give_all(rt, shared, ends, giver, pages, division, gate)?;
-        if let Some(stop) = stop {
-            return Ok(stop);
-        }
-        stop = shared.isolate_pages(rt, scan, pages);
+    let Pages { division, list } = pages;
+    match isolate_and_give(rt, shared, scan, giver, list, *division, gate) {
+        Some(stop) => Ok(stop),
+        None => Err(put_back_pages(&mut shared.lock(rt), ends, list)),
     }
-    unreachable!()
 }
 
-/// Gives all pages, in their order and in batches. Where the takers are gone, those that are left are put back, and the answer is an
-/// `Err`: with the least serial of those that the zone refused, if there is one.
-fn give_all<K: Keeping, I: Ledger, M: Ledger, B: Ledger, G: Gate, R: Wait>(
+/// Isolates pages and gives them, as `scan_all` does. None where the takers are gone: then the list has the pages that nobody took.
+fn isolate_and_give<K: Keeping, I: Ledger, N: Ledger, M: Ledger, B: Ledger, G: Gate, R: Wait>(
     rt: &R,
     shared: &KeptZone<K, I, M, B>,
-    ends: &mut EndSeat<M, B>,
+    scan: &mut ScanSeat<I, N>,
     giver: &mut Giver,
     pages: &mut VecDeque<Isolated>,
     division: Division,
     gate: &G,
-) -> Result<(), Option<Serial>>
+) -> Option<Stop>
+    requires next { IsNext scan.old.count giver.old }
+    requires pages { (pages.old.items ≡ []) × (0 < deque_capacity pages.old) }
+    requires begins { K.begins_at scan.old.count }
+    ensures giver { giver.new ≡ record giver.old { given = giver.new.given } }
+    ensures count { scan.new.count ≡ giver.new.base + length giver.new.given + length pages.new.items }
+    ensures pages { OnSome result (pages.new.items ≡ []) }
+    ensures stopped { IfSome result (HasStopped K.stops_at scan.new) }
+    ensures rounds { scan.new.rounds ≡ scan.old.rounds + 1 }
+{
+    let mut stop = begin_and_isolate(&mut shared.lock(rt), scan, pages);
+    for _ in rt.forever() {
+        give_all(rt, giver, pages, division, gate)?;
+        if stop.is_some() {
+            return stop;
+        }
+        stop = isolate_more(&mut shared.lock(rt), scan, pages);
+    }
+    unreachable!()
+}
+
+/// Gives all pages, in their order and in batches. None where the takers are gone: then the list has the pages that nobody took.
+fn give_all<G: Gate, R: Wait>(
+    rt: &R,
+    giver: &mut Giver,
+    pages: &mut VecDeque<Isolated>,
+    division: Division,
+    gate: &G,
+) -> Option<()>
     requires open { giver.old.closed ≡ false }
     requires serials { HasSerialsFrom (giver.old.base + length giver.old.given) pages.old.items }
     ensures giver { giver.new ≡ record giver.old { given = giver.new.given } }
-    ensures given { OnOk result (giver.new.given ≡ giver.old.given ++ pages.old.items) }
-    ensures pages { pages.new.items ≡ [] }
+    ensures given { giver.new.given ++ pages.new.items ≡ giver.old.given ++ pages.old.items }
+    ensures count { length giver.new.given + length pages.new.items ≡ length giver.old.given + length pages.old.items }
+    ensures pages { OnSome result (pages.new.items ≡ []) }
     ensures room { deque_capacity pages.new ≡ deque_capacity pages.old }
-    ensures ends { CountsBack ends.old ends.new }
-    ensures back { OnOk result (ends.new.back ≡ ends.old.back) }
-    // Where the zone refused none, each page was given or put back.
-    ensures left { result ≡ Err None → length giver.new.given + ends.new.back ≡ length giver.old.given + length pages.old.items + ends.old.back }
 {
     tell_all(gate, Point::Isolated, SCANNER, pages.len());
     let batch_len = division.batch_len(pages.len(), giver.most());
     while let Some(batch) = first_of(pages, batch_len) {
         if let Err(refused) = giver.give_all(rt, batch) {
             put_in_front(pages, refused);
-            return Err(shared.put_back_pages(rt, ends, pages));
+            return None;
         }
     }
-    Ok(())
+    Some(())
 }
 
 /// Takes `batch_len` pages off the front, or all where there are fewer. None where there are none.

@@ -1,17 +1,13 @@
 ghost use Rattle.std.specs.Prelude.{◌≡◌, ◌<◌, ◌≤◌};
 
 use crate::keeping::{Keeping, Open};
-use crate::round::Stop;
-use crate::under_lock::{begin_round, commit_copies, isolate_pages, put_back_pages};
-use frame_core::{Copied, Isolated, Serial};
 use hand_core::Stub;
 use hand_core::patience::{TRIES, pause};
-use std::collections::VecDeque;
 use std::marker::{Model, PhantomData};
 use std::ops::{Deref, DerefMut};
 use std::sync::ledger::Ledger;
 use std::sync::{Condvar, Mutex, MutexGuard, Wait};
-use zone_core::{EndSeat, ScanSeat, Zone};
+use zone_core::Zone;
 
 /// What is under the lock: a zone, and the stub of its client's receipts where they are kept. Where threads wait for the end of a move,
 /// it has how many had ended when the first of them began to wait.
@@ -140,11 +136,8 @@ impl<K: Keeping, I: Ledger, M: Ledger, B: Ledger> Drop for KeptZone<K, I, M, B> 
 pub type SharedZone<K, I, M, B> = KeptZone<Open<K>, I, M, B>;
 
 impl<K: Keeping, I: Ledger, M: Ledger, B: Ledger> KeptZone<K, I, M, B> {
-    ghost use Rattle.std.specs.Prelude.{◌+◌, [], length, None, IfNone};
-    ghost use Rattle.std.specs.VecDeque.{deque_capacity};
+    ghost use Rattle.std.specs.Prelude.{None};
     ghost use Rattle.round_core.specs.Kept.{LockInvariant};
-    ghost use Rattle.round_core.specs.Counts.{CountsBack};
-    ghost use Rattle.round_core.specs.Scanning.{HasBegun, HasIsolated};
     ghost use Rattle.zone_core.specs.ZoneIdentity.{HasIdentity};
 
     /// Puts a zone under a lock. Its number and its pageblocks are those of `K`.
@@ -227,82 +220,5 @@ impl<K: Keeping, I: Ledger, M: Ledger, B: Ledger> KeptZone<K, I, M, B> {
             pause(tries);
         }
         self.room.lock(rt)
-    }
-
-    /// Begins a round, and isolates pages into the empty list, in their order, until the list is full. Where it stops before, the
-    /// answer says why.
-    #[tactic(auto, using(crate::proofs::Begun::begun_first))]
-    pub(crate) fn begin_and_isolate<N: Ledger, R: Wait>(
-        &self,
-        rt: &R,
-        seat: &mut ScanSeat<I, N>,
-        pages: &mut VecDeque<Isolated>,
-    ) -> Option<Stop>
-        requires begins { K.begins_at seat.old.count }
-        requires pages { (pages.old.items ≡ []) × (0 < deque_capacity pages.old) }
-        ensures isolated { HasIsolated K.stops_at seat.old seat.new pages.new.items result }
-        ensures rounds { seat.new.rounds ≡ seat.old.rounds + 1 }
-        ensures goes_on { IfNone result (HasBegun K.begins_at seat.new.count) }
-        ensures room { deque_capacity pages.new ≡ deque_capacity pages.old }
-    {
-        let mut room = self.lock(rt);
-        let zone = &mut room.zone;
-        begin_round::<K, I, N, M, B>(zone, seat);
-        isolate_pages::<K, I, N, M, B>(zone, seat, pages)
-    }
-
-    /// Isolates pages into the empty list, in their order, until the list is full. Where it stops before, the answer says why.
-    #[tactic(auto, using(crate::proofs::Begun::begun_more))]
-    pub(crate) fn isolate_pages<N: Ledger, R: Wait>(
-        &self,
-        rt: &R,
-        seat: &mut ScanSeat<I, N>,
-        pages: &mut VecDeque<Isolated>,
-    ) -> Option<Stop>
-        requires goes_on { HasBegun K.begins_at seat.old.count }
-        requires pages { (pages.old.items ≡ []) × (0 < deque_capacity pages.old) }
-        ensures isolated { HasIsolated K.stops_at seat.old seat.new pages.new.items result }
-        ensures rounds { seat.new.rounds ≡ seat.old.rounds }
-        ensures goes_on { IfNone result (HasBegun K.begins_at seat.new.count) }
-        ensures room { deque_capacity pages.new ≡ deque_capacity pages.old }
-    {
-        let mut room = self.lock(rt);
-        let zone = &mut room.zone;
-        zone.show_count(seat);
-        isolate_pages::<K, I, N, M, B>(zone, seat, pages)
-    }
-
-    /// Ends the moves of pages with their copies. The answer is the least serial of those that were refused now or before, if there is
-    /// one.
-    pub(crate) fn commit_copies<R: Wait>(
-        &self,
-        rt: &R,
-        seat: &mut EndSeat<M, B>,
-        copies: &mut VecDeque<Copied>,
-        stranger: Option<Serial>,
-    ) -> Option<Serial>
-        ensures copies { copies.new.items ≡ [] }
-        ensures parts { seat.new.parts ≡ seat.old.parts }
-        ensures back { K.unpinned → seat.new.back ≡ seat.old.back }
-    {
-        let mut room = self.lock(rt);
-        commit_copies::<K, I, M, B>(&mut room.zone, seat, copies, stranger)
-    }
-
-    /// Ends the moves of pages that weren't copied, in their order. The answer is the least serial of those that were refused, if there
-    /// is one.
-    pub(crate) fn put_back_pages<R: Wait>(
-        &self,
-        rt: &R,
-        seat: &mut EndSeat<M, B>,
-        pages: &mut VecDeque<Isolated>,
-    ) -> Option<Serial>
-        ensures pages { pages.new.items ≡ [] }
-        ensures room { deque_capacity pages.new ≡ deque_capacity pages.old }
-        ensures seat { CountsBack seat.old seat.new }
-        ensures back { result ≡ None → seat.new.back ≡ seat.old.back + length pages.old.items }
-    {
-        let mut room = self.lock(rt);
-        put_back_pages::<K, I, M, B>(&mut room.zone, seat, pages)
     }
 }

@@ -1,56 +1,98 @@
-//! Steps under one hold of the lock.
+//! Steps under one hold of the lock. Each leaves what the lock keeps, as the type of what is under it says.
 
 ghost use Rattle.std.specs.Prelude.{◌≡◌, ◌⊎◌, ◌+◌, ◌<◌, ◌≤◌, [], length, Some, None, IfSome, IfNone, IfOk, IfErr, OnOk, OnErr};
 ghost use Rattle.std.specs.VecDeque.{deque_capacity};
-ghost use Rattle.frame_core.specs.Moves.{isolated};
-ghost use Rattle.state_core.specs.Valid.{IsValidZone};
 ghost use Rattle.zone_core.specs.Seats.{seat_begun};
 ghost use Rattle.state_core.specs.Ending.{put_back_to_source};
 ghost use Rattle.round_core.specs.Counts.{CountsBack};
-ghost use Rattle.round_core.specs.Kept.{LeavesKept};
 ghost use Rattle.round_core.specs.PuttingBack.{all_put_back};
-ghost use Rattle.round_core.specs.Scanning.{HasIsolated, HasStopped};
+ghost use Rattle.round_core.specs.Scanning.{HasBegun, HasIsolated, HasStopped};
 
 use crate::keeping::Keeping;
 use crate::round::Stop;
+use crate::shared_zone::Room;
 use frame_core::{Cause, Copied, Isolated, Serial};
 use std::collections::VecDeque;
 use std::sync::ledger::Ledger;
-use zone_core::{EndSeat, Next, ScanSeat, Zone};
+use zone_core::{EndSeat, Next, ScanSeat};
 
-/// Begins a round of the scanner.
-pub(crate) fn begin_round<K: Keeping, I: Ledger, N: Ledger, M: Ledger, B: Ledger>(
-    zone: &mut Zone<I, M, B>,
-    scan: &mut ScanSeat<I, N>,
-)
-    requires valid { IsValidZone zone.old }
-    requires keeps { K.keeps zone.old }
-    requires begins { K.begins_at scan.old.count }
-    ensures seat { scan.new ≡ seat_begun scan.old }
-    ensures kept { LeavesKept K.keeps_scanning K.told zone.old zone.new }
-    ensures count { isolated zone.new.records ≡ scan.new.count }
-{
-    zone.begin_round(scan);
-}
-
-/// Isolates pages into the empty list, in their order, until the list is full. Where it stops before, the answer says why.
-pub(crate) fn isolate_pages<K: Keeping, I: Ledger, N: Ledger, M: Ledger, B: Ledger>(
-    zone: &mut Zone<I, M, B>,
+/// Begins a round, and isolates pages into the empty list, in their order, until the list is full. Where it stops before, the
+/// answer says why.
+#[tactic(auto, using(crate::proofs::Begun::begun_first))]
+pub(crate) fn begin_and_isolate<K: Keeping, I: Ledger, N: Ledger, M: Ledger, B: Ledger>(
+    room: &mut Room<K, I, M, B>,
     scan: &mut ScanSeat<I, N>,
     pages: &mut VecDeque<Isolated>,
 ) -> Option<Stop>
-    requires valid { IsValidZone zone.old }
-    requires keeps { K.keeps_scanning zone.old }
-    requires count { isolated zone.old.records ≡ scan.old.count }
+    requires begins { K.begins_at scan.old.count }
+    requires pages { (pages.old.items ≡ []) × (0 < deque_capacity pages.old) }
+    ensures isolated { HasIsolated K.stops_at scan.old scan.new pages.new.items result }
+    ensures rounds { scan.new.rounds ≡ scan.old.rounds + 1 }
+    ensures goes_on { IfNone result (HasBegun K.begins_at scan.new.count) }
+    ensures room { deque_capacity pages.new ≡ deque_capacity pages.old }
+{
+    begin_round(room, scan);
+    isolate_pages(room, scan, pages)
+}
+
+/// Begins a round of the scanner.
+fn begin_round<K: Keeping, I: Ledger, N: Ledger, M: Ledger, B: Ledger>(
+    room: &mut Room<K, I, M, B>,
+    scan: &mut ScanSeat<I, N>,
+)
+    requires { K.begins_at scan.old.count }
+    ensures seat { scan.new ≡ seat_begun scan.old }
+    ensures keeps { K.keeps_scanning room.new }
+{
+    room.zone.begin_round(scan);
+}
+
+/// Goes on with a round that has begun: isolates pages into the empty list, in their order, until the list is full. Where it stops
+/// before, the answer says why.
+#[tactic(auto, using(crate::proofs::Begun::begun_more))]
+pub(crate) fn isolate_more<K: Keeping, I: Ledger, N: Ledger, M: Ledger, B: Ledger>(
+    room: &mut Room<K, I, M, B>,
+    scan: &mut ScanSeat<I, N>,
+    pages: &mut VecDeque<Isolated>,
+) -> Option<Stop>
+    requires goes_on { HasBegun K.begins_at scan.old.count }
+    requires pages { (pages.old.items ≡ []) × (0 < deque_capacity pages.old) }
+    ensures isolated { HasIsolated K.stops_at scan.old scan.new pages.new.items result }
+    ensures rounds { scan.new.rounds ≡ scan.old.rounds }
+    ensures goes_on { IfNone result (HasBegun K.begins_at scan.new.count) }
+    ensures room { deque_capacity pages.new ≡ deque_capacity pages.old }
+{
+    go_on(room, scan);
+    isolate_pages(room, scan, pages)
+}
+
+/// Shows that the scanner may go on with a round that has begun.
+fn go_on<K: Keeping, I: Ledger, N: Ledger, M: Ledger, B: Ledger>(
+    room: &mut Room<K, I, M, B>,
+    scan: &mut ScanSeat<I, N>,
+)
+    requires { HasBegun K.begins_at scan.old.count }
+    ensures seat { scan.new ≡ scan.old }
+    ensures keeps { K.keeps_scanning room.new }
+{
+    room.zone.show_count(scan);
+}
+
+/// Isolates pages into the empty list, in their order, until the list is full. Where it stops before, the answer says why.
+fn isolate_pages<K: Keeping, I: Ledger, N: Ledger, M: Ledger, B: Ledger>(
+    room: &mut Room<K, I, M, B>,
+    scan: &mut ScanSeat<I, N>,
+    pages: &mut VecDeque<Isolated>,
+) -> Option<Stop>
+    requires keeps { K.keeps_scanning room.old }
     requires empty { (pages.old.items ≡ []) × (0 < deque_capacity pages.old) }
     ensures isolated { HasIsolated K.stops_at scan.old scan.new pages.new.items result }
     ensures rounds { scan.new.rounds ≡ scan.old.rounds }
-    ensures kept { LeavesKept K.keeps K.told zone.old zone.new }
     ensures more { IfNone result (scan.old.count < scan.new.count) }
     ensures room { deque_capacity pages.new ≡ deque_capacity pages.old }
 {
     while pages.len() < pages.capacity() {
-        match isolate_page::<K, I, N, M, B>(zone, scan) {
+        match isolate_page(room, scan) {
             Ok(page) => pages.push_back_reserved(page),
             Err(stop) => return Some(stop),
         }
@@ -60,21 +102,18 @@ pub(crate) fn isolate_pages<K: Keeping, I: Ledger, N: Ledger, M: Ledger, B: Ledg
 
 /// Isolates the next page. Where the scanner stops in its place, the answer says why.
 fn isolate_page<K: Keeping, I: Ledger, N: Ledger, M: Ledger, B: Ledger>(
-    zone: &mut Zone<I, M, B>,
+    room: &mut Room<K, I, M, B>,
     scan: &mut ScanSeat<I, N>,
 ) -> Result<Isolated, Stop>
-    requires valid { IsValidZone zone.old }
-    requires keeps { K.keeps_scanning zone.old }
-    requires count { isolated zone.old.records ≡ scan.old.count }
+    requires { K.keeps_scanning room.old }
     ensures serial { IfOk result (λ page. page.serial ≡ scan.old.count) }
     ensures count { OnOk result (scan.new.count ≡ scan.old.count + 1) }
     ensures same { OnErr result (scan.new.count ≡ scan.old.count) }
-    ensures counted { isolated zone.new.records ≡ scan.new.count }
     ensures rounds { scan.new.rounds ≡ scan.old.rounds }
     ensures stopped { IfErr result (HasStopped K.stops_at scan.new) }
-    ensures kept { LeavesKept K.keeps_scanning K.told zone.old zone.new }
+    ensures keeps { K.keeps_scanning room.new }
 {
-    match zone.isolate_next(scan) {
+    match room.zone.isolate_next(scan) {
         Ok(Next::Page(page)) => Ok(page),
         Ok(Next::Met) => Err(Stop::Met),
         Err(_) => Err(Stop::JournalFull),
@@ -83,37 +122,31 @@ fn isolate_page<K: Keeping, I: Ledger, N: Ledger, M: Ledger, B: Ledger>(
 
 /// Commits all copies, in their order. The answer is the least serial of those that were refused now or before, if there is one.
 pub(crate) fn commit_copies<K: Keeping, I: Ledger, M: Ledger, B: Ledger>(
-    zone: &mut Zone<I, M, B>,
+    room: &mut Room<K, I, M, B>,
     seat: &mut EndSeat<M, B>,
     copies: &mut VecDeque<Copied>,
     mut stranger: Option<Serial>,
 ) -> Option<Serial>
-    requires valid { IsValidZone zone.old }
-    requires keeps { K.keeps zone.old }
-    ensures kept { LeavesKept K.keeps K.told zone.old zone.new }
     ensures back { K.unpinned → seat.new.back ≡ seat.old.back }
     ensures copies { copies.new.items ≡ [] }
     ensures parts { seat.new.parts ≡ seat.old.parts }
 {
     while let Some(copy) = copies.pop_front() {
-        stranger = least(stranger, commit_copy::<K, I, M, B>(zone, seat, copy));
+        stranger = least(stranger, commit_copy(room, seat, copy));
     }
     stranger
 }
 
 /// Commits a copy. The answer is its serial if it was refused.
 fn commit_copy<K: Keeping, I: Ledger, M: Ledger, B: Ledger>(
-    zone: &mut Zone<I, M, B>,
+    room: &mut Room<K, I, M, B>,
     seat: &mut EndSeat<M, B>,
     copy: Copied,
 ) -> Option<Serial>
-    requires valid { IsValidZone zone.old }
-    requires keeps { K.keeps zone.old }
-    ensures kept { LeavesKept K.keeps K.told zone.old zone.new }
     ensures back { K.unpinned → seat.new.back ≡ seat.old.back }
     ensures parts { seat.new.parts ≡ seat.old.parts }
 {
-    match zone.commit(seat, copy) {
+    match room.zone.commit(seat, copy) {
         Ok(_) => None,
         Err(refused) => Some(refused.0.serial()),
     }
@@ -121,14 +154,11 @@ fn commit_copy<K: Keeping, I: Ledger, M: Ledger, B: Ledger>(
 
 /// Puts all pages back, in their order. The answer is the least serial of those that were refused, if there is one.
 pub(crate) fn put_back_pages<K: Keeping, I: Ledger, M: Ledger, B: Ledger>(
-    zone: &mut Zone<I, M, B>,
+    room: &mut Room<K, I, M, B>,
     seat: &mut EndSeat<M, B>,
     pages: &mut VecDeque<Isolated>,
 ) -> Option<Serial>
-    requires valid { IsValidZone zone.old }
-    requires keeps { K.keeps zone.old }
-    ensures kept { LeavesKept K.keeps K.told zone.old zone.new }
-    ensures put_back { result ≡ None → zone.new ≡ all_put_back zone.old pages.old.items }
+    ensures put_back { result ≡ None → room.new ≡ all_put_back room.old pages.old.items }
     ensures back { result ≡ None → seat.new.back ≡ seat.old.back + length pages.old.items }
     ensures seat { CountsBack seat.old seat.new }
     ensures pages { pages.new.items ≡ [] }
@@ -136,25 +166,22 @@ pub(crate) fn put_back_pages<K: Keeping, I: Ledger, M: Ledger, B: Ledger>(
 {
     let mut stranger = None;
     while let Some(page) = pages.pop_front() {
-        stranger = least(stranger, put_back_page::<K, I, M, B>(zone, seat, page));
+        stranger = least(stranger, put_back_page(room, seat, page));
     }
     stranger
 }
 
 /// Puts a page back. The answer is its serial if it was refused.
 fn put_back_page<K: Keeping, I: Ledger, M: Ledger, B: Ledger>(
-    zone: &mut Zone<I, M, B>,
+    room: &mut Room<K, I, M, B>,
     seat: &mut EndSeat<M, B>,
     page: Isolated,
 ) -> Option<Serial>
-    requires valid { IsValidZone zone.old }
-    requires keeps { K.keeps zone.old }
-    ensures kept { LeavesKept K.keeps K.told zone.old zone.new }
-    ensures put_back { result ≡ None → zone.new ≡ put_back_to_source zone.old page.serial page.page.number Cause.NotCopied }
+    ensures put_back { result ≡ None → room.new ≡ put_back_to_source room.old page.serial page.page.number Cause.NotCopied }
     ensures back { result ≡ None → seat.new.back ≡ seat.old.back + 1 }
     ensures seat { CountsBack seat.old seat.new }
 {
-    match zone.put_back(seat, page) {
+    match room.zone.put_back(seat, page) {
         Ok(()) => None,
         Err(refused) => Some(refused.0.serial()),
     }

@@ -7,8 +7,8 @@ use Rattle.round_core.proofs.compacting.compact.Goals as goal
 pub wind_up-requires-clause-ran : goal.wind_up-requires-clause-ran
 wind_up-requires-clause-ran g c =
     let isolated = c.in_ok-before.ensures.counts.0 in
-    let run = rw c.in-Some-in_scope.is at c.in_scope.ensures in
-    subst (λ n. HasRun n c.in_scope.new.seats.scan c.in-Some-in_scope.ran)
+    let run = rw c.in-Some.is at c.in_scope.ensures in
+    subst (λ n. HasRun n c.in_scope.new.seats.scan c.in-Some.ran)
     (ap (λ (s : ScanSeat). s.count) c.audit.ensures.same.0 ∙ sym isolated) run.ran.has_run
 
 pub wind_up-requires-clause-ends : goal.wind_up-requires-clause-ends
@@ -22,7 +22,7 @@ wind_up-requires-clause-ends g c =
 pub returns-clause-early : goal.returns-clause-early
 returns-clause-early g c =
     let before = c.in_ok-before.ensures in
-    let run = rw c.in-Some-in_scope.is at c.in_scope.ensures in
+    let run = rw c.in-Some.is at c.in_scope.ensures in
     begun c.args.seats.now.scan c.wind_up.new.seats.scan c.args.seats.now.ends c.wind_up.new.seats.ends c.wind_up.result
     (ap (λ (s : ScanSeat). s.rounds) c.wind_up.ensures.same.0 ∙ run.ran.rounds ∙ ap (λ (s : ScanSeat). s.rounds + 1) c.audit.ensures.same.0)
     before.whole

@@ -10,7 +10,7 @@ returns-clause-senders g c =
     let made = c.in_ok-senders.ensures.senders in
     let senders = c.in_ok-senders.senders.items in
     let queue = c.in_ok-senders.copies.queue in (
-      made,
+      omega (arith, made),
       λ k d low.
           let unsent : DoneSender = record { queue = queue; most = c.args.division.most; number = k; sent = []; marked = false; closed = false } in
           let long = c.in_ok-senders.senders.ok in

@@ -1,6 +1,5 @@
-use Rattle.std.proofs.Common.{◌≡◌, ◌+◌, ◌++◌, length, ap, sym, ◌∙◌, subst, append_assoc, length-append, arith, None}
+use Rattle.std.proofs.Common.{◌≡◌, ◌+◌, ◌++◌, length, ap, sym, ◌∙◌, subst, append_assoc, length-append, arith}
 use Rattle.frame_core.specs.Serials.{HasSerialsFrom}
-use Rattle.zone_core.specs.Seats.{EndSeat}
 use Rattle.hand_core.specs.PageEnds.{Giver}
 use Rattle.hand_core.proofs.Serials.{serials_front, serials_after}
 use Rattle.round_core.proofs.scanner.give_all.Goals as goal
@@ -31,32 +30,24 @@ loop-batch-preserved g c =
       serials = subst (λ n. HasSerialsFrom n rest) (let e : next + length items ≡ new.base + length new.given = omega arith in e) following;
       giver = ok ∙ ap (λ (v : Giver). record v { given = giver.given ++ items }) old.giver ∙ ap (λ l. record first { given = l }) (sym given);
       given = ap (λ l. l ++ rest) given ∙ append_assoc giver.given items rest ∙ ap (λ l. giver.given ++ l) (sym split) ∙ old.given;
-      ends = old.ends;
+      count = (let before = old.count in let parted = ap length split in omega (arith, before, parted, long, longer, length-append items rest));
       room = c.in-Some.ensures.room ∙ old.room;
     }
 
-pub returns-in-Err-clause-left : goal.returns-in-Err-clause-left
-returns-in-Err-clause-left g c is =
-    let old = c.loop-batch.invariant in
-    let none : c.put_back_pages.result ≡ None = cc in
-    let all = c.put_back_pages.ensures.back none in
+pub returns-in-Err-clause-count : goal.returns-in-Err-clause-count
+returns-in-Err-clause-count g c =
+    let before = c.loop-batch.invariant.count in
     let put = ap length c.put_in_front.ensures.pages in
     let refused : length c.in-Err.refused.items ≡ length c.in-Some.batch.items = (λ i. length (c.in-Err.ensures.back i).items) in
     let given = ap (λ (v : Giver). length v.given) c.in-Err.ensures.err in
-    let ends = ap (λ (v : EndSeat). v.back) old.ends in
-    let before = ap length old.given in
     let first = ap length c.in-Some.ensures.first in
     omega (
       arith,
-      all,
+      before,
       put,
       refused,
       given,
-      ends,
-      before,
       first,
       length-append c.in-Err.refused.items c.first_of.new.pages.items,
-      length-append c.loop-batch.giver.given c.loop-batch.pages.items,
-      length-append c.args.giver.now.given c.args.pages.now.items,
       length-append c.in-Some.batch.items c.first_of.new.pages.items,
     )

@@ -9,7 +9,7 @@ invariant-loop-batch g l = record {
   serials : HasSerialsFrom (l.giver.base + length l.giver.given) l.pages.items;
   giver : l.giver ≡ record l.fn.giver { given = l.giver.given };
   given : l.giver.given ++ l.pages.items ≡ l.fn.giver.given ++ l.fn.pages.items;
-  ends : l.ends ≡ l.fn.ends;
+  count : length l.giver.given + length l.pages.items ≡ length l.fn.giver.given + length l.fn.pages.items;
   room : deque_capacity l.pages ≡ deque_capacity l.fn.pages;
 }
 

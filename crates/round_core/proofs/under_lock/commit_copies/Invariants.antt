@@ -1,11 +1,9 @@
 use Rattle.std.proofs.Common.{◌≡◌, length}
-use Rattle.round_core.specs.Kept.{LeavesKept}
 use Rattle.round_core.proofs.under_lock.commit_copies.Given as goal
 
 abbrev pub invariant-loop-copy : goal.invariant-loop-copy
 invariant-loop-copy g l = record {
   parts : l.seat.parts ≡ l.fn.seat.parts;
-  kept : LeavesKept g.K.Keeping.keeps g.K.Keeping.told l.fn.zone l.zone;
   back : g.K.Keeping.unpinned → l.seat.back ≡ l.fn.seat.back;
 }
 

@@ -1,21 +1,18 @@
 use Rattle.std.proofs.Common.{◌≡◌, ◌+◌, ◌<◌, length, false, IfSome, IfNone}
 use Rattle.std.specs.VecDeque.{deque_capacity}
 use Rattle.frame_core.specs.Serials.{HasSerialsFrom}
-use Rattle.round_core.specs.Counts.{CountsBack}
 use Rattle.round_core.specs.Scanning.{HasBegun, HasStopped}
-use Rattle.round_core.proofs.scanner.scan_all.Given as goal
+use Rattle.round_core.proofs.scanner.isolate_and_give.Given as goal
 
 abbrev pub invariant-loop : goal.invariant-loop
 invariant-loop g l = record {
   open_still : l.giver.closed ≡ false;
+  giver : l.giver ≡ record l.fn.giver { given = l.giver.given };
   -- the pages that are to be given next are the last that were isolated
   serials : HasSerialsFrom (l.giver.base + length l.giver.given) l.pages.items;
   count : l.scan.count ≡ l.giver.base + length l.giver.given + length l.pages.items;
   places : 0 < deque_capacity l.pages;
-  giver : l.giver ≡ record l.fn.giver { given = l.giver.given };
   rounds : l.scan.rounds ≡ l.fn.scan.rounds + 1;
-  ends : CountsBack l.fn.ends l.ends;
-  back : l.ends.back ≡ l.fn.ends.back;
   stopped : IfSome l.stop (HasStopped g.K.Keeping.stops_at l.scan);
   goes_on : IfNone l.stop (HasBegun g.K.Keeping.begins_at l.scan.count);
 }
