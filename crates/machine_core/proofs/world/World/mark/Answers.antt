@@ -8,3 +8,6 @@ invariant_of-self g c =
     let z = c.self.inside in
     carried_call z.zone c.mark.new.self z.scan z.ends z.is_open z.waiting.items z.hands.held (deque_capacity z.waiting) c.self.invariant
     g.row.W (Mark c.args.block) 0 c.mark.result c.mark.ensures.valid c.mark.ensures.refused c.mark.ensures.err c.mark.ensures.ok
+
+pub returns-clause-orderly : goal.returns-clause-orderly
+returns-clause-orderly g c = (invariant_of-self g c).orderly

@@ -8,3 +8,6 @@ invariant_of-self g c =
     let z = c.self.inside in
     carried_taken z.zone c.take_huge.new.self z.scan z.ends z.is_open z.waiting.items z.hands.held (deque_capacity z.waiting) c.self.invariant
     (λ block. 512 * block) 9 c.take_huge.result c.take_huge.ensures.valid c.take_huge.ensures.err c.take_huge.ensures.ok
+
+pub returns-clause-orderly : goal.returns-clause-orderly
+returns-clause-orderly g c = (invariant_of-self g c).orderly

@@ -7,3 +7,6 @@ invariant_of-self g c =
     let z = c.self.inside in
     carried_taken z.zone c.take_order.new.self z.scan z.ends z.is_open z.waiting.items z.hands.held (deque_capacity z.waiting) c.self.invariant
     (λ first. first) c.args.order c.take_order.result c.take_order.ensures.valid c.take_order.ensures.err c.take_order.ensures.ok
+
+pub returns-clause-orderly : goal.returns-clause-orderly
+returns-clause-orderly g c = (invariant_of-self g c).orderly
