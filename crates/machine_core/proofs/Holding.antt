@@ -1,6 +1,6 @@
 -- Hands that take, copy and finish keep what a world carries.
 use Rattle.std.proofs.Common.{◌≡◌, ◌≢◌, ℕ, zero, suc, ◌+◌, ◌-◌, ◌*◌, ◌<◌, ◌≤◌, Bool, true, false, List, ◌∷◌, inl, inr, refl, sym, ap, subst, ◌∙◌, arith}
-use Rattle.std.specs.Prelude.{Option, Some, map as each, slice_get, slice_set, unwrap_or, nat_eq, if◌then◌else◌}
+use Rattle.std.specs.Prelude.{Option, Some, None, IfNone, ◌++◌, option_to_list, map as each, slice_get, slice_set, unwrap_or, nat_eq, if◌then◌else◌}
 use Rattle.std.specs.List.{list_any}
 use Rattle.std.specs.Option.{option_and_then}
 use Rattle.std.proofs.lemmas.List.{map-set}
@@ -20,6 +20,16 @@ use Rattle.state_core.proofs.Carried.{own_page, own_committed}
 use Rattle.machine_core.proofs.HandsTaking.{orderly_taken, orderly_copied}
 use Rattle.machine_core.proofs.MovesEnded.{orderly_finished}
 use Rattle.machine_core.proofs.Carrying.{seen_at, seen_some, held_after, is_page_held, is_copy_held, nothing_is, waits_at}
+
+-- what is said where there is none, said where there is no `Some`
+pub where_none : {A : Type 0} (o : Option A) (P : Type 0) → ((x : A) → o ≡ Some x → ⊥) → IfNone o P → P
+where_none None P not h = h
+where_none (Some x) P not h = absurd (not x refl)
+
+-- a list that nothing left is as before
+pub none_left : {A : Type 0} (o : Option A) (old new : List A) → ((x : A) → o ≡ Some x → ⊥) → old ≡ option_to_list o ++ new → old ≡ new
+none_left None old new not e = e
+none_left (Some x) old new not e = absurd (not x refl)
 
 -- Taking, copying and finishing
 module _ (zone : ZoneState) (scan : ScanSeat) (ends : EndSeat) (is_open : Bool) (p : IsolatedPage) (list : List IsolatedPage) (held : List InHand) (k capacity : ℕ) (low : 0 < k) (high : k ≤ 4) (nothing : is_nothing (held_at held k) ≡ true) (was : IsCarried zone scan ends is_open (p ∷ list) held capacity) where

@@ -15,3 +15,6 @@ invariant_of-result g c =
 
 pub returns-clause-orderly : goal.returns-clause-orderly
 returns-clause-orderly g c = (invariant_of-result g c).orderly
+
+pub returns-clause-ok : goal.returns-clause-ok
+returns-clause-ok g c = rw (c.in-Ok.ensures.items, c.new.ensures, c.requires.scan, c.requires.ends)

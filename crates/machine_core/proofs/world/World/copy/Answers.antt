@@ -6,7 +6,7 @@ use Rattle.frame_core.specs.Page.{IsolatedPage}
 use Rattle.machine_core.specs.declared.hands.Held.TheVariants.{Copy}
 use Rattle.machine_core.specs.Carried.{InHand, world_of}
 use Rattle.machine_core.specs.World.{WorldState, copy_step}
-use Rattle.machine_core.proofs.Holding.{step_copied, carried_copied}
+use Rattle.machine_core.proofs.Holding.{where_none, step_copied, carried_copied}
 use Rattle.machine_core.proofs.world.World.copy.Given.{Over}
 use Rattle.machine_core.proofs.world.World.copy.Goals as goal
 use Rattle.machine_core.proofs.world.World.copy.Goals.{After-put}
@@ -33,3 +33,9 @@ returns-clause-ok g c =
 
 pub returns-clause-orderly : goal.returns-clause-orderly
 returns-clause-orderly g c = (invariant_of-self-2 g c).orderly
+
+pub returns-in_default-clause-err : goal.returns-in_default-clause-err
+returns-in_default-clause-err g c = rw (where_none c.page_from.result _ c.in_default.not-Some c.page_from.ensures.none) c.self.view_is
+
+pub returns-in_default-clause-orderly : goal.returns-in_default-clause-orderly
+returns-in_default-clause-orderly g c = rw (where_none c.page_from.result _ c.in_default.not-Some c.page_from.ensures.none) c.self.invariant.orderly

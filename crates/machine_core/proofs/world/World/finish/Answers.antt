@@ -5,7 +5,7 @@ use Rattle.machine_core.specs.Carried.{world_of}
 use Rattle.machine_core.specs.World.{WorldState, finish_step, finished_as}
 use Rattle.zone_core.specs.Seats.{seat_ended}
 use Rattle.machine_core.specs.declared.finished.Finished.{Finished}
-use Rattle.machine_core.proofs.Holding.{own_in_hand, step_finished, carried_finished}
+use Rattle.machine_core.proofs.Holding.{where_none, own_in_hand, step_finished, carried_finished}
 use Rattle.machine_core.proofs.world.World.finish.Given.{Over}
 use Rattle.machine_core.proofs.world.World.finish.Goals as goal
 use Rattle.machine_core.proofs.world.World.finish.Goals.{After-finish_in}
@@ -33,3 +33,9 @@ returns-clause-ok g c =
 
 pub returns-clause-orderly : goal.returns-clause-orderly
 returns-clause-orderly g c = (invariant_of-self-2 g c).orderly
+
+pub returns-in_default-clause-err : goal.returns-in_default-clause-err
+returns-in_default-clause-err g c = rw (where_none c.copy_from.result _ c.in_default.not-Some c.copy_from.ensures.none) c.self.view_is
+
+pub returns-in_default-clause-orderly : goal.returns-in_default-clause-orderly
+returns-in_default-clause-orderly g c = rw (where_none c.copy_from.result _ c.in_default.not-Some c.copy_from.ensures.none) c.self.invariant.orderly

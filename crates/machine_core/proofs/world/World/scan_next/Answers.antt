@@ -64,3 +64,6 @@ returns-in-Ok-Page-clause-ok g c =
 
 pub returns-in-Ok-Met-clause-orderly : goal.returns-in-Ok-Met-clause-orderly
 returns-in-Ok-Met-clause-orderly g c = (invariant_of-self-in-Ok-Met g c).orderly
+
+pub returns-in-Err-clause-orderly : goal.returns-in-Err-clause-orderly
+returns-in-Err-clause-orderly g c = (invariant_of-self-in-Err g c).orderly
