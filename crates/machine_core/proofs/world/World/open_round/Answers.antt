@@ -1,4 +1,6 @@
+use Rattle.std.proofs.Common.{subst}
 use Rattle.std.specs.VecDeque.{deque_capacity}
+use Rattle.machine_core.specs.World.{IsOrderly}
 use Rattle.machine_core.proofs.Carrying.{carried_opened}
 use Rattle.machine_core.proofs.world.World.open_round.Goals as goal
 
@@ -9,3 +11,6 @@ invariant_of-self g c =
 
 pub returns-clause-orderly : goal.returns-clause-orderly
 returns-clause-orderly g c = (invariant_of-self g c).orderly
+
+pub returns-then-self-clause-orderly : goal.returns-then-self-clause-orderly
+returns-then-self-clause-orderly g c = subst IsOrderly c.self.view_is c.self.invariant.orderly

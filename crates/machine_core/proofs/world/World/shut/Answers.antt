@@ -1,9 +1,9 @@
-use Rattle.std.proofs.Common.{rules, ◌≡◌, ℕ, ◌+◌, false, sym, ap, ◌∙◌}
+use Rattle.std.proofs.Common.{rules, ◌≡◌, ℕ, ◌+◌, false, sym, ap, subst, ◌∙◌}
 use Rattle.std.specs.Prelude.{Some}
 use Rattle.std.specs.VecDeque.{deque_capacity}
 use Rattle.machine_core.specs.Carried.{world_of}
 use Rattle.zone_core.specs.Seats.{EndSeat}
-use Rattle.machine_core.specs.World.{shut_step}
+use Rattle.machine_core.specs.World.{IsOrderly, shut_step}
 use Rattle.machine_core.proofs.Closing.{short_list, step_shut, carried_shut, not_shut}
 use Rattle.machine_core.proofs.world.World.shut.Goals as goal
 
@@ -54,3 +54,6 @@ returns-then-not-are_empty-clause-refused g c =
 
 pub returns-clause-orderly : goal.returns-clause-orderly
 returns-clause-orderly g c = (invariant_of-self g c).orderly
+
+pub returns-then-not-are_empty-clause-orderly : goal.returns-then-not-are_empty-clause-orderly
+returns-then-not-are_empty-clause-orderly g c = subst IsOrderly c.self.view_is c.self.invariant.orderly

@@ -4,8 +4,9 @@ use Rattle.std.specs.VecDeque.{deque_capacity}
 use Rattle.frame_core.specs.Page.{IsolatedPage}
 use Rattle.machine_core.specs.Carried.{world_of, IsCarried}
 use Rattle.machine_core.specs.Hands.{is_nothing, held_at}
-use Rattle.machine_core.specs.World.{WorldState, take_step}
-use Rattle.machine_core.proofs.Holding.{step_taken, carried_taken}
+use Rattle.machine_core.specs.World.{WorldState, IsOrderly, take_step}
+use Rattle.machine_core.proofs.HandsTaking.{least_taken}
+use Rattle.machine_core.proofs.Holding.{none_left, step_taken, carried_taken}
 use Rattle.machine_core.proofs.world.World.take.Given.{Over}
 use Rattle.machine_core.proofs.world.World.take.Goals as goal
 use Rattle.machine_core.proofs.world.World.take.Goals.{After-put}
@@ -34,3 +35,15 @@ returns-clause-ok g c =
 
 pub returns-clause-orderly : goal.returns-clause-orderly
 returns-clause-orderly g c = (invariant_of-self-2 g c).orderly
+
+pub returns-then-not-is_empty-clause-orderly : goal.returns-then-not-is_empty-clause-orderly
+returns-then-not-is_empty-clause-orderly g c = subst IsOrderly c.self.view_is c.self.invariant.orderly
+
+pub returns-in_default-clause-err : goal.returns-in_default-clause-err
+returns-in_default-clause-err g c = rw (← none_left c.pop_front.result _ _ c.in_default.not-Some c.pop_front.ensures.items) c.self.view_is
+
+pub returns-in_default-clause-orderly : goal.returns-in_default-clause-orderly
+returns-in_default-clause-orderly g c = rw (← none_left c.pop_front.result _ _ c.in_default.not-Some c.pop_front.ensures.items) c.self.invariant.orderly
+
+pub returns-clause-least : goal.returns-clause-least
+returns-clause-least g c = least_taken c.args.self.now c.args.hand c.serial-serial.result _ c.is_empty.ensures.number.0 c.is_empty.ensures.number.1 (subst IsOrderly c.self.view_is c.self.invariant.orderly) (returns-clause-ok g c)
