@@ -6,8 +6,10 @@ use Rattle.std.specs.Vec.Iter.{into_iter_items}
 use Rattle.std.specs.declared.string.String.{String}
 use Rattle.std.specs.declared.vec.IntoIter.{IntoIter}
 use Rattle.std.specs.Str.Parse.{digits_value, without_leading_plus}
-use Rattle.clap.specs.Words.{App, IsSignedIn, Rule, Text, fault_of, matches_of, new_app, new_rule, one_of, one_text, with_rule, without_minus}
+use Rattle.clap.specs.Words.{App, IsPlain, IsSignedIn, Rule, Text, app_of, fault_of, matches_of, new_app, new_rule, one_of, one_text, with_rule, without_minus}
 use Rattle.clap.specs.Kinds.{Kinds}
+use Rattle.clap.specs.declared.builder.command.Command.{Command}
+use Rattle.clap.specs.declared.builder.command.Command.TheViews.{out-Command as fields_of}
 use Rattle.clap.specs.declared.builder.value_parser.ValueParser.TheVariants.{Signed}
 use Rattle.clap.specs.declared.error.kind.ErrorKind.{ErrorKind}
 use Rattle.clap.specs.declared.error.kind.ErrorKind.TheVariants.{DisplayHelp, DisplayVersion}
@@ -56,6 +58,10 @@ asks_only_help words = list_all is_help (refusal_of words)
 abbrev pub number_told : Text → ℕ
 number_told text = digits_value 10 (without_leading_plus text)
 
+-- the number that a parse found for an option, and `own` where it found none
+abbrev pub number_in : Found → Text → ℕ → ℕ
+number_in found name own = unwrap_or (option_map number_told (one_text found name)) own
+
 -- the number that the words give for an option, and `own` where they give none
 unfoldable pub number_of : List Text → Text → ℕ → ℕ
 number_of words name own = unwrap_or (option_map number_told (one_of name (matches_of options_line words))) own
@@ -78,3 +84,15 @@ pub record IsGiven (words : List Text) (options : Options) : Type 0 where
 abbrev pub FindsUpTo : Found → Text → ℕ → Type 0
 FindsUpTo found name most =
     (text : Text) → one_text found name ≡ Some text → (given : Text) × (text ≡ without_minus given) × IsSignedIn (pos 1) (pos most) given
+
+-- a command that stands for this command line
+pub record IsLine (line : App) (command : Command) : Type 0 where
+  pub app : app_of command ≡ line
+  pub plain : IsPlain command
+  pub local : (fields_of command).has_globals ≡ false
+
+-- a command with one more option `--NAME N`
+pub record AddsNumber (old : Command) (name : Text) (most : ℕ) (new : Command) : Type 0 where
+  pub app : app_of new ≡ with_rule (app_of old) (number_rule name most)
+  pub plain : IsPlain old → IsPlain new
+  pub local : (fields_of old).has_globals ≡ false → (fields_of new).has_globals ≡ false

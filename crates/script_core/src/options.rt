@@ -1,11 +1,10 @@
 //! The options of the program.
-ghost use Rattle.std.specs.Prelude.{◌≡◌, ◌≤◌, false, map, option_map, pos, unwrap_or, [], ◌∷◌, IfOk, IfErr, IsErrAnd};
+ghost use Rattle.std.specs.Prelude.{◌≡◌, ◌≤◌, false, map, pos, codes, [], ◌∷◌, IfOk, IfErr, IsErrAnd};
 ghost use Rattle.std.specs.Vec.Iter.{into_iter_items};
-ghost use Rattle.clap.specs.Words.{FailsBy, IsPlain, IsPlainArg, app_of, found_of, kind_of, one_text, rule_of};
+ghost use Rattle.clap.specs.Words.{FailsBy, IsPlainArg, found_of, kind_of, new_app, rule_of};
 ghost use Rattle.clap.specs.Kinds.{HasKind};
-ghost use Rattle.clap.specs.declared.builder.command.Command.TheViews.{out-Command as fields_of};
 ghost use Rattle.clap.specs.declared.builder.value_parser.ValueParser.TheVariants.{Signed};
-ghost use Rattle.script_core.specs.CommandLine.{number_rule, options_line, refusal_of, number_told, IsGiven, texts_of, FindsUpTo};
+ghost use Rattle.script_core.specs.CommandLine.{number_rule, options_line, refusal_of, number_in, with_version, AddsNumber, IsGiven, IsLine, texts_of, FindsUpTo};
 
 use clap::builder::ValueParser;
 use clap::error::ErrorKind;
@@ -75,11 +74,23 @@ fn options_from<'a, S: AsStr>(alloc: Global, words: &'a [S]) -> Result<Options, 
     ensures ok { IfOk result (IsGiven (map S.text words.entry.now)) }
 {
     let matches = command_line(alloc)?.try_get_matches_from(words)?;
-    Ok(Options {
-        copiers: number::<4>(&matches, "copiers", 2) as usize,
-        capacity: number::<64>(&matches, "capacity", 8) as usize,
-        journal: number::<65536>(&matches, "journal", 65536),
-    })
+    Ok(options_in(&matches))
+}
+
+/// The options that a parse found.
+fn options_in(matches: &ArgMatches<'_>) -> Options
+    requires copiers { FindsUpTo (found_of matches.now) (codes "copiers") 4 }
+    requires capacity { FindsUpTo (found_of matches.now) (codes "capacity") 64 }
+    requires journal { FindsUpTo (found_of matches.now) (codes "journal") 65536 }
+    ensures copiers { result.copiers ≡ number_in (found_of matches.now) (codes "copiers") 2 }
+    ensures capacity { result.capacity ≡ number_in (found_of matches.now) (codes "capacity") 8 }
+    ensures journal { result.journal ≡ number_in (found_of matches.now) (codes "journal") 65536 }
+{
+    Options {
+        copiers: number::<4>(matches, "copiers", 2) as usize,
+        capacity: number::<64>(matches, "capacity", 8) as usize,
+        journal: number::<65536>(matches, "journal", 65536),
+    }
 }
 
 /// The number that was given for an option, 1 to `MOST`, or the number `own` where none was given.
@@ -87,40 +98,58 @@ fn number<const MOST: u32>(matches: &ArgMatches<'_>, name: &str, own: u32) -> u3
     requires found { FindsUpTo (found_of matches.now) name.now MOST }
     requires low { 1 ≤ own }
     requires high { own ≤ MOST }
-    ensures value { result ≡ unwrap_or (option_map number_told (one_text (found_of matches.now) name.now)) own }
+    ensures value { result ≡ number_in (found_of matches.now) name.now own }
     ensures least { 1 ≤ result }
     ensures most { result ≤ MOST }
 {
     matches.get_one(name).unwrap_or(own)
 }
 
+/// The command line with its three options.
 fn command_line<'a>(alloc: Global) -> Result<Command<'a>, AllocError>
-    ensures options { IfOk result (λ command. app_of command ≡ options_line) }
-    ensures plain { IfOk result (λ command. IsPlain command) }
-    ensures local { IfOk result (λ command. (fields_of command).has_globals ≡ false) }
+    ensures { IfOk result (IsLine options_line) }
+{
+    let command = with_number::<4>(
+        alloc,
+        bare_line(alloc),
+        "copiers",
+        "Copiers that a round has, 1 to 4 [default: 2]",
+    )?;
+    let command = with_number::<64>(
+        alloc,
+        command,
+        "capacity",
+        "Pages that a queue of a round holds, 1 to 64 [default: 8]",
+    )?;
+    with_number::<65536>(
+        alloc,
+        command,
+        "journal",
+        "Records that the journal holds, 1 to 65536 [default: 65536]",
+    )
+}
+
+/// The command line without an option but `--help` and `--version`.
+fn bare_line<'a>(alloc: Global) -> Command<'a>
+    ensures { IsLine (with_version (new_app (codes "compactd"))) result }
 {
     Command::new(alloc, "compactd")
         .version("0.1.0")
         .about("Runs the script on standard input, and writes a reply for each command")
         .after_help(COMMANDS)
-        .arg(number_option(
-            alloc,
-            "copiers",
-            value_parser!(u32).range(1..=4),
-            "Copiers that a round has, 1 to 4 [default: 2]",
-        ))?
-        .arg(number_option(
-            alloc,
-            "capacity",
-            value_parser!(u32).range(1..=64),
-            "Pages that a queue of a round holds, 1 to 64 [default: 8]",
-        ))?
-        .arg(number_option(
-            alloc,
-            "journal",
-            value_parser!(u32).range(1..=65536),
-            "Records that the journal holds, 1 to 65536 [default: 65536]",
-        ))
+}
+
+/// A command line with one more option, `--NAME N`, whose number is from 1 to `MOST`.
+fn with_number<'a, const MOST: u32>(
+    alloc: Global,
+    command: Command<'a>,
+    name: &'a str,
+    help: &'a str,
+) -> Result<Command<'a>, AllocError>
+    ensures { IfOk result (AddsNumber command.entry name.entry.now MOST) }
+{
+    let numbers = value_parser!(u32).range(1..=i64::from(MOST));
+    command.arg(number_option(alloc, name, numbers, help))
 }
 
 /// The option `--NAME N`.
