@@ -1,5 +1,6 @@
 ghost use Rattle.std.specs.Prelude.{◌≡◌, ◌≤◌};
 
+mod answers;
 mod calls;
 mod contents;
 mod counts;

@@ -1,11 +1,11 @@
-//! Calls of clients with plain numbers, and answers to them, for tables of tests.
+//! Calls of clients with plain numbers, for tables of tests.
 
 ghost use Rattle.std.specs.Prelude.{◌≤◌};
 
+use super::answers::{Answer, Shown};
 use super::{address, block, frame, order, word};
-use frame_core::{BlockNo, FrameNo, Serial};
 use std::process::Abort;
-use zone_core::{Ended, Look, ZoneAnswer, ZoneCallOf, ZoneError};
+use zone_core::{ZoneAnswer, ZoneCallOf, ZoneError};
 
 /// An address: a space and a virtual page.
 pub type Name = (u32, u32);
@@ -31,47 +31,6 @@ pub enum Call {
     GiveOrder(u32, u32),
     Mark(u32),
     Unmark(u32),
-}
-
-/// What a step with a zone or a world answers.
-#[derive(Clone, Copy, PartialEq, Eq)]
-pub enum Answer {
-    Done,
-    Frame(u32),
-    Block(u32),
-    Value(u64),
-    Is(bool),
-    At {
-        frame: u32,
-        dirty: bool,
-        unmovable: bool,
-        pins: u8,
-        maps: u8,
-    },
-    Moving {
-        serial: Serial,
-        pins: u8,
-        maps: u8,
-    },
-    Refused(ZoneError),
-    /// A page is isolated, under the serial after the one before.
-    Page,
-    Serial(Serial),
-    Met,
-    Ended(Ended),
-    Finished(Serial, Ended),
-    /// The page isn't the zone's, or its copy has other words. It came back, and the zone is as before.
-    Stranger,
-    /// So many pages were isolated, moved and put back.
-    Audited(u32, u32, u32),
-    /// The seat has one part only.
-    NoPart,
-    /// The round is closed, and so many pages were put back.
-    Shut(u32),
-    /// The hand doesn't hold what the call needs, or no page waits.
-    NotInHand,
-    /// The record of a load: by which client, of which word of which page, and its value.
-    Loaded(u32, Name, u16, u64),
 }
 
 /// The call as a value.
@@ -141,79 +100,9 @@ fn shorter_value_of<const W: usize>(rt: &impl Abort, call: Call) -> ZoneCallOf<W
 
 /// What the method of a call answers where the call as a value was answered so.
 pub fn told(call: Call, answer: Result<ZoneAnswer, ZoneError>) -> Answer {
-    match answer {
-        Ok(answer) => shown(call, answer),
-        Err(error) => Answer::Refused(error),
-    }
-}
-
-fn shown(call: Call, answer: ZoneAnswer) -> Answer {
-    match answer {
-        ZoneAnswer::Done => Answer::Done,
-        ZoneAnswer::Value(value) => Answer::Value(value),
-        ZoneAnswer::Frame(first) => Answer::Frame(first.get()),
-        ZoneAnswer::Mapped { frame, .. } => mapped(call, frame.get()),
-    }
-}
-
-/// What the method answers by which a page was mapped in this frame.
-fn mapped(call: Call, frame: u32) -> Answer {
-    match call {
-        Call::MapAt(..) => Answer::Done,
-        _ => Answer::Frame(frame),
-    }
-}
-
-pub fn done(answer: Result<(), ZoneError>) -> Answer {
-    match answer {
-        Ok(()) => Answer::Done,
-        Err(error) => Answer::Refused(error),
-    }
-}
-
-pub fn framed(answer: Result<FrameNo, ZoneError>) -> Answer {
-    match answer {
-        Ok(frame) => Answer::Frame(frame.get()),
-        Err(error) => Answer::Refused(error),
-    }
-}
-
-pub fn blocked(answer: Result<BlockNo, ZoneError>) -> Answer {
-    match answer {
-        Ok(block) => Answer::Block(block.get()),
-        Err(error) => Answer::Refused(error),
-    }
-}
-
-pub fn valued(answer: Result<u64, ZoneError>) -> Answer {
-    match answer {
-        Ok(value) => Answer::Value(value),
-        Err(error) => Answer::Refused(error),
-    }
-}
-
-pub fn looked(answer: Result<Look, ZoneError>) -> Answer {
-    match answer {
-        Ok(look) => seen(look),
-        Err(error) => Answer::Refused(error),
-    }
-}
-
-fn seen(look: Look) -> Answer {
-    match look {
-        Look::At {
-            frame,
-            flags,
-            pins,
-            maps,
-        } => Answer::At {
-            frame: frame.get(),
-            dirty: flags.is_dirty(),
-            unmovable: flags.is_unmovable(),
-            pins,
-            maps,
-        },
-        Look::Moving { serial, pins, maps } => Answer::Moving { serial, pins, maps },
+    match (call, answer.shown()) {
+        (Call::MapAt(..), Answer::Frame(_)) => Answer::Done,
+        (_, shown) => shown,
     }
 }
 
@@ -241,5 +130,5 @@ pub fn read_as(
             }
         }
     }
-    done(answer)
+    answer.shown()
 }

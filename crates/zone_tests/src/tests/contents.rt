@@ -1,7 +1,8 @@
 //! The words of blocks that are handed out.
 
-use super::calls::{Answer, Call, PAGE};
-use super::trial::{Case, Size, tries};
+use super::answers::Answer;
+use super::calls::{Call, PAGE};
+use super::trial::{Case, Size, Trial, tries};
 use super::zone::{Block, Part, Step};
 use zone_core::{Ended, ZoneError};
 
@@ -22,7 +23,7 @@ const KEEPS_A_BLOCK: &[Part<'static>] = &[Part {
         (Step::WriteBlock(BLOCK, 40, &[9; 24]), Answer::Done),
         (Step::Call(Call::Store(PAGE, 7, 5)), Answer::Done),
         (Step::Isolate, Answer::Page),
-        (Step::Commit, Answer::Ended(Ended::Moved)),
+        (Step::Commit, Answer::Finished(0, Ended::Moved)),
         (Step::Call(Call::Map((7, 10))), Answer::Frame(0)),
         (Step::ReadBlock(BLOCK, 0, &[7; 40]), Answer::Done),
         (Step::ReadBlock(BLOCK, 40, &[9; 24]), Answer::Done),
@@ -83,13 +84,25 @@ const REFUSES_CALLS_OF_A_BLOCK: &[Part<'static>] = &[Part {
     ],
 }];
 
+const CASES: &[Case<'static>] = &[
+    Case(
+        "a block keeps its words",
+        Size::Eight,
+        Trial::Zone(64, KEEPS_A_BLOCK),
+    ),
+    Case(
+        "a block is lent",
+        Size::Eight,
+        Trial::Zone(64, LENDS_A_BLOCK),
+    ),
+    Case(
+        "calls of a block are refused",
+        Size::Eight,
+        Trial::Zone(2, REFUSES_CALLS_OF_A_BLOCK),
+    ),
+];
+
 #[test]
 fn blocks_keep_their_words(rt: HostRuntime) {
-    for (name, places, parts) in [
-        ("a block keeps its words", 64, KEEPS_A_BLOCK),
-        ("a block is lent", 64, LENDS_A_BLOCK),
-        ("calls of a block are refused", 2, REFUSES_CALLS_OF_A_BLOCK),
-    ] {
-        tries(&rt, &Case::of_zone(name, Size::Eight, places, parts));
-    }
+    tries(&rt, CASES);
 }

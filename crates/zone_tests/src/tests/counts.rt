@@ -2,7 +2,6 @@
 
 ghost use Rattle.std.specs.Prelude.{◌<◌, length};
 
-use super::calls::{Answer, looked};
 use super::lists::Listed;
 use super::{frame, order};
 use frame_core::{FrameNo, FrameState, Journal, PageNo, Record, Serial};
@@ -10,7 +9,7 @@ use scan_core::Frames;
 use std::process::Abort;
 use std::sync::ledger::Ledger;
 use table_core::Entry;
-use zone_core::{Info, ZoneOf};
+use zone_core::{Info, Look, ZoneOf};
 
 /// The counts that a zone tells, the sets of its frames, and the newest page's number are what walks find.
 pub fn assert_counts(
@@ -197,50 +196,38 @@ pub fn assert_pages<const W: usize, I: Ledger, M: Ledger, B: Ledger>(
         let list = lists.get(number as usize).expect(rt, "a list");
         match list.addresses.first() {
             Some(address) => {
-                let told = looked(zone.look(*address));
+                let told = zone.look(*address).ok().expect(rt, "a page");
                 assert_page(rt, zone.frames(), frame(rt, number), list, told);
-                assert_named(rt, frame(rt, number), list, told);
             }
             None => assert_no_page(rt, zone.frames(), frame(rt, number)),
         }
     }
 }
 
-/// The state of the frame, and the entry that names it, are of a page as it is told.
-fn assert_page(rt: &impl Abort, frames: &Frames, frame: FrameNo, list: &Listed, told: Answer)
+/// The state of the frame, and the entry that names it, are of a page as it is told, with as many addresses as name it.
+fn assert_page(rt: &impl Abort, frames: &Frames, frame: FrameNo, list: &Listed, told: Look)
     requires { frame < length frames.now.states }
 {
     let state = frames.state(frame);
-    match told {
-        Answer::At {
-            unmovable,
-            pins,
-            ..
-        } => {
-            assert!(rt; matches!(state, FrameState::Holds(_)));
-            assert!(rt; list.entry == Entry::Present(frame));
-            assert!(rt; frames.movable(frame) == (pins == 0 && !unmovable));
-        }
-        Answer::Moving { serial, .. } => {
-            assert!(rt; state == FrameState::Source(serial));
-            let source = frame;
-            assert!(rt; list.entry == Entry::Migration { serial, source });
-        }
-        _ => panic!(rt; "nothing is told of a page"),
-    }
-}
-
-/// A page is told in its frame, and with as many addresses as name it.
-fn assert_named(rt: &impl Abort, frame: FrameNo, list: &Listed, told: Answer) {
     let addresses = list.addresses.len();
     match told {
-        Answer::At {
-            frame: number,
+        Look::At {
+            frame: at,
+            flags,
+            pins,
             maps,
-            ..
-        } => assert!(rt; (number, maps as usize) == (frame.get(), addresses)),
-        Answer::Moving { maps, .. } => assert!(rt; maps as usize == addresses),
-        _ => {}
+        } => {
+            assert!(rt; matches!(state, FrameState::Holds(_)));
+            assert!(rt; (list.entry, at) == (Entry::Present(frame), frame));
+            assert!(rt; frames.movable(frame) == (pins == 0 && !flags.is_unmovable()));
+            assert!(rt; maps as usize == addresses);
+        }
+        Look::Moving { serial, maps, .. } => {
+            let source = frame;
+            assert!(rt; state == FrameState::Source(serial));
+            assert!(rt; list.entry == Entry::Migration { serial, source });
+            assert!(rt; maps as usize == addresses);
+        }
     }
 }
 

@@ -1,7 +1,8 @@
 //! Pages that are moved by hand, by the calls of a zone and of its two seats.
 
-use super::calls::{Answer, Call, PAGE};
-use super::trial::{Case, Size, tries};
+use super::answers::Answer;
+use super::calls::{Call, PAGE};
+use super::trial::{Case, Size, Trial, tries};
 use super::zone::{Part, Step};
 use zone_core::{Ended, ZoneError};
 
@@ -17,7 +18,7 @@ const MOVES_ITS_WORDS: &[Part<'static>] = &[Part {
         (Step::SetWord(7, 14), Answer::Value(13)),
         (Step::Commit, Answer::Stranger),
         (Step::SetWord(7, 13), Answer::Value(14)),
-        (Step::Commit, Answer::Ended(Ended::Moved)),
+        (Step::Commit, Answer::Finished(0, Ended::Moved)),
         (Step::Call(Call::Load(PAGE, 0)), Answer::Value(21)),
         (Step::Call(Call::Load(PAGE, 1)), Answer::Value(u64::MAX)),
         (Step::Call(Call::Load(PAGE, 2)), Answer::Value(1)),
@@ -124,15 +125,35 @@ const TAKES_PINS: &[Part<'static>] = &[
     },
 ];
 
+const CASES: &[Case<'static>] = &[
+    Case(
+        "a page moves with its words",
+        Size::Eight,
+        Trial::Zone(64, MOVES_ITS_WORDS),
+    ),
+    Case(
+        "strangers are refused",
+        Size::Eight,
+        Trial::Zone(64, REFUSES_STRANGERS),
+    ),
+    Case(
+        "a seat is split",
+        Size::Eight,
+        Trial::Zone(4, SPLITS_ITS_SEAT),
+    ),
+    Case(
+        "a journal is filled",
+        Size::Eight,
+        Trial::Zone(65536, FILLS_ITS_JOURNAL),
+    ),
+    Case(
+        "a page takes pins",
+        Size::Eight,
+        Trial::Zone(512, TAKES_PINS),
+    ),
+];
+
 #[test]
 fn moves_are_made_and_ended(rt: HostRuntime) {
-    for (name, places, parts) in [
-        ("a page moves with its words", 64, MOVES_ITS_WORDS),
-        ("strangers are refused", 64, REFUSES_STRANGERS),
-        ("a seat is split", 4, SPLITS_ITS_SEAT),
-        ("a journal is filled", 65536, FILLS_ITS_JOURNAL),
-        ("a page takes pins", 512, TAKES_PINS),
-    ] {
-        tries(&rt, &Case::of_zone(name, Size::Eight, places, parts));
-    }
+    tries(&rt, CASES);
 }

@@ -1,7 +1,8 @@
 //! Zones and worlds whose pages have 1, 8, 64 and 512 words.
 
-use super::calls::{Answer, Call, PAGE};
-use super::trial::{Case, Size, tries};
+use super::answers::Answer;
+use super::calls::{Call, PAGE};
+use super::trial::{Case, Size, Trial, tries};
 use super::{world, zone};
 use std::process::Abort;
 use zone::Part;
@@ -26,7 +27,10 @@ fn refuses_words_past_the_page(rt: &(impl Abort + AllocGlobal), size: Size) {
         times: 1,
         rows: &rows,
     }];
-    tries(rt, &Case::of_zone("past the page", size, 4096, &parts));
+    tries(
+        rt,
+        &[Case("past the page", size, Trial::Zone(4096, &parts))],
+    );
 }
 
 /// With one place too few in the journal no word is written.
@@ -47,10 +51,8 @@ fn needs_a_place_for_each_word(rt: &(impl Abort + AllocGlobal), size: Size) {
         times: 1,
         rows: &rows,
     }];
-    tries(
-        rt,
-        &Case::of_zone("a full journal", size, places as u32, &parts),
-    );
+    let trial = Trial::Zone(places as u32, &parts);
+    tries(rt, &[Case("a full journal", size, trial)]);
 }
 
 /// Words of which no two are alike.
@@ -80,12 +82,10 @@ fn moves_by_hand(rt: &(impl Abort + AllocGlobal), size: Size) {
         (Step::Load(words), Answer::Done),
         (Step::Call(Call::Store(PAGE, last, 7)), Answer::Done),
         (Step::Call(Call::Load(PAGE, last)), Answer::Value(7)),
-        (Step::Shut, Answer::Shut(0)),
+        (Step::Shut, Answer::Value(0)),
     ];
-    tries(
-        rt,
-        &Case::of_world("a hand moves a page", size, CallForm::Method, &rows),
-    );
+    let trial = Trial::World(CallForm::Method, &rows);
+    tries(rt, &[Case("a hand moves a page", size, trial)]);
 }
 
 #[test]

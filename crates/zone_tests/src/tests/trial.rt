@@ -35,51 +35,23 @@ impl Size {
 /// What is tried with a zone or a world that was just opened.
 #[derive(Clone, Copy)]
 pub enum Trial<'a> {
-    /// The parts are played with a zone of one pageblock that has a page.
-    Zone(&'a [Part<'a>]),
-    /// The rows are played with a world.
+    /// The parts are played with a zone of one pageblock that has a page, and so many places in its journal.
+    Zone(u32, &'a [Part<'a>]),
+    /// The rows are played with a world of one pageblock.
     World(CallForm, &'a [Row<'a>]),
-    /// Calls that are drawn are made with a world, and after each what the zone keeps is what walks find.
+    /// Calls that are drawn are made with a world of eight, and after each what the zone keeps is what walks find.
     Drawn,
 }
 
-/// A trial with its zone or world: pages of this size, so many pageblocks, and so many places in the journal.
+/// A trial with its name, and the size of its pages.
 #[derive(Clone, Copy)]
-pub struct Case<'a> {
-    pub name: &'a str,
-    pub size: Size,
-    pub blocks: u32,
-    pub places: u32,
-    pub trial: Trial<'a>,
-}
+pub struct Case<'a>(pub &'a str, pub Size, pub Trial<'a>);
 
-impl<'a> Case<'a> {
-    /// With a zone.
-    pub fn of_zone(name: &'a str, size: Size, places: u32, parts: &'a [Part<'a>]) -> Self {
-        Case {
-            name,
-            size,
-            blocks: 1,
-            places,
-            trial: Trial::Zone(parts),
-        }
+/// Opens what each case is tried with under names of its own.
+pub fn tries(rt: &(impl Abort + AllocGlobal), cases: &[Case]) {
+    for case in cases {
+        tries_in::<Brand, Brand, Brand, Brand>(rt, case, Blanks::new());
     }
-
-    /// With a world of one pageblock.
-    pub fn of_world(name: &'a str, size: Size, form: CallForm, rows: &'a [Row<'a>]) -> Self {
-        Case {
-            name,
-            size,
-            blocks: 1,
-            places: 4096,
-            trial: Trial::World(form, rows),
-        }
-    }
-}
-
-/// Opens what a case is tried with under names of its own.
-pub fn tries(rt: &(impl Abort + AllocGlobal), case: &Case) {
-    tries_in::<Brand, Brand, Brand, Brand>(rt, case, Blanks::new());
 }
 
 fn tries_in<I: Ledger, N: Ledger, M: Ledger, B: Ledger>(
@@ -89,7 +61,7 @@ fn tries_in<I: Ledger, N: Ledger, M: Ledger, B: Ledger>(
 )
     requires blanks { AreFor blanks I.name I.parts N.name N.parts M.name M.parts B.name B.parts }
 {
-    match case.size {
+    match case.1 {
         Size::One => tries_with::<1, I, N, M, B>(rt, case, blanks),
         Size::Eight => tries_with::<8, I, N, M, B>(rt, case, blanks),
         Size::SixtyFour => tries_with::<64, I, N, M, B>(rt, case, blanks),
@@ -105,11 +77,14 @@ fn tries_with<const W: usize, I: Ledger, N: Ledger, M: Ledger, B: Ledger>(
     requires blanks { AreFor blanks I.name I.parts N.name N.parts M.name M.parts B.name B.parts }
     requires size { W ≤ 65536 }
 {
-    if let Trial::Zone(parts) = case.trial {
-        let mut zone = Opened::<W, I, N, M, B>::of(rt, case.places, blanks);
-        zone.plays(rt, case.name, parts);
-    } else {
-        let mut world = OpenWorld::<W, I, N, M, B>::of(rt, case.blocks, case.places, blanks);
-        world.undergoes(rt, case);
+    let Case(name, _, trial) = *case;
+    match trial {
+        Trial::Zone(places, parts) => {
+            Opened::<W, I, N, M, B>::of(rt, places, blanks).plays(rt, name, parts);
+        }
+        Trial::World(form, rows) => {
+            OpenWorld::<W, I, N, M, B>::of(rt, 1, blanks).plays(rt, form, name, rows);
+        }
+        Trial::Drawn => OpenWorld::<W, I, N, M, B>::of(rt, 8, blanks).plays_draws(rt),
     }
 }

@@ -1,7 +1,8 @@
 //! A call that is a value does what the method of its name does, and a client may make it where it names an address.
 
-use super::calls::{Answer, Call, value_of};
-use super::trial::{Case, Size, tries};
+use super::answers::Answer;
+use super::calls::{Call, value_of};
+use super::trial::{Case, Size, Trial, tries};
 use super::world::{CallForm, Row, Step};
 use zone_core::{ClientCall, ZoneError};
 
@@ -52,7 +53,7 @@ pub const ROWS: &[Row<'static>] = &[
 #[test]
 fn calls_that_are_values_do_what_the_methods_do(rt: HostRuntime) {
     for (name, form) in [("methods", CallForm::Method), ("values", CallForm::Value)] {
-        tries(&rt, &Case::of_world(name, Size::Eight, form, ROWS));
+        tries(&rt, &[Case(name, Size::Eight, Trial::World(form, ROWS))]);
     }
 }
 

@@ -1,6 +1,7 @@
 //! After each call, what a zone keeps of its addresses, frames and counts is what walks find.
 
-use super::calls::{Answer, Call};
+use super::answers::Answer;
+use super::calls::Call;
 use super::counts::{assert_counts, assert_pages};
 use super::lists::{assert_each_walk, assert_lists, walked};
 use super::trial::{Case, Size, Trial, tries};
@@ -77,7 +78,7 @@ const CASES: [(&'static str, &'static [Row<'static>]); 5] = [
             (Step::Finish(2), Answer::Finished(1, Ended::Moved)),
             (Step::Copy(1), Answer::Done),
             (Step::Finish(1), Answer::Finished(0, Ended::Moved)),
-            (Step::Shut, Answer::Shut(0)),
+            (Step::Shut, Answer::Value(0)),
         ],
     ),
     (
@@ -132,21 +133,12 @@ pub fn assert_walks<const W: usize, I: Ledger, M: Ledger, B: Ledger>(
 #[test]
 fn lists_are_what_walks_find(rt: HostRuntime) {
     for (name, rows) in CASES {
-        tries(
-            &rt,
-            &Case::of_world(name, Size::Eight, CallForm::MethodBesideWalks, rows),
-        );
+        let trial = Trial::World(CallForm::MethodBesideWalks, rows);
+        tries(&rt, &[Case(name, Size::Eight, trial)]);
     }
 }
 
 #[test]
 fn drawn_calls_keep_what_walks_find(rt: HostRuntime) {
-    let case = Case {
-        name: "drawn calls",
-        size: Size::Eight,
-        blocks: 8,
-        places: 4096,
-        trial: Trial::Drawn,
-    };
-    tries(&rt, &case);
+    tries(&rt, &[Case("drawn calls", Size::Eight, Trial::Drawn)]);
 }

@@ -5,15 +5,13 @@ ghost use Rattle.zone_core.specs.Books.{AreFor};
 
 mod methods;
 
-use super::calls::{
-    Answer, Call, Name, PAGE, blocked, done, looked, read_as, told, unread, value_of,
-};
+use super::answers::{Answer, Shown};
+use super::calls::{Call, Name, PAGE, read_as, told, unread, value_of};
 use super::draws::Draws;
-use super::trial::{Case, Trial};
 use super::walks::{assert_kept, assert_walks};
 use super::{address, block, client, hand, word};
-use frame_core::{Record, ZoneNo};
-use machine_core::{Scanned, WorldError, WorldOf};
+use frame_core::{Journal, Record, ZoneNo};
+use machine_core::{Scanned, WorldOf};
 use std::marker::Brand;
 use std::process::Abort;
 use std::sync::ledger::Ledger;
@@ -37,6 +35,7 @@ pub enum Step<'a> {
     Take(u32),
     Copy(u32),
     Finish(u32),
+    /// Answers how many pages were put back.
     Shut,
     /// How many records the journal has.
     Journal,
@@ -65,13 +64,13 @@ pub struct OpenWorld<const W: usize, I: Ledger, N: Ledger, M: Ledger, B: Ledger>
 }
 
 impl<const W: usize, I: Ledger, N: Ledger, M: Ledger, B: Ledger> OpenWorld<W, I, N, M, B> {
-    /// So many pageblocks, and so many places in the journal.
-    pub fn of(rt: &(impl Abort + AllocGlobal), blocks: u32, places: u32, blanks: Blanks) -> Self
+    /// So many pageblocks, and 4,096 places in the journal.
+    pub fn of(rt: &(impl Abort + AllocGlobal), blocks: u32, blanks: Blanks) -> Self
         requires blanks { AreFor blanks I.name I.parts N.name N.parts M.name M.parts B.name B.parts }
         requires size { W ≤ 65536 }
     {
         let number = ZoneNo::new(3).expect(rt, "a zone");
-        let opened = WorldOf::<W, I, N, M, B>::open(rt.alloc(), number, blocks, places, blanks);
+        let opened = WorldOf::<W, I, N, M, B>::open(rt.alloc(), number, blocks, 4096, blanks);
         let world = opened.expect(rt, "a world");
         OpenWorld { world }
     }
@@ -80,17 +79,14 @@ impl<const W: usize, I: Ledger, N: Ledger, M: Ledger, B: Ledger> OpenWorld<W, I,
         self.world.zone()
     }
 
-    /// Plays the rows of a case, or calls that are drawn.
-    pub fn undergoes(&mut self, rt: &(impl Abort + AllocGlobal), case: &Case)
-        requires { W ≤ 65536 }
-    {
-        match case.trial {
-            Trial::World(form, rows) => self.plays(rt, form, case.name, rows),
-            _ => self.plays_draws(rt),
-        }
-    }
-
-    fn plays(&mut self, rt: &(impl Abort + AllocGlobal), form: CallForm, name: &str, rows: &[Row])
+    /// Plays the rows, each with the answer that it wants.
+    pub fn plays(
+        &mut self,
+        rt: &(impl Abort + AllocGlobal),
+        form: CallForm,
+        name: &str,
+        rows: &[Row],
+    )
         requires { W ≤ 65536 }
     {
         for (number, row) in rows.iter().enumerate() {
@@ -105,7 +101,7 @@ impl<const W: usize, I: Ledger, N: Ledger, M: Ledger, B: Ledger> OpenWorld<W, I,
     }
 
     /// Makes 2,000 calls that are drawn. More than a fifth of them is accepted, each with its record.
-    fn plays_draws(&mut self, rt: &(impl Abort + AllocGlobal))
+    pub fn plays_draws(&mut self, rt: &(impl Abort + AllocGlobal))
         requires { W ≤ 65536 }
     {
         let mut draws = Draws::new();
@@ -120,67 +116,56 @@ impl<const W: usize, I: Ledger, N: Ledger, M: Ledger, B: Ledger> OpenWorld<W, I,
         requires { W ≤ 65536 }
     {
         match step {
-            Step::Call(call) => match form {
-                CallForm::Value => self.by_value(rt, call),
-                _ => self.by_method(rt, call),
-            },
-            Step::Look(name) => self.look(rt, name),
-            Step::TakeHuge => self.take_huge(),
-            Step::GiveHuge(number) => self.give_huge(rt, number),
+            Step::Call(call) => self.call(rt, form, call),
+            Step::Look(name) => self.zone().look(address(rt, name)).shown(),
+            Step::TakeHuge => self.world.take_huge().shown(),
+            Step::GiveHuge(number) => self.world.give_huge(block(rt, number)).shown(),
             Step::Write(values) => self.write(rt, values),
             Step::Read(want) => self.read(rt, want),
             Step::Load(want) => self.load_each(rt, want),
-            Step::Scan => self.scan(),
-            Step::Take(number) => self.take(rt, number),
-            Step::Copy(number) => self.copy(rt, number),
-            Step::Finish(number) => self.finish(rt, number),
-            Step::Shut => self.shut(),
-            Step::Journal => self.journal(),
-            Step::Record(number) => self.record(rt, number),
+            Step::Journal => self.zone().journal().len().shown(),
+            Step::Record(number) => recorded(rt, self.zone().journal(), number),
+            _ => self.make_by_hand(rt, step),
         }
     }
 
-    fn look(&self, rt: &impl Abort, name: Name) -> Answer {
-        looked(self.zone().look(address(rt, name)))
+    fn make_by_hand(&mut self, rt: &impl Abort, step: Step) -> Answer {
+        match step {
+            Step::Scan => self.world.scan().shown(),
+            Step::Take(number) => {
+                let taken = self.world.take(hand(rt, number));
+                taken.map(Scanned::Serial).shown()
+            }
+            Step::Copy(number) => self.world.copy(hand(rt, number)).shown(),
+            Step::Finish(number) => self.world.finish(hand(rt, number)).shown(),
+            Step::Shut => self.world.shut().shown(),
+            _ => panic!(rt; "another step"),
+        }
     }
 
-    fn take_huge(&mut self) -> Answer {
-        blocked(self.world.take_huge())
-    }
-
-    fn give_huge(&mut self, rt: &impl Abort, number: u32) -> Answer {
-        done(self.world.give_huge(block(rt, number)))
-    }
-
-    fn journal(&self) -> Answer {
-        Answer::Value(self.zone().journal().len())
-    }
-
-    fn by_value(&mut self, rt: &impl Abort, call: Call) -> Answer
+    fn call(&mut self, rt: &impl Abort, form: CallForm, call: Call) -> Answer
         requires { W ≤ 65536 }
     {
-        let answer = self.world.make(client(rt), value_of(rt, call));
-        told(call, answer)
+        let value = value_of(rt, call);
+        match form {
+            CallForm::Value => told(call, self.world.make(client(rt), value)),
+            _ => self.by_method(client(rt), value),
+        }
     }
 
     fn write(&mut self, rt: &impl Abort, values: &[u64]) -> Answer
         requires { W ≤ 65536 }
     {
-        let first = word(rt, 0);
-        done(
-            self.world
-                .write(client(rt), address(rt, PAGE), first, values),
-        )
+        let (page, first) = (address(rt, PAGE), word(rt, 0));
+        self.world.write(client(rt), page, first, values).shown()
     }
 
     fn read(&mut self, rt: &(impl Abort + AllocGlobal), want: &[u64]) -> Answer
         requires { W ≤ 65536 }
     {
-        let first = word(rt, 0);
+        let (page, first) = (address(rt, PAGE), word(rt, 0));
         let mut words = unread(rt, want.len());
-        let answer = self
-            .world
-            .read(client(rt), address(rt, PAGE), first, &mut words);
+        let answer = self.world.read(client(rt), page, first, &mut words);
         read_as(rt, answer, &words, want)
     }
 
@@ -188,71 +173,29 @@ impl<const W: usize, I: Ledger, N: Ledger, M: Ledger, B: Ledger> OpenWorld<W, I,
         requires { W ≤ 65536 }
     {
         for (number, value) in (0..512).zip(want) {
-            let loaded = self.by_method(rt, Call::Load(PAGE, number));
+            let loaded = self.call(rt, CallForm::Method, Call::Load(PAGE, number));
             assert!(rt; loaded == Answer::Value(*value), "word {number}");
         }
         Answer::Done
     }
-
-    fn record(&self, rt: &impl Abort, number: usize) -> Answer {
-        let records = self.zone().journal().kept().expect(rt, "a kept journal");
-        let Some(
-            Record::Load {
-                client,
-                address,
-                word,
-                value,
-            },
-        ) = records.get(number)
-        else {
-            panic!(rt; "no load");
-        };
-        let name = (address.space.get(), address.vpage.get());
-        Answer::Loaded(client.get(), name, *word, *value)
-    }
-
-    fn scan(&mut self) -> Answer {
-        match self.world.scan() {
-            Ok(Scanned::Serial(serial)) => Answer::Serial(serial),
-            Ok(Scanned::Met) => Answer::Met,
-            Err(error) => refused(error),
-        }
-    }
-
-    fn take(&mut self, rt: &impl Abort, number: u32) -> Answer {
-        match self.world.take(hand(rt, number)) {
-            Ok(serial) => Answer::Serial(serial),
-            Err(error) => refused(error),
-        }
-    }
-
-    fn copy(&mut self, rt: &impl Abort, number: u32) -> Answer {
-        match self.world.copy(hand(rt, number)) {
-            Ok(()) => Answer::Done,
-            Err(error) => refused(error),
-        }
-    }
-
-    fn finish(&mut self, rt: &impl Abort, number: u32) -> Answer {
-        match self.world.finish(hand(rt, number)) {
-            Ok(finished) => Answer::Finished(finished.serial, finished.ended),
-            Err(error) => refused(error),
-        }
-    }
-
-    fn shut(&mut self) -> Answer {
-        match self.world.shut() {
-            Ok(count) => Answer::Shut(count),
-            Err(error) => refused(error),
-        }
-    }
 }
 
-fn refused(error: WorldError) -> Answer {
-    match error {
-        WorldError::Zone(error) => Answer::Refused(error),
-        WorldError::Hand => Answer::NotInHand,
-    }
+/// The record of a journal with this number, which is that of a load.
+fn recorded(rt: &impl Abort, journal: &Journal, number: usize) -> Answer {
+    let record = journal.kept().expect(rt, "a kept journal").get(number);
+    let Some(
+        Record::Load {
+            client,
+            address,
+            word,
+            value,
+        },
+    ) = record
+    else {
+        panic!(rt; "no load");
+    };
+    let name = (address.space.get(), address.vpage.get());
+    Answer::Loaded(client.get(), name, *word, *value)
 }
 
 /// A world is handed back as it was where its round is open, and comes apart once it is shut.
@@ -262,7 +205,7 @@ fn comes_apart<I: Ledger, N: Ledger, M: Ledger, B: Ledger>(
 )
     requires blanks { AreFor blanks I.name I.parts N.name N.parts M.name M.parts B.name B.parts }
 {
-    let mut world = OpenWorld::<8, I, N, M, B>::of(rt, 1, 64, blanks).world;
+    let mut world = OpenWorld::<8, I, N, M, B>::of(rt, 1, blanks).world;
     assert!(rt; world.scan() == Ok(Scanned::Met));
     let mut world = world.split().err().expect(rt, "an open round");
     assert!(rt; world.is_open());

@@ -6,7 +6,8 @@ ghost use Rattle.zone_core.specs.Books.{AreFor};
 mod moves;
 mod words;
 
-use super::calls::{Answer, Call, PAGE, told, value_of};
+use super::answers::{Answer, Shown};
+use super::calls::{Call, PAGE, told, value_of};
 use super::client;
 use frame_core::{IsolatedOf, Serial, ZoneNo};
 use std::process::Abort;
@@ -123,18 +124,8 @@ impl<const W: usize, I: Ledger, N: Ledger, M: Ledger, B: Ledger> Opened<W, I, N,
             Step::WriteBlock(block, from, values) => self.write_block(rt, block, from, values),
             Step::ReadBlock(block, from, want) => self.read_block(rt, block, from, want),
             Step::Lend(block, value, last) => self.lend(rt, block, value, last),
-            Step::Round => self.begin(),
-            Step::Isolate => self.isolate(rt),
-            Step::SetWord(number, value) => self.set_word(rt, number, value),
-            Step::Commit => self.commit_page(rt),
-            Step::PutBack => self.put_page_back(rt),
-            Step::Stranger(zone, number, serial) => self.bring(rt, zone, number, serial),
-            Step::Split => self.split(rt),
-            Step::Swap => self.swap(rt),
-            Step::Join => self.join(rt),
-            Step::Audit => self.audit(),
-            Step::Quiet => Answer::Is(self.zone.quiet()),
-            Step::Journal => Answer::Value(self.zone.journal().len()),
+            Step::Journal => self.zone.journal().len().shown(),
+            _ => self.move_page(rt, step),
         }
     }
 

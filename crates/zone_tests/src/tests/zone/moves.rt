@@ -2,30 +2,57 @@
 
 ghost use Rattle.std.specs.Prelude.{◌≤◌};
 
-use super::super::calls::{Answer, PAGE};
+use super::super::answers::{Answer, Shown};
+use super::super::calls::PAGE;
 use super::super::{address, word};
-use super::Opened;
+use super::{Opened, Step};
 use frame_core::{IsolatedOf, PageNo, PageOf, Serial, ZoneNo};
 use std::process::Abort;
 use std::sync::ledger::Ledger;
-use zone_core::{Ended, Info, Look, Next, Stranger, ZoneError};
+use zone_core::{Info, Look, Next, Stranger, ZoneError};
 
 /// What is told of a zone: its counts, the length of its journal, and what is known of its page.
 type Told = (Info, u64, Result<Look, ZoneError>);
 
 impl<const W: usize, I: Ledger, N: Ledger, M: Ledger, B: Ledger> Opened<W, I, N, M, B> {
+    pub fn move_page(&mut self, rt: &impl Abort, step: Step) -> Answer
+        requires { W ≤ 65536 }
+    {
+        match step {
+            Step::Round => self.begin(),
+            Step::Isolate => self.isolate(rt),
+            Step::SetWord(number, value) => self.set_word(rt, number, value),
+            Step::Commit => self.commit(rt),
+            Step::PutBack => self.put_back(rt),
+            Step::Stranger(zone, number, serial) => self.bring(rt, zone, number, serial),
+            Step::Quiet => Answer::Is(self.zone.quiet()),
+            _ => self.count(rt, step),
+        }
+    }
+
+    /// A step with the seats.
+    fn count(&mut self, rt: &impl Abort, step: Step) -> Answer {
+        match step {
+            Step::Split => self.split(rt),
+            Step::Swap => self.swap(rt),
+            Step::Join => self.join(rt),
+            Step::Audit => self.zone.audit(&mut self.scan, &mut self.ends).shown(),
+            _ => panic!(rt; "another step"),
+        }
+    }
+
     fn told(&self, rt: &impl Abort) -> Told {
         let look = self.zone.look(address(rt, PAGE));
         (self.zone.info(), self.zone.journal().len(), look)
     }
 
-    pub fn begin(&mut self) -> Answer {
+    fn begin(&mut self) -> Answer {
         self.zone.begin_round(&mut self.scan);
         Answer::Done
     }
 
     /// Its serial is the number of pages that were isolated before it.
-    pub fn isolate(&mut self, rt: &impl Abort) -> Answer {
+    fn isolate(&mut self, rt: &impl Abort) -> Answer {
         self.begin();
         match self.zone.isolate_next(&mut self.scan) {
             Ok(Next::Page(page)) => {
@@ -35,7 +62,7 @@ impl<const W: usize, I: Ledger, N: Ledger, M: Ledger, B: Ledger> Opened<W, I, N,
                 Answer::Page
             }
             Ok(Next::Met) => Answer::Met,
-            Err(error) => Answer::Refused(error),
+            Err(error) => error.shown(),
         }
     }
 
@@ -43,7 +70,7 @@ impl<const W: usize, I: Ledger, N: Ledger, M: Ledger, B: Ledger> Opened<W, I, N,
         self.page.take().expect(rt, "an isolated page")
     }
 
-    pub fn set_word(&mut self, rt: &impl Abort, number: u32, value: u64) -> Answer
+    fn set_word(&mut self, rt: &impl Abort, number: u32, value: u64) -> Answer
         requires { W ≤ 65536 }
     {
         let word = word(rt, number);
@@ -56,72 +83,59 @@ impl<const W: usize, I: Ledger, N: Ledger, M: Ledger, B: Ledger> Opened<W, I, N,
         Answer::Value(before)
     }
 
-    /// Where the zone refuses the copy, it comes back, and the zone is as before.
-    fn commit(&mut self, rt: &impl Abort, page: IsolatedOf<W>) -> Result<Ended, IsolatedOf<W>> {
+    /// Where the zone refuses the copy, the page comes back with its words, and the zone is as before.
+    fn commit(&mut self, rt: &impl Abort) -> Answer {
         let before = self.told(rt);
+        let page = self.take_page(rt);
         let serial = page.serial();
         match self.zone.commit(&mut self.ends, page.copy_into_new()) {
-            Ok(ended) => Ok(ended),
+            Ok(ended) => Answer::Finished(serial, ended),
             Err(Stranger(copy)) => {
                 assert!(rt; copy.serial() == serial);
-                assert!(rt; self.told(rt) == before);
-                Err(IsolatedOf::new(serial, copy.into_page()))
+                self.comes_back(rt, before, IsolatedOf::new(serial, copy.into_page()))
             }
         }
     }
 
     /// Where the zone refuses the page, it comes back, and the zone is as before.
-    fn put_back(&mut self, rt: &impl Abort, page: IsolatedOf<W>) -> Result<(), IsolatedOf<W>> {
+    fn put_back(&mut self, rt: &impl Abort) -> Answer {
         let before = self.told(rt);
+        let page = self.take_page(rt);
         let serial = page.serial();
         match self.zone.put_back(&mut self.ends, page) {
-            Ok(()) => Ok(()),
+            Ok(()) => Answer::Done,
             Err(Stranger(page)) => {
                 assert!(rt; page.serial() == serial);
-                assert!(rt; self.told(rt) == before);
-                Err(page)
+                self.comes_back(rt, before, page)
             }
         }
     }
 
-    pub fn commit_page(&mut self, rt: &impl Abort) -> Answer {
-        let page = self.take_page(rt);
-        match self.commit(rt, page) {
-            Ok(ended) => Answer::Ended(ended),
-            Err(page) => {
-                self.page = Some(page);
-                Answer::Stranger
-            }
-        }
-    }
-
-    pub fn put_page_back(&mut self, rt: &impl Abort) -> Answer {
-        let page = self.take_page(rt);
-        match self.put_back(rt, page) {
-            Ok(()) => Answer::Done,
-            Err(page) => {
-                self.page = Some(page);
-                Answer::Stranger
-            }
-        }
-    }
-
-    pub fn bring(&mut self, rt: &impl Abort, zone: u32, number: u32, serial: Serial) -> Answer {
-        let zone = ZoneNo::new(zone).expect(rt, "a zone");
-        let number = PageNo::new(number).expect(rt, "a page");
-        let page = IsolatedOf::new(serial, PageOf::new(zone, number));
-        let Err(page) = self.commit(rt, page) else {
-            return Answer::Done;
-        };
-        let Err(page) = self.put_back(rt, page) else {
-            return Answer::Done;
-        };
-        let page = page.into_page();
-        assert!(rt; (page.zone(), page.number()) == (zone, number));
+    /// The zone is as it was before it refused the page.
+    fn comes_back(&mut self, rt: &impl Abort, before: Told, page: IsolatedOf<W>) -> Answer {
+        assert!(rt; self.told(rt) == before);
+        self.page = Some(page);
         Answer::Stranger
     }
 
-    pub fn split(&mut self, rt: &impl Abort) -> Answer {
+    fn bring(&mut self, rt: &impl Abort, zone: u32, number: u32, serial: Serial) -> Answer {
+        let zone = ZoneNo::new(zone).expect(rt, "a zone");
+        let number = PageNo::new(number).expect(rt, "a page");
+        let kept = self
+            .page
+            .replace(IsolatedOf::new(serial, PageOf::new(zone, number)));
+        assert!(rt;
+            self.commit(rt) == Answer::Stranger,
+            "a copy of a stranger is taken"
+        );
+        let answer = self.put_back(rt);
+        let page = self.take_page(rt).into_page();
+        assert!(rt; (page.zone(), page.number()) == (zone, number));
+        self.page = kept;
+        answer
+    }
+
+    fn split(&mut self, rt: &impl Abort) -> Answer {
         match self.ends.split() {
             Some(part) => {
                 self.parts.push(part).expect(rt, "memory");
@@ -131,22 +145,15 @@ impl<const W: usize, I: Ledger, N: Ledger, M: Ledger, B: Ledger> Opened<W, I, N,
         }
     }
 
-    pub fn swap(&mut self, rt: &impl Abort) -> Answer {
+    fn swap(&mut self, rt: &impl Abort) -> Answer {
         let first = self.parts.first_mut().expect(rt, "a part");
         std::mem::swap(&mut self.ends, first);
         Answer::Done
     }
 
-    pub fn join(&mut self, rt: &impl Abort) -> Answer {
+    fn join(&mut self, rt: &impl Abort) -> Answer {
         let part = self.parts.pop().expect(rt, "a part");
         self.ends.join(part);
         Answer::Done
-    }
-
-    pub fn audit(&mut self) -> Answer {
-        match self.zone.audit(&mut self.scan, &mut self.ends) {
-            Ok(audit) => Answer::Audited(audit.isolated, audit.moved, audit.back),
-            Err(error) => Answer::Refused(error),
-        }
     }
 }

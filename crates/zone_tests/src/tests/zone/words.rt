@@ -2,9 +2,11 @@
 
 ghost use Rattle.std.specs.Prelude.{◌≤◌};
 
-use super::super::calls::{Answer, PAGE, done, read_as, unread};
+use super::super::answers::{Answer, Shown};
+use super::super::calls::{PAGE, read_as, unread};
 use super::super::{address, client, frame, order, word};
 use super::{Block, Opened};
+use frame_core::{FrameNo, Order};
 use std::process::Abort;
 use std::sync::ledger::Ledger;
 
@@ -12,18 +14,16 @@ impl<const W: usize, I: Ledger, N: Ledger, M: Ledger, B: Ledger> Opened<W, I, N,
     pub fn write(&mut self, rt: &impl Abort, from: u32, values: &[u64]) -> Answer
         requires { W ≤ 65536 }
     {
-        let from = word(rt, from);
-        done(self.zone.write(client(rt), address(rt, PAGE), from, values))
+        let (page, from) = (address(rt, PAGE), word(rt, from));
+        self.zone.write(client(rt), page, from, values).shown()
     }
 
     pub fn read(&mut self, rt: &(impl Abort + AllocGlobal), from: u32, want: &[u64]) -> Answer
         requires { W ≤ 65536 }
     {
-        let from = word(rt, from);
+        let (page, from) = (address(rt, PAGE), word(rt, from));
         let mut words = unread(rt, want.len());
-        let answer = self
-            .zone
-            .read(client(rt), address(rt, PAGE), from, &mut words);
+        let answer = self.zone.read(client(rt), page, from, &mut words);
         read_as(rt, answer, &words, want)
     }
 
@@ -34,12 +34,8 @@ impl<const W: usize, I: Ledger, N: Ledger, M: Ledger, B: Ledger> Opened<W, I, N,
         from: usize,
         values: &[u64],
     ) -> Answer {
-        let (first, number) = block;
-        let first = frame(rt, first);
-        done(
-            self.zone
-                .write_block(first, order(rt, number), from, values),
-        )
+        let (first, order) = placed(rt, block);
+        self.zone.write_block(first, order, from, values).shown()
     }
 
     pub fn read_block(
@@ -49,29 +45,26 @@ impl<const W: usize, I: Ledger, N: Ledger, M: Ledger, B: Ledger> Opened<W, I, N,
         from: usize,
         want: &[u64],
     ) -> Answer {
-        let (first, number) = block;
-        let first = frame(rt, first);
+        let (first, order) = placed(rt, block);
         let mut words = unread(rt, want.len());
-        let answer = self
-            .zone
-            .read_block(first, order(rt, number), from, &mut words);
+        let answer = self.zone.read_block(first, order, from, &mut words);
         read_as(rt, answer, &words, want)
     }
 
     pub fn lend(&mut self, rt: &impl Abort, block: Block, value: u64, last: u64) -> Answer {
-        let (first, number) = block;
-        let lent = self
-            .zone
-            .with_block(frame(rt, first), order(rt, number), |words| {
-                words.fill(value);
-                if let Some(word) = words.last_mut() {
-                    *word = last;
-                }
-                words.len()
-            });
-        match lent {
-            Ok(count) => Answer::Value(count as u64),
-            Err(error) => Answer::Refused(error),
-        }
+        let (first, order) = placed(rt, block);
+        let lent = self.zone.with_block(first, order, |words| {
+            words.fill(value);
+            if let Some(word) = words.last_mut() {
+                *word = last;
+            }
+            words.len() as u64
+        });
+        lent.shown()
     }
+}
+
+fn placed(rt: &impl Abort, block: Block) -> (FrameNo, Order) {
+    let (first, number) = block;
+    (frame(rt, first), order(rt, number))
 }
