@@ -3,6 +3,7 @@
 use super::calls::Name;
 use frame_core::{BlockNo, FrameNo, Serial};
 use machine_core::{Finished, Scanned, WorldError};
+use std::process::Abort;
 use zone_core::{Audit, Ended, Look, ZoneAnswer, ZoneError};
 
 /// What a step with a zone or a world answers.
@@ -40,6 +41,11 @@ pub enum Answer {
     NotInHand,
     /// The record of a load: by which client, of which word of which page, and its value.
     Loaded(u32, Name, u16, u64),
+}
+
+/// A step of a case has the answer that its row wants.
+pub fn assert_answer(rt: &impl Abort, answer: Answer, want: Answer, case: &str, step: usize) {
+    assert!(rt; answer == want, "{case}, step {step}");
 }
 
 /// What a call gives, shown with plain numbers.

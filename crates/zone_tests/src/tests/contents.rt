@@ -104,5 +104,7 @@ const CASES: &[Case<'static>] = &[
 
 #[test]
 fn blocks_keep_their_words(rt: HostRuntime) {
-    tries(&rt, CASES);
+    for case in CASES {
+        tries(&rt, case);
+    }
 }

@@ -24,9 +24,7 @@ pub fn assert_counts(
     assert!(rt; told.huge as usize == blocks_out(records));
     assert!(rt; (frames.free(), frames.whole_blocks()) == (told.free, told.whole));
     assert_free(rt, frames, &states);
-    for number in 3..10 {
-        assert_run(rt, frames, &states, number);
-    }
+    assert_runs(rt, frames, &states);
     assert_newest(rt, records, &states);
 }
 
@@ -50,39 +48,29 @@ struct Uses {
     held: u32,
 }
 
-impl Uses {
-    fn none() -> Uses {
-        Uses {
-            free: 0,
-            pages: 0,
-            sources: 0,
-            targets: 0,
-            held: 0,
-        }
-    }
-
-    fn of(states: &[FrameState]) -> Uses {
-        let mut uses = Uses::none();
-        for state in states {
-            uses.add(state);
-        }
-        uses
-    }
-
-    fn add(&mut self, state: &FrameState) {
+fn uses_of(states: &[FrameState]) -> Uses {
+    let mut uses = Uses {
+        free: 0,
+        pages: 0,
+        sources: 0,
+        targets: 0,
+        held: 0,
+    };
+    for state in states {
         match state {
-            FrameState::Free => self.free = self.free.saturating_add(1),
-            FrameState::Holds(_) => self.pages = self.pages.saturating_add(1),
-            FrameState::Source(_) => self.sources = self.sources.saturating_add(1),
-            FrameState::Target(_) => self.targets = self.targets.saturating_add(1),
-            FrameState::Huge => self.held = self.held.saturating_add(1),
+            FrameState::Free => uses.free = uses.free.saturating_add(1),
+            FrameState::Holds(_) => uses.pages = uses.pages.saturating_add(1),
+            FrameState::Source(_) => uses.sources = uses.sources.saturating_add(1),
+            FrameState::Target(_) => uses.targets = uses.targets.saturating_add(1),
+            FrameState::Huge => uses.held = uses.held.saturating_add(1),
         }
     }
+    uses
 }
 
 /// A page that is moving has two frames.
 fn assert_told(rt: &impl Abort, told: Info, states: &[FrameState]) {
-    let uses = Uses::of(states);
+    let uses = uses_of(states);
     assert!(rt; (told.free, told.held) == (uses.free, uses.held));
     assert!(rt; told.pages == uses.pages.saturating_add(uses.sources));
     assert!(rt; (told.moving, told.moving) == (uses.sources, uses.targets));
@@ -133,11 +121,13 @@ fn assert_free(rt: &impl Abort, frames: &Frames, states: &[FrameState]) {
     assert!(rt; place_of(frames.lowest_free()) == states.iter().position(is_free));
 }
 
-/// The first run of an order is the lowest aligned one whose frames are all free.
-fn assert_run(rt: &impl Abort, frames: &Frames, states: &[FrameState], number: u32) {
-    let order = order(rt, number);
-    let first = place_of(frames.first_run(order));
-    assert!(rt; first == first_run(states, order.frames() as usize));
+/// The first run of each order is the lowest aligned one whose frames are all free.
+fn assert_runs(rt: &impl Abort, frames: &Frames, states: &[FrameState]) {
+    for number in 3..10 {
+        let order = order(rt, number);
+        let first = place_of(frames.first_run(order));
+        assert!(rt; first == first_run(states, order.frames() as usize));
+    }
 }
 
 fn first_run(states: &[FrameState], size: usize) -> Option<usize>
@@ -192,14 +182,19 @@ pub fn assert_pages<const W: usize, I: Ledger, M: Ledger, B: Ledger>(
     zone: &ZoneOf<W, I, M, B>,
     lists: &[Listed],
 ) {
-    for number in 0..zone.frames().len() {
+    let frames = zone.frames();
+    for number in 0..frames.len() {
         let list = lists.get(number as usize).expect(rt, "a list");
+        let frame = frame(rt, number);
         match list.addresses.first() {
             Some(address) => {
                 let told = zone.look(*address).ok().expect(rt, "a page");
-                assert_page(rt, zone.frames(), frame(rt, number), list, told);
+                assert_page(rt, frames, frame, list, told);
             }
-            None => assert_no_page(rt, zone.frames(), frame(rt, number)),
+            None => {
+                let state = frames.state(frame);
+                assert!(rt; !matches!(state, FrameState::Holds(_) | FrameState::Source(_)));
+            }
         }
     }
 }
@@ -229,11 +224,4 @@ fn assert_page(rt: &impl Abort, frames: &Frames, frame: FrameNo, list: &Listed, 
             assert!(rt; maps as usize == addresses);
         }
     }
-}
-
-fn assert_no_page(rt: &impl Abort, frames: &Frames, frame: FrameNo)
-    requires { frame < length frames.now.states }
-{
-    let state = frames.state(frame);
-    assert!(rt; !matches!(state, FrameState::Holds(_) | FrameState::Source(_)));
 }

@@ -1,10 +1,10 @@
 //! The addresses that are listed under each frame, beside what walks over all entries find.
 
-ghost use Rattle.std.specs.Prelude.{◌≡◌, ◌<◌, length};
+ghost use Rattle.std.specs.Prelude.{◌≡◌, length};
 
 use super::{address, frame};
 use arrayvec::ArrayVec;
-use frame_core::{Address, FrameNo, FrameState};
+use frame_core::{Address, FrameState};
 use scan_core::Frames;
 use std::process::Abort;
 use table_core::{Entry, Tables};
@@ -17,13 +17,6 @@ pub struct Listed {
 }
 
 impl Listed {
-    fn none() -> Self {
-        Listed {
-            entry: Entry::Absent,
-            addresses: ArrayVec::new(),
-        }
-    }
-
     /// Each address that is listed under one frame has the same entry.
     fn add(&mut self, rt: &impl Abort, entry: Entry, address: Address) {
         assert!(rt; self.addresses.is_empty() || self.entry == entry);
@@ -39,7 +32,8 @@ impl Listed {
 pub fn walked(rt: &(impl Abort + AllocGlobal), tables: &Tables, frames: u32) -> Vec<Listed> {
     let mut lists = Vec::new(rt.alloc());
     for _ in 0..frames {
-        lists.push(Listed::none()).expect(rt, "memory");
+        let (entry, addresses) = (Entry::Absent, ArrayVec::new());
+        lists.push(Listed { entry, addresses }).expect(rt, "memory");
     }
     for space in 0..8 {
         list_space(rt, tables, space, &mut lists);
@@ -47,24 +41,16 @@ pub fn walked(rt: &(impl Abort + AllocGlobal), tables: &Tables, frames: u32) -> 
     lists
 }
 
+/// Lists each address of a space that has an entry, under the frame that the entry names or that its page left.
 fn list_space(rt: &impl Abort, tables: &Tables, space: u32, lists: &mut Vec<Listed>) {
     for vpage in 0..4096 {
-        let entry = tables.entry(address(rt, (space, vpage)));
-        if let Some(frame) = frame_of(&entry) {
-            let Some(list) = lists.get_mut(frame.get() as usize) else {
-                panic!(rt; "no frame of the zone");
-            };
-            list.add(rt, entry, address(rt, (space, vpage)));
+        let address = address(rt, (space, vpage));
+        let entry = tables.entry(address);
+        if let Entry::Present(frame) | Entry::Migration { source: frame, .. } = entry {
+            let list = lists.get_mut(frame.get() as usize);
+            list.expect(rt, "a frame of the zone")
+                .add(rt, entry, address);
         }
-    }
-}
-
-/// The frame under which an address with this entry is listed.
-fn frame_of(entry: &Entry) -> Option<FrameNo> {
-    match *entry {
-        Entry::Absent => None,
-        Entry::Present(frame) => Some(frame),
-        Entry::Migration { source, .. } => Some(source),
     }
 }
 
@@ -73,20 +59,15 @@ pub fn assert_lists(rt: &impl Abort, tables: &Tables, frames: &Frames, lists: &[
     requires { length frames.now.states ≡ tables.now.frames }
 {
     for number in 0..frames.len() {
+        let frame = frame(rt, number);
         let list = lists.get(number as usize).expect(rt, "a list");
-        assert_list(rt, tables, frame(rt, number), list);
-    }
-}
-
-fn assert_list(rt: &impl Abort, tables: &Tables, frame: FrameNo, list: &Listed)
-    requires { frame < tables.now.frames }
-{
-    let addresses = list.addresses.as_slice();
-    if let Entry::Migration { serial, .. } = list.entry {
-        assert!(rt; &*tables.mappings_moving(serial, frame) == addresses);
-        assert!(rt; tables.mappings(frame).is_empty());
-    } else {
-        assert!(rt; &*tables.mappings(frame) == addresses);
+        let addresses = list.addresses.as_slice();
+        if let Entry::Migration { serial, .. } = list.entry {
+            assert!(rt; &*tables.mappings_moving(serial, frame) == addresses);
+            assert!(rt; tables.mappings(frame).is_empty());
+        } else {
+            assert!(rt; &*tables.mappings(frame) == addresses);
+        }
     }
 }
 
@@ -96,20 +77,14 @@ pub fn assert_each_walk(rt: &impl Abort, tables: &Tables, frames: &Frames)
 {
     for number in 0..frames.len() {
         let frame = frame(rt, number);
-        assert_walk(rt, tables, frame, frames.state(frame));
-    }
-}
-
-fn assert_walk(rt: &impl Abort, tables: &Tables, frame: FrameNo, state: FrameState)
-    requires { frame < tables.now.frames }
-{
-    match state {
-        FrameState::Holds(_) => {
-            assert!(rt; *tables.mappings(frame) == *tables.walk_mappings(frame));
+        let kept = tables.mappings(frame);
+        match frames.state(frame) {
+            FrameState::Holds(_) => assert!(rt; *kept == *tables.walk_mappings(frame)),
+            FrameState::Source(serial) => {
+                let moving = tables.mappings_moving(serial, frame);
+                assert!(rt; *moving == *tables.walk_moving(serial));
+            }
+            _ => assert!(rt; kept.is_empty()),
         }
-        FrameState::Source(serial) => {
-            assert!(rt; *tables.mappings_moving(serial, frame) == *tables.walk_moving(serial));
-        }
-        _ => assert!(rt; tables.mappings(frame).is_empty()),
     }
 }

@@ -155,5 +155,7 @@ const CASES: &[Case<'static>] = &[
 
 #[test]
 fn moves_are_made_and_ended(rt: HostRuntime) {
-    tries(&rt, CASES);
+    for case in CASES {
+        tries(&rt, case);
+    }
 }

@@ -2,11 +2,23 @@
 
 use super::answers::Answer;
 use super::calls::{Call, PAGE};
-use super::trial::{Case, Size, Trial, tries};
+use super::trial::{Case, Size, tries};
 use super::{world, zone};
 use std::process::Abort;
 use zone::Part;
 use zone_core::{Ended, ZoneError};
+
+/// Plays rows with a zone that has so many places in its journal.
+fn plays<'a>(
+    rt: &(impl Abort + AllocGlobal),
+    name: &'a str,
+    size: Size,
+    places: u32,
+    rows: &'a [(zone::Step<'a>, Answer)],
+) {
+    let parts = [Part { times: 1, rows }];
+    tries(rt, &Case::of_zone(name, size, places, &parts));
+}
 
 /// Words that go past the page are refused, and nothing is read or written.
 fn refuses_words_past_the_page(rt: &(impl Abort + AllocGlobal), size: Size) {
@@ -23,14 +35,7 @@ fn refuses_words_past_the_page(rt: &(impl Abort + AllocGlobal), size: Size) {
         (Step::Call(Call::Load(PAGE, last)), Answer::Value(7)),
         (Step::Journal, Answer::Value(4)),
     ];
-    let parts = [Part {
-        times: 1,
-        rows: &rows,
-    }];
-    tries(
-        rt,
-        &[Case("past the page", size, Trial::Zone(4096, &parts))],
-    );
+    plays(rt, "past the page", size, 4096, &rows);
 }
 
 /// With one place too few in the journal no word is written.
@@ -47,12 +52,7 @@ fn needs_a_place_for_each_word(rt: &(impl Abort + AllocGlobal), size: Size) {
         (Step::Write(0, &words[1..places]), Answer::Done),
         (Step::Journal, Answer::Value(places as u64)),
     ];
-    let parts = [Part {
-        times: 1,
-        rows: &rows,
-    }];
-    let trial = Trial::Zone(places as u32, &parts);
-    tries(rt, &[Case("a full journal", size, trial)]);
+    plays(rt, "a full journal", size, places as u32, &rows);
 }
 
 /// Words of which no two are alike.
@@ -84,8 +84,8 @@ fn moves_by_hand(rt: &(impl Abort + AllocGlobal), size: Size) {
         (Step::Call(Call::Load(PAGE, last)), Answer::Value(7)),
         (Step::Shut, Answer::Value(0)),
     ];
-    let trial = Trial::World(CallForm::Method, &rows);
-    tries(rt, &[Case("a hand moves a page", size, trial)]);
+    let case = Case::of_world("a hand moves a page", size, CallForm::Method, &rows);
+    tries(rt, &case);
 }
 
 #[test]

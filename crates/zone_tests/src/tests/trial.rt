@@ -47,11 +47,19 @@ pub enum Trial<'a> {
 #[derive(Clone, Copy)]
 pub struct Case<'a>(pub &'a str, pub Size, pub Trial<'a>);
 
-/// Opens what each case is tried with under names of its own.
-pub fn tries(rt: &(impl Abort + AllocGlobal), cases: &[Case]) {
-    for case in cases {
-        tries_in::<Brand, Brand, Brand, Brand>(rt, case, Blanks::new());
+impl<'a> Case<'a> {
+    pub fn of_zone(name: &'a str, size: Size, places: u32, parts: &'a [Part<'a>]) -> Self {
+        Case(name, size, Trial::Zone(places, parts))
     }
+
+    pub fn of_world(name: &'a str, size: Size, form: CallForm, rows: &'a [Row<'a>]) -> Self {
+        Case(name, size, Trial::World(form, rows))
+    }
+}
+
+/// Opens what a case is tried with under names of its own.
+pub fn tries(rt: &(impl Abort + AllocGlobal), case: &Case) {
+    tries_in::<Brand, Brand, Brand, Brand>(rt, case, Blanks::new());
 }
 
 fn tries_in<I: Ledger, N: Ledger, M: Ledger, B: Ledger>(

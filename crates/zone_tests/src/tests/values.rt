@@ -2,7 +2,7 @@
 
 use super::answers::Answer;
 use super::calls::{Call, value_of};
-use super::trial::{Case, Size, Trial, tries};
+use super::trial::{Case, Size, tries};
 use super::world::{CallForm, Row, Step};
 use zone_core::{ClientCall, ZoneError};
 
@@ -53,7 +53,7 @@ pub const ROWS: &[Row<'static>] = &[
 #[test]
 fn calls_that_are_values_do_what_the_methods_do(rt: HostRuntime) {
     for (name, form) in [("methods", CallForm::Method), ("values", CallForm::Value)] {
-        tries(&rt, &[Case(name, Size::Eight, Trial::World(form, ROWS))]);
+        tries(&rt, &Case::of_world(name, Size::Eight, form, ROWS));
     }
 }
 

@@ -3,7 +3,7 @@
 use super::answers::Answer;
 use super::calls::Call;
 use super::counts::{assert_counts, assert_pages};
-use super::lists::{assert_each_walk, assert_lists, walked};
+use super::lists::{assert_lists, walked};
 use super::trial::{Case, Size, Trial, tries};
 use super::values::ROWS;
 use super::world::{CallForm, Row, Step};
@@ -122,23 +122,15 @@ pub fn assert_kept<const W: usize, I: Ledger, M: Ledger, B: Ledger>(
     assert_counts(rt, frames, zone.journal(), zone.info());
 }
 
-/// The list of each frame in use is what a walk for this frame or serial finds.
-pub fn assert_walks<const W: usize, I: Ledger, M: Ledger, B: Ledger>(
-    rt: &impl Abort,
-    zone: &ZoneOf<W, I, M, B>,
-) {
-    assert_each_walk(rt, zone.tables(), zone.frames());
-}
-
 #[test]
 fn lists_are_what_walks_find(rt: HostRuntime) {
     for (name, rows) in CASES {
-        let trial = Trial::World(CallForm::MethodBesideWalks, rows);
-        tries(&rt, &[Case(name, Size::Eight, trial)]);
+        let form = CallForm::MethodBesideWalks;
+        tries(&rt, &Case::of_world(name, Size::Eight, form, rows));
     }
 }
 
 #[test]
 fn drawn_calls_keep_what_walks_find(rt: HostRuntime) {
-    tries(&rt, &[Case("drawn calls", Size::Eight, Trial::Drawn)]);
+    tries(&rt, &Case("drawn calls", Size::Eight, Trial::Drawn));
 }

@@ -5,10 +5,11 @@ ghost use Rattle.zone_core.specs.Books.{AreFor};
 
 mod methods;
 
-use super::answers::{Answer, Shown};
+use super::answers::{Answer, Shown, assert_answer};
 use super::calls::{Call, Name, PAGE, read_as, told, unread, value_of};
 use super::draws::Draws;
-use super::walks::{assert_kept, assert_walks};
+use super::lists::assert_each_walk;
+use super::walks::assert_kept;
 use super::{address, block, client, hand, word};
 use frame_core::{Journal, Record, ZoneNo};
 use machine_core::{Scanned, WorldOf};
@@ -75,10 +76,6 @@ impl<const W: usize, I: Ledger, N: Ledger, M: Ledger, B: Ledger> OpenWorld<W, I,
         OpenWorld { world }
     }
 
-    fn zone(&self) -> &ZoneOf<W, I, M, B> {
-        self.world.zone()
-    }
-
     /// Plays the rows, each with the answer that it wants.
     pub fn plays(
         &mut self,
@@ -91,11 +88,11 @@ impl<const W: usize, I: Ledger, N: Ledger, M: Ledger, B: Ledger> OpenWorld<W, I,
     {
         for (number, row) in rows.iter().enumerate() {
             let (step, want) = *row;
-            let answer = self.make(rt, form, step);
-            assert!(rt; answer == want, "{name}, step {number}");
+            assert_answer(rt, self.make(rt, form, step), want, name, number);
             if let CallForm::MethodBesideWalks = form {
-                assert_kept(rt, self.zone());
-                assert_walks(rt, self.zone());
+                let zone = self.world.zone();
+                assert_kept(rt, zone);
+                assert_each_walk(rt, zone.tables(), zone.frames());
             }
         }
     }
@@ -107,9 +104,9 @@ impl<const W: usize, I: Ledger, N: Ledger, M: Ledger, B: Ledger> OpenWorld<W, I,
         let mut draws = Draws::new();
         for _ in 0..2000 {
             self.make(rt, CallForm::Method, draws.step());
-            assert_kept(rt, self.zone());
+            assert_kept(rt, self.world.zone());
         }
-        assert!(rt; self.zone().journal().len() > 400);
+        assert!(rt; self.world.zone().journal().len() > 400);
     }
 
     fn make(&mut self, rt: &(impl Abort + AllocGlobal), form: CallForm, step: Step) -> Answer
@@ -117,14 +114,12 @@ impl<const W: usize, I: Ledger, N: Ledger, M: Ledger, B: Ledger> OpenWorld<W, I,
     {
         match step {
             Step::Call(call) => self.call(rt, form, call),
-            Step::Look(name) => self.zone().look(address(rt, name)).shown(),
             Step::TakeHuge => self.world.take_huge().shown(),
             Step::GiveHuge(number) => self.world.give_huge(block(rt, number)).shown(),
             Step::Write(values) => self.write(rt, values),
             Step::Read(want) => self.read(rt, want),
             Step::Load(want) => self.load_each(rt, want),
-            Step::Journal => self.zone().journal().len().shown(),
-            Step::Record(number) => recorded(rt, self.zone().journal(), number),
+            Step::Look(_) | Step::Journal | Step::Record(_) => shows(rt, self.world.zone(), step),
             _ => self.make_by_hand(rt, step),
         }
     }
@@ -174,9 +169,28 @@ impl<const W: usize, I: Ledger, N: Ledger, M: Ledger, B: Ledger> OpenWorld<W, I,
     {
         for (number, value) in (0..512).zip(want) {
             let loaded = self.call(rt, CallForm::Method, Call::Load(PAGE, number));
-            assert!(rt; loaded == Answer::Value(*value), "word {number}");
+            assert_answer(
+                rt,
+                loaded,
+                Answer::Value(*value),
+                "each word",
+                number as usize,
+            );
         }
         Answer::Done
+    }
+}
+
+/// What a zone shows of a page or of its journal.
+fn shows<const W: usize, I: Ledger, M: Ledger, B: Ledger>(
+    rt: &impl Abort,
+    zone: &ZoneOf<W, I, M, B>,
+    step: Step,
+) -> Answer {
+    match step {
+        Step::Look(name) => zone.look(address(rt, name)).shown(),
+        Step::Record(number) => recorded(rt, zone.journal(), number),
+        _ => zone.journal().len().shown(),
     }
 }
 

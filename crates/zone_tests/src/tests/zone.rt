@@ -6,7 +6,7 @@ ghost use Rattle.zone_core.specs.Books.{AreFor};
 mod moves;
 mod words;
 
-use super::answers::{Answer, Shown};
+use super::answers::{Answer, Shown, assert_answer};
 use super::calls::{Call, PAGE, told, value_of};
 use super::client;
 use frame_core::{IsolatedOf, Serial, ZoneNo};
@@ -110,7 +110,7 @@ impl<const W: usize, I: Ledger, N: Ledger, M: Ledger, B: Ledger> Opened<W, I, N,
     {
         for (number, row) in rows.iter().enumerate() {
             let (step, want) = *row;
-            assert!(rt; self.make(rt, step) == want, "{name}, step {number}");
+            assert_answer(rt, self.make(rt, step), want, name, number);
         }
     }
 
@@ -124,7 +124,10 @@ impl<const W: usize, I: Ledger, N: Ledger, M: Ledger, B: Ledger> Opened<W, I, N,
             Step::WriteBlock(block, from, values) => self.write_block(rt, block, from, values),
             Step::ReadBlock(block, from, want) => self.read_block(rt, block, from, want),
             Step::Lend(block, value, last) => self.lend(rt, block, value, last),
+            Step::Quiet => Answer::Is(self.zone.quiet()),
             Step::Journal => self.zone.journal().len().shown(),
+            Step::Audit => self.zone.audit(&mut self.scan, &mut self.ends).shown(),
+            Step::Split | Step::Swap | Step::Join => self.change_parts(rt, step),
             _ => self.move_page(rt, step),
         }
     }

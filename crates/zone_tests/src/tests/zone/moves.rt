@@ -25,19 +25,7 @@ impl<const W: usize, I: Ledger, N: Ledger, M: Ledger, B: Ledger> Opened<W, I, N,
             Step::Commit => self.commit(rt),
             Step::PutBack => self.put_back(rt),
             Step::Stranger(zone, number, serial) => self.bring(rt, zone, number, serial),
-            Step::Quiet => Answer::Is(self.zone.quiet()),
-            _ => self.count(rt, step),
-        }
-    }
-
-    /// A step with the seats.
-    fn count(&mut self, rt: &impl Abort, step: Step) -> Answer {
-        match step {
-            Step::Split => self.split(rt),
-            Step::Swap => self.swap(rt),
-            Step::Join => self.join(rt),
-            Step::Audit => self.zone.audit(&mut self.scan, &mut self.ends).shown(),
-            _ => panic!(rt; "another step"),
+            _ => panic!(rt; "no step with a page"),
         }
     }
 
@@ -135,25 +123,19 @@ impl<const W: usize, I: Ledger, N: Ledger, M: Ledger, B: Ledger> Opened<W, I, N,
         answer
     }
 
-    fn split(&mut self, rt: &impl Abort) -> Answer {
-        match self.ends.split() {
-            Some(part) => {
-                self.parts.push(part).expect(rt, "memory");
-                Answer::Done
+    /// Splits parts off the end seat, changes its place with the first of them, or joins it with the last.
+    pub fn change_parts(&mut self, rt: &impl Abort, step: Step) -> Answer {
+        match step {
+            Step::Split => match self.ends.split() {
+                Some(part) => self.parts.push(part).expect(rt, "memory"),
+                None => return Answer::NoPart,
+            },
+            Step::Swap => {
+                let first = self.parts.first_mut().expect(rt, "a part");
+                std::mem::swap(&mut self.ends, first);
             }
-            None => Answer::NoPart,
+            _ => self.ends.join(self.parts.pop().expect(rt, "a part")),
         }
-    }
-
-    fn swap(&mut self, rt: &impl Abort) -> Answer {
-        let first = self.parts.first_mut().expect(rt, "a part");
-        std::mem::swap(&mut self.ends, first);
-        Answer::Done
-    }
-
-    fn join(&mut self, rt: &impl Abort) -> Answer {
-        let part = self.parts.pop().expect(rt, "a part");
-        self.ends.join(part);
         Answer::Done
     }
 }
