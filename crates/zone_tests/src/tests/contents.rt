@@ -2,7 +2,7 @@
 
 use super::answers::Answer;
 use super::calls::{Call, PAGE};
-use super::trial::{Case, Size, Trial, tries};
+use super::trial::{Case, Size, tries};
 use super::zone::{Block, Part, Step};
 use zone_core::{Ended, ZoneError};
 
@@ -84,27 +84,13 @@ const REFUSES_CALLS_OF_A_BLOCK: &[Part<'static>] = &[Part {
     ],
 }];
 
-const CASES: &[Case<'static>] = &[
-    Case(
-        "a block keeps its words",
-        Size::Eight,
-        Trial::Zone(64, KEEPS_A_BLOCK),
-    ),
-    Case(
-        "a block is lent",
-        Size::Eight,
-        Trial::Zone(64, LENDS_A_BLOCK),
-    ),
-    Case(
-        "calls of a block are refused",
-        Size::Eight,
-        Trial::Zone(2, REFUSES_CALLS_OF_A_BLOCK),
-    ),
-];
-
 #[test]
 fn blocks_keep_their_words(rt: HostRuntime) {
-    for case in CASES {
-        tries(&rt, case);
+    for (name, places, parts) in [
+        ("a block keeps its words", 64, KEEPS_A_BLOCK),
+        ("a block is lent", 64, LENDS_A_BLOCK),
+        ("calls of a block are refused", 2, REFUSES_CALLS_OF_A_BLOCK),
+    ] {
+        tries(&rt, &Case::of_zone(name, Size::Eight, places, parts));
     }
 }

@@ -2,7 +2,7 @@
 
 use super::answers::Answer;
 use super::calls::{Call, PAGE};
-use super::trial::{Case, Size, Trial, tries};
+use super::trial::{Case, Size, tries};
 use super::zone::{Part, Step};
 use zone_core::{Ended, ZoneError};
 
@@ -125,37 +125,15 @@ const TAKES_PINS: &[Part<'static>] = &[
     },
 ];
 
-const CASES: &[Case<'static>] = &[
-    Case(
-        "a page moves with its words",
-        Size::Eight,
-        Trial::Zone(64, MOVES_ITS_WORDS),
-    ),
-    Case(
-        "strangers are refused",
-        Size::Eight,
-        Trial::Zone(64, REFUSES_STRANGERS),
-    ),
-    Case(
-        "a seat is split",
-        Size::Eight,
-        Trial::Zone(4, SPLITS_ITS_SEAT),
-    ),
-    Case(
-        "a journal is filled",
-        Size::Eight,
-        Trial::Zone(65536, FILLS_ITS_JOURNAL),
-    ),
-    Case(
-        "a page takes pins",
-        Size::Eight,
-        Trial::Zone(512, TAKES_PINS),
-    ),
-];
-
 #[test]
 fn moves_are_made_and_ended(rt: HostRuntime) {
-    for case in CASES {
-        tries(&rt, case);
+    for (name, places, parts) in [
+        ("a page moves with its words", 64, MOVES_ITS_WORDS),
+        ("strangers are refused", 64, REFUSES_STRANGERS),
+        ("a seat is split", 4, SPLITS_ITS_SEAT),
+        ("a journal is filled", 65536, FILLS_ITS_JOURNAL),
+        ("a page takes pins", 512, TAKES_PINS),
+    ] {
+        tries(&rt, &Case::of_zone(name, Size::Eight, places, parts));
     }
 }
