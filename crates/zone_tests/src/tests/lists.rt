@@ -4,7 +4,7 @@ ghost use Rattle.std.specs.Prelude.{◌≡◌, length};
 
 use super::{address, frame};
 use arrayvec::ArrayVec;
-use frame_core::{Address, FrameState};
+use frame_core::{Address, FrameNo, FrameState};
 use scan_core::Frames;
 use std::process::Abort;
 use table_core::{Entry, Tables};
@@ -41,16 +41,24 @@ pub fn walked(rt: &(impl Abort + AllocGlobal), tables: &Tables, frames: u32) -> 
     lists
 }
 
-/// Lists each address of a space that has an entry, under the frame that the entry names or that its page left.
 fn list_space(rt: &impl Abort, tables: &Tables, space: u32, lists: &mut Vec<Listed>) {
     for vpage in 0..4096 {
-        let address = address(rt, (space, vpage));
-        let entry = tables.entry(address);
-        if let Entry::Present(frame) | Entry::Migration { source: frame, .. } = entry {
-            let list = lists.get_mut(frame.get() as usize);
-            list.expect(rt, "a frame of the zone")
-                .add(rt, entry, address);
+        let entry = tables.entry(address(rt, (space, vpage)));
+        if let Some(frame) = frame_of(&entry) {
+            let Some(list) = lists.get_mut(frame.get() as usize) else {
+                panic!(rt; "no frame of the zone");
+            };
+            list.add(rt, entry, address(rt, (space, vpage)));
         }
+    }
+}
+
+/// The frame under which an address with this entry is listed.
+fn frame_of(entry: &Entry) -> Option<FrameNo> {
+    match *entry {
+        Entry::Absent => None,
+        Entry::Present(frame) => Some(frame),
+        Entry::Migration { source, .. } => Some(source),
     }
 }
 
