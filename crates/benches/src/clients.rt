@@ -2,12 +2,13 @@
 
 mod array;
 mod crowd;
-mod filled;
 mod moving;
+mod outcome;
 mod runs;
 
 use array::rate_of_array;
-use runs::{Outcome, Plan, Spread, Work, run};
+use outcome::{Outcome, Spread};
+use runs::{Plan, Work, run};
 use std::alloc::Global;
 use std::io;
 use std::marker::Brand;
@@ -18,10 +19,10 @@ use zone_core::Blanks;
 
 const COUNTS: [u32; 3] = [1, 2, 4];
 
-const CAPS: [usize; 3] = [1, 8, 64];
+const ROOMS: [usize; 3] = [1, 8, 64];
 
 /// How many calls of clients beside rounds stand in the journal as they were answered.
-pub fn show_settled<R: Threads + Wait + Print + Alloc + Clock + Sync>(
+pub fn show_settled<R: Threads + Wait + Print + Clock + Sync>(
     rt: &R,
     alloc: Global,
 ) -> io::Result<()> {
@@ -34,7 +35,7 @@ pub fn show_settled<R: Threads + Wait + Print + Alloc + Clock + Sync>(
 
 /// How many thousands of calls 1, 2 and 4 clients make in a second, the best of so many times, and how long a load takes beside
 /// rounds, by the room of their queues.
-pub fn show_times<R: Threads + Wait + Print + Alloc + Clock + Sync>(
+pub fn show_times<R: Threads + Wait + Print + Clock + Sync>(
     rt: &R,
     alloc: Global,
     times: u32,
@@ -44,7 +45,7 @@ pub fn show_times<R: Threads + Wait + Print + Alloc + Clock + Sync>(
 }
 
 /// Thousands of calls in a second: in an array, of a zone at rest, and beside rounds.
-fn show_rates<R: Threads + Wait + Print + Alloc + Clock + Sync>(
+fn show_rates<R: Threads + Wait + Print + Clock + Sync>(
     rt: &R,
     alloc: Global,
     times: u32,
@@ -63,18 +64,15 @@ fn show_rates<R: Threads + Wait + Print + Alloc + Clock + Sync>(
 }
 
 /// Nanoseconds that a load takes beside rounds.
-fn show_waits<R: Threads + Wait + Print + Alloc + Clock + Sync>(
-    rt: &R,
-    alloc: Global,
-) -> io::Result<()> {
+fn show_waits<R: Threads + Wait + Print + Clock + Sync>(rt: &R, alloc: Global) -> io::Result<()> {
     println!(rt; "room median 99th greatest")?;
-    for cap in CAPS {
+    for room in ROOMS {
         let Spread {
             median,
             high,
             greatest,
-        } = make_loads(rt, alloc, cap).times;
-        println!(rt; "{cap:>4} {median:>6} {high:>4} {greatest:>8}")?;
+        } = make_loads(rt, alloc, room).times;
+        println!(rt; "{room:>4} {median:>6} {high:>4} {greatest:>8}")?;
     }
     Ok(())
 }
@@ -88,25 +86,6 @@ struct Rates {
     moved: u32,
 }
 
-impl Rates {
-    const NONE: Rates = Rates {
-        array: 0,
-        rest: 0,
-        rounds: 0,
-        moved: 0,
-    };
-
-    /// The better of each.
-    fn or(self, other: Rates) -> Rates {
-        Rates {
-            array: self.array.max(other.array),
-            rest: self.rest.max(other.rest),
-            rounds: self.rounds.max(other.rounds),
-            moved: self.moved.max(other.moved),
-        }
-    }
-}
-
 /// The best of so many times.
 fn best_rates<R: Threads + Wait + Clock + Sync>(
     rt: &R,
@@ -114,21 +93,24 @@ fn best_rates<R: Threads + Wait + Clock + Sync>(
     count: u32,
     times: u32,
 ) -> Rates {
-    let mut best = Rates::NONE;
+    let mut best = Rates {
+        array: 0,
+        rest: 0,
+        rounds: 0,
+        moved: 0,
+    };
     for _time in 0..times {
-        best = best.or(measure(rt, alloc, count));
+        let beside = make_calls(rt, alloc, count, 8);
+        best = Rates {
+            array: best
+                .array
+                .max(rate_of_array(rt, count as usize).unwrap_or(0)),
+            rest: best.rest.max(make_calls(rt, alloc, count, 0).rate()),
+            rounds: best.rounds.max(beside.rate()),
+            moved: best.moved.max(beside.moved),
+        };
     }
     best
-}
-
-fn measure<R: Threads + Wait + Clock + Sync>(rt: &R, alloc: Global, count: u32) -> Rates {
-    let beside = make_calls(rt, alloc, count, 8);
-    Rates {
-        array: rate_of_array(rt, count).unwrap_or(0),
-        rest: make_calls(rt, alloc, count, 0).rate(),
-        rounds: beside.rate(),
-        moved: beside.moved,
-    }
 }
 
 /// What clients do beside rounds whose queues have so much room, or at rest where they have none.
@@ -139,23 +121,29 @@ fn make_calls<R: Threads + Wait + Clock + Sync>(
     room: usize,
 ) -> Outcome {
     let work = Work::Calls;
-    let plan = Plan {
-        clients,
-        work,
-        room,
-    };
-    outcome_of(rt, alloc, plan)
+    outcome_of(
+        rt,
+        alloc,
+        Plan {
+            clients,
+            work,
+            room,
+        },
+    )
 }
 
 /// How long loads take beside rounds whose queues have so much room.
 fn make_loads<R: Threads + Wait + Clock + Sync>(rt: &R, alloc: Global, room: usize) -> Outcome {
-    let work = Work::Loads;
-    let plan = Plan {
-        clients: 1,
-        work,
-        room,
-    };
-    outcome_of(rt, alloc, plan)
+    let (clients, work) = (1, Work::Loads);
+    outcome_of(
+        rt,
+        alloc,
+        Plan {
+            clients,
+            work,
+            room,
+        },
+    )
 }
 
 fn outcome_of<R: Threads + Wait + Clock + Sync>(rt: &R, alloc: Global, plan: Plan) -> Outcome {

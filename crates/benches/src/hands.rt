@@ -17,10 +17,7 @@ use std::time::{Clock, Instant};
 const PAGES: u32 = 300;
 
 /// How many pages arrived, and the sum of their numbers, which doesn't depend on the schedule.
-pub fn show_loads<R: Threads + Wait + Print + Alloc + Sync>(
-    rt: &R,
-    alloc: Global,
-) -> io::Result<()> {
+pub fn show_loads<R: Threads + Wait + Print + Sync>(rt: &R, alloc: Global) -> io::Result<()> {
     for setting in SETTINGS {
         let Setting { threads, capacity } = setting;
         let Load { count, sum } = ruled::carry(rt, alloc, setting, PAGES).unwrap_or(Load::NOTHING);
@@ -30,7 +27,7 @@ pub fn show_loads<R: Threads + Wait + Print + Alloc + Sync>(
 }
 
 /// Nanoseconds a page, of the hand-over and of a plain channel, and how many hundredths of the second the first is.
-pub fn show_times<R: Threads + Wait + Print + Alloc + Clock + Sync>(
+pub fn show_times<R: Threads + Wait + Print + Clock + Sync>(
     rt: &R,
     alloc: Global,
     pages: u32,

@@ -32,10 +32,7 @@ fn main(rt: HostRuntime) -> Result<()> {
 }
 
 /// What each subject does.
-fn show_all<R: Threads + Wait + Print + Alloc + Clock + Sync>(
-    rt: &R,
-    alloc: Global,
-) -> io::Result<()> {
+fn show_all<R: Threads + Wait + Print + Clock + Sync>(rt: &R, alloc: Global) -> io::Result<()> {
     for subject in SUBJECTS {
         show_doings(rt, alloc, subject)?;
     }
@@ -71,7 +68,7 @@ impl Subject {
     }
 }
 
-fn show<R: Threads + Wait + Print + Alloc + Clock + Sync>(
+fn show<R: Threads + Wait + Print + Clock + Sync>(
     rt: &R,
     alloc: Global,
     subject: Subject,
@@ -87,7 +84,7 @@ fn show<R: Threads + Wait + Print + Alloc + Clock + Sync>(
 }
 
 /// What a subject does.
-fn show_doings<R: Threads + Wait + Print + Alloc + Clock + Sync>(
+fn show_doings<R: Threads + Wait + Print + Clock + Sync>(
     rt: &R,
     alloc: Global,
     subject: Subject,
@@ -101,7 +98,7 @@ fn show_doings<R: Threads + Wait + Print + Alloc + Clock + Sync>(
 }
 
 /// How long a subject takes.
-fn show_times<R: Threads + Wait + Print + Alloc + Clock + Sync>(
+fn show_times<R: Threads + Wait + Print + Clock + Sync>(
     rt: &R,
     alloc: Global,
     subject: Subject,
@@ -117,7 +114,7 @@ fn show_times<R: Threads + Wait + Print + Alloc + Clock + Sync>(
 }
 
 /// What a part of a subject does.
-fn show_part<R: Print + Alloc + Clock>(
+fn show_part<R: Threads + Wait + Print + Clock + Sync>(
     rt: &R,
     alloc: Global,
     subject: Subject,

@@ -4,8 +4,8 @@ use std::time::{Clock, Instant};
 /// How long a round took.
 #[derive(Clone, Copy)]
 pub struct Times {
-    /// The pages that were moved.
-    pub moved: u32,
+    /// The pages that were moved, or those of a zone that was only filled.
+    pub pages: u32,
     /// Nanoseconds that moving them took.
     pub whole: u64,
     /// Nanoseconds that a round with nothing to move took.
@@ -15,15 +15,24 @@ pub struct Times {
 impl Times {
     /// Nothing was moved.
     pub const NONE: Times = Times {
-        moved: 0,
+        pages: 0,
         whole: u64::MAX,
         empty: u64::MAX,
     };
 
+    /// So many pages were moved in so many nanoseconds.
+    pub fn of(pages: u32, whole: u64) -> Times {
+        Times {
+            pages,
+            whole,
+            ..Times::NONE
+        }
+    }
+
     /// The better of each.
     pub fn or(self, other: Times) -> Times {
         Times {
-            moved: self.moved.max(other.moved),
+            pages: self.pages.max(other.pages),
             whole: self.whole.min(other.whole),
             empty: self.empty.min(other.empty),
         }
@@ -31,7 +40,7 @@ impl Times {
 
     /// Nanoseconds for each page that was moved.
     pub fn each(&self) -> u64 {
-        self.whole / u64::from(self.moved.max(1))
+        self.whole / u64::from(self.pages.max(1))
     }
 }
 

@@ -1,6 +1,5 @@
 //! Clients, each with a word of its own in every page.
 
-use super::filled::PAGES;
 use crate::opening::page;
 use crate::times::nanos_since;
 use client_core::Client;
@@ -11,6 +10,9 @@ use std::sync::Wait;
 use std::sync::ledger::Ledger;
 use std::thread::{Threads, for_each_mut, join};
 use std::time::{Clock, Instant};
+
+/// The pages that clients use.
+pub const PAGES: u32 = 64;
 
 /// Calls that each client makes.
 pub const CALLS: u32 = 8192;
@@ -30,16 +32,10 @@ pub fn time_calls<
     M: Ledger + Send + Sync,
     B: Ledger + Send + Sync,
     R: Threads + Wait + Clock + Sync,
->(
-    rt: &R,
-    alloc: Global,
-    shared: &SharedZone<K, I, M, B>,
-    clients: &mut [Client],
-) -> Option<Vec<u64>> {
+>(rt: &R, shared: &SharedZone<K, I, M, B>, clients: &mut [Client]) -> Option<u64> {
     let start = Instant::now(rt).ok()?;
     use_all(rt, shared, clients);
-    let nanos = nanos_since(rt, &start).ok()?;
-    Vec::from_array(alloc, [nanos]).ok()
+    nanos_since(rt, &start).ok()
 }
 
 /// Lets each client make its calls, one half of them beside the other.

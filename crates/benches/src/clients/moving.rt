@@ -1,6 +1,6 @@
 //! Rounds that go on as long as clients do.
 
-use super::filled::PAGES;
+use super::crowd::PAGES;
 use crate::opening::{FRAMES, page};
 use client_core::Client;
 use round_core::{NoGate, SharedZone, ZoneIdentity, compact};

@@ -1,13 +1,16 @@
-//! Runs of clients, each over a zone that is opened for it.
+//! Runs of clients, each over a zone that is opened for it: a page of clients in each of its lowest frames, and pages that don't move in
+//! all others.
 
 ghost use Rattle.std.specs.Prelude.{◌≡◌};
 ghost use Rattle.zone_core.specs.Books.{AreFor};
 
-use super::crowd::{time_calls, time_loads};
-use super::filled::{Filled, fill, settle};
+use super::crowd::{PAGES, time_calls, time_loads};
 use super::moving::run_rounds;
-use crate::times::thousands;
-use client_core::Client;
+use super::outcome::{Outcome, Spread};
+use crate::opening::{FRAMES, Opening, open, page};
+use bitflags::Flags;
+use client_core::{Client, settle_clients};
+use frame_core::{ClientNo, FrameNo, PageFlags};
 use round_core::{SharedZone, ZoneIdentity};
 use std::alloc::Global;
 use std::sync::Wait;
@@ -15,7 +18,7 @@ use std::sync::atomic::{AtomicBool, Ordering};
 use std::sync::ledger::Ledger;
 use std::thread::{Threads, join};
 use std::time::Clock;
-use zone_core::Blanks;
+use zone_core::{Blanks, Seats};
 
 /// What clients do.
 #[derive(Clone, Copy)]
@@ -35,55 +38,7 @@ pub struct Plan {
     pub room: usize,
 }
 
-/// What came of a run.
-#[derive(Clone, Copy)]
-pub struct Outcome {
-    /// The times that were taken.
-    pub times: Spread,
-    /// Calls that stand in the journal as they were answered.
-    pub settled: usize,
-    /// Pages that the rounds moved.
-    pub moved: u32,
-}
-
-impl Outcome {
-    pub const NOTHING: Outcome = Outcome {
-        times: Spread {
-            median: 0,
-            high: 0,
-            greatest: 0,
-        },
-        settled: 0,
-        moved: 0,
-    };
-
-    /// Thousands of calls in a second, where the time of all calls was taken.
-    pub fn rate(&self) -> u64 {
-        thousands(self.settled, self.times.greatest)
-    }
-}
-
-/// Of times in nanoseconds: the one in the middle, the one that a hundredth is above, and the greatest.
-#[derive(Clone, Copy)]
-pub struct Spread {
-    pub median: u64,
-    pub high: u64,
-    pub greatest: u64,
-}
-
-impl Spread {
-    fn of(mut nanos: Vec<u64>) -> Option<Spread> {
-        nanos.sort_unstable();
-        let last = nanos.len().checked_sub(1)?;
-        Some(Spread {
-            median: *nanos.get(last / 2)?,
-            high: *nanos.get(last - last / 100)?,
-            greatest: *nanos.get(last)?,
-        })
-    }
-}
-
-/// Lets clients work, and compares their receipts with the journal.
+/// Opens zone 0 and runs clients over it. The first client maps the pages that the others use.
 pub fn run<
     K: ZoneIdentity + Send + Sync,
     I: Ledger + Send + Sync,
@@ -95,14 +50,76 @@ pub fn run<
     requires identity { (K.number ≡ 0) × (K.blocks ≡ 8) }
     requires blanks { AreFor blanks I.name I.parts N.name N.parts M.name M.parts B.name B.parts }
 {
-    let mut filled = fill::<K, I, N, M, B, R>(rt, alloc, plan.clients, blanks)?;
-    let (times, moved) = work_beside_rounds(rt, alloc, &mut filled, plan)?;
-    let settled = settle(filled)?;
+    let mut clients = clients(alloc, plan.clients)?;
+    let Opening { zone, mut seats } = open::<I, N, M, B>(alloc, blanks)?;
+    let shared = SharedZone::<K, I, M, B>::new(zone);
+    work_and_settle(rt, alloc, &shared, &mut seats, &mut clients, plan)
+}
+
+/// Lets clients work, and compares the receipts of all clients with the journal.
+fn work_and_settle<
+    K: ZoneIdentity + Send + Sync,
+    I: Ledger + Send + Sync,
+    N: Ledger + Send,
+    M: Ledger + Send + Sync,
+    B: Ledger + Send + Sync,
+    R: Threads + Wait + Clock + Sync,
+>(
+    rt: &R,
+    alloc: Global,
+    shared: &SharedZone<K, I, M, B>,
+    seats: &mut Seats<I, N, M, B>,
+    clients: &mut [Client],
+    plan: Plan,
+) -> Option<Outcome> {
+    let (keeper, crowd) = clients.split_first_mut()?;
+    map_all(rt, shared, keeper)?;
+    let (times, moved) = work_beside_rounds(rt, alloc, shared, seats, keeper, crowd, plan)?;
+    let settled = receipts_of(crowd);
+    settle(rt, shared, clients)?;
     Some(Outcome {
         times,
         settled,
         moved,
     })
+}
+
+/// Compares the receipts of clients with the journal.
+fn settle<K: ZoneIdentity, I: Ledger, M: Ledger, B: Ledger, R: Wait>(
+    rt: &R,
+    shared: &SharedZone<K, I, M, B>,
+    clients: &[Client],
+) -> Option<()> {
+    settle_clients(shared.lock(rt).zone(), clients).ok()
+}
+
+/// The client 0, and so many more.
+fn clients(alloc: Global, more: u32) -> Option<Vec<Client>> {
+    let mut clients = Vec::new(alloc);
+    for number in 0..more.saturating_add(1) {
+        clients
+            .push(Client::new(alloc, ClientNo::new(number)?))
+            .ok()?;
+    }
+    Some(clients)
+}
+
+/// Maps a page to each frame.
+fn map_all<K: ZoneIdentity, I: Ledger, M: Ledger, B: Ledger, R: Wait>(
+    rt: &R,
+    shared: &SharedZone<K, I, M, B>,
+    keeper: &mut Client,
+) -> Option<()> {
+    for number in 0..FRAMES {
+        let flags = if number < PAGES {
+            PageFlags::empty()
+        } else {
+            PageFlags::UNMOVABLE
+        };
+        let frame = FrameNo::new(number)?;
+        keeper.map_at(rt, shared, page(number)?, flags, frame).ok()?;
+    }
+    Some(())
 }
 
 /// Lets clients work beside rounds. The times that were taken, and how many pages the rounds moved.
@@ -113,25 +130,27 @@ fn work_beside_rounds<
     M: Ledger + Send + Sync,
     B: Ledger + Send + Sync,
     R: Threads + Wait + Clock + Sync,
->(rt: &R, alloc: Global, filled: &mut Filled<K, I, N, M, B>, plan: Plan) -> Option<(Spread, u32)> {
-    let Filled {
-        shared,
-        seats,
-        keeper,
-        crowd,
-    } = filled;
-    let ended = AtomicBool::new(false);
-    let (lock, flag) = (&*shared, &ended);
-    let (nanos, moved) = join(
+>(
+    rt: &R,
+    alloc: Global,
+    shared: &SharedZone<K, I, M, B>,
+    seats: &mut Seats<I, N, M, B>,
+    keeper: &mut Client,
+    crowd: &mut [Client],
+    plan: Plan,
+) -> Option<(Spread, u32)> {
+    let flag = AtomicBool::new(false);
+    let ended = &flag;
+    let (times, moved) = join(
         rt,
-        move || -> Option<Vec<u64>> {
-            let nanos = take_times(rt, alloc, lock, crowd, plan.work);
-            flag.store(true, Ordering::SeqCst);
-            nanos
+        move || -> Option<Spread> {
+            let times = take_times(rt, alloc, shared, crowd, plan.work);
+            ended.store(true, Ordering::SeqCst);
+            times
         },
-        move || -> Option<u32> { run_rounds(rt, alloc, lock, seats, keeper, plan.room, flag) },
+        move || -> Option<u32> { run_rounds(rt, alloc, shared, seats, keeper, plan.room, ended) },
     );
-    Some((Spread::of(nanos?)?, moved?))
+    Some((times?, moved?))
 }
 
 /// Lets clients work. The times that were taken.
@@ -147,9 +166,18 @@ fn take_times<
     shared: &SharedZone<K, I, M, B>,
     clients: &mut [Client],
     work: Work,
-) -> Option<Vec<u64>> {
+) -> Option<Spread> {
     match work {
-        Work::Calls => time_calls(rt, alloc, shared, clients),
-        Work::Loads => time_loads(rt, alloc, shared, clients.first_mut()?),
+        Work::Calls => Some(Spread::of_one(time_calls(rt, shared, clients)?)),
+        Work::Loads => Spread::of(&mut time_loads(rt, alloc, shared, clients.first_mut()?)?),
     }
+}
+
+/// How many receipts clients have together.
+fn receipts_of(clients: &[Client]) -> usize {
+    let mut receipts = 0usize;
+    for client in clients {
+        receipts = receipts.saturating_add(client.receipts().len());
+    }
+    receipts
 }

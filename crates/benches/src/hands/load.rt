@@ -21,7 +21,11 @@ impl Load {
 
     /// The loads of all takers together.
     pub fn sum_of(loads: &[Load]) -> Load {
-        loads.iter().fold(Load::NOTHING, |sum, load| sum.and(*load))
+        let mut sum = Load::NOTHING;
+        for load in loads {
+            sum = sum.and(*load);
+        }
+        sum
     }
 
     fn and(self, other: Load) -> Load {

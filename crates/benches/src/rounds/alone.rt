@@ -29,57 +29,22 @@ pub fn half_full<I: Ledger, N: Ledger, M: Ledger, B: Ledger>(
 
 /// Maps a page to each frame of the lower half.
 fn map_pages<I: Ledger, M: Ledger, B: Ledger>(zone: &mut Zone<I, M, B>) -> Option<()> {
-    for number in 0..PAGES {
-        map_page(zone, number)?;
-    }
-    Some(())
-}
-
-/// The virtual page of this number names a fresh page at the lowest free frame.
-fn map_page<I: Ledger, M: Ledger, B: Ledger>(zone: &mut Zone<I, M, B>, number: u32) -> Option<()> {
     let client = ClientNo::new(0)?;
-    let _frame = zone.map(client, page(number)?, PageFlags::empty()).ok()?;
-    Some(())
-}
-
-/// How long it takes to move the pages of the lower half up.
-pub fn move_alone<I: Ledger, N: Ledger, M: Ledger, B: Ledger, R: Clock>(
-    rt: &R,
-    alloc: Global,
-    blanks: Blanks,
-) -> io::Result<Times>
-    requires blanks { AreFor blanks I.name I.parts N.name N.parts M.name M.parts B.name B.parts }
-{
-    match half_full::<I, N, M, B>(alloc, blanks) {
-        Some(mut opening) => time_moves(rt, &mut opening.zone, &mut opening.seats),
-        None => Ok(Times::NONE),
+    for number in 0..PAGES {
+        let _frame = zone.map(client, page(number)?, PageFlags::empty()).ok()?;
     }
+    Some(())
 }
 
 /// How long it takes to move what can be moved.
-fn time_moves<I: Ledger, N: Ledger, M: Ledger, B: Ledger, R: Clock>(
+pub fn time_moves<I: Ledger, N: Ledger, M: Ledger, B: Ledger, R: Clock>(
     rt: &R,
     zone: &mut Zone<I, M, B>,
     seats: &mut Seats<I, N, M, B>,
 ) -> io::Result<Times> {
     let start = Instant::now(rt)?;
-    let moved = move_all(zone, seats);
-    let whole = nanos_since(rt, &start)?;
-    Ok(Times {
-        moved,
-        whole,
-        ..Times::NONE
-    })
-}
-
-/// How many pages the zone has that is filled for it.
-pub fn fill_alone<I: Ledger, N: Ledger, M: Ledger, B: Ledger>(alloc: Global, blanks: Blanks) -> u32
-    requires blanks { AreFor blanks I.name I.parts N.name N.parts M.name M.parts B.name B.parts }
-{
-    match half_full::<I, N, M, B>(alloc, blanks) {
-        Some(opening) => opening.zone.info().pages,
-        None => 0,
-    }
+    let pages = move_all(zone, seats);
+    Ok(Times::of(pages, nanos_since(rt, &start)?))
 }
 
 /// Moves what can be moved. How many pages that were.

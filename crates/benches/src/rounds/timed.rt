@@ -1,9 +1,9 @@
-//! Rounds on threads.
+//! What is done with a zone whose lower half is full, and how long that takes.
 
 ghost use Rattle.zone_core.specs.Books.{AreFor};
 ghost use Rattle.zone_core.specs.ZoneIdentity.{HasIdentity};
 
-use super::alone::half_full;
+use super::alone::{half_full, time_moves};
 use crate::opening::Opening;
 use crate::settings::Setting;
 use crate::times::{Times, nanos_since};
@@ -17,20 +17,41 @@ use std::thread::Threads;
 use std::time::{Clock, Instant};
 use zone_core::{Blanks, Seats, Zone};
 
-/// How long a round takes that moves the pages of the lower half up, and one after it.
-pub fn run_round<
+/// What is done with the zone.
+#[derive(Clone, Copy)]
+pub enum Work {
+    /// Nothing but that it is filled.
+    Filling,
+    /// Its pages are moved up on one thread and without queues.
+    Alone,
+    /// A round on threads moves its pages up, and one after it finds nothing to move.
+    Rounds(Setting),
+}
+
+/// How long a work takes in a zone that is opened and filled for it.
+pub fn time<
     I: Ledger + Send + Sync,
     N: Ledger,
     M: Ledger + Send + Sync,
     B: Ledger + Send + Sync,
     R: Threads + Wait + Clock + Sync,
->(rt: &R, alloc: Global, setting: Setting, blanks: Blanks) -> io::Result<Times>
+>(rt: &R, alloc: Global, work: Work, blanks: Blanks) -> io::Result<Times>
     requires blanks { AreFor blanks I.name I.parts N.name N.parts M.name M.parts B.name B.parts }
 {
-    let Some(Opening { zone, mut seats }) = half_full::<I, N, M, B>(alloc, blanks) else {
+    let Some(opening) = half_full::<I, N, M, B>(alloc, blanks) else {
         return Ok(Times::NONE);
     };
-    time_rounds::<Brand, I, N, M, B, R>(rt, alloc, zone, &mut seats, setting)
+    let Opening {
+        mut zone,
+        mut seats,
+    } = opening;
+    match work {
+        Work::Filling => Ok(Times::of(zone.info().pages, u64::MAX)),
+        Work::Alone => time_moves(rt, &mut zone, &mut seats),
+        Work::Rounds(setting) => {
+            time_rounds::<Brand, I, N, M, B, R>(rt, alloc, zone, &mut seats, setting)
+        }
+    }
 }
 
 /// How long both rounds take over a zone of the identity that the type names.
@@ -51,11 +72,16 @@ fn time_rounds<
     requires identity { HasIdentity K.number K.blocks zone }
 {
     let shared = SharedZone::<K, I, M, B>::new(zone);
-    time_both(rt, alloc, &shared, seats, setting)
+    let round = time_round(rt, alloc, &shared, seats, setting)?;
+    let after = time_round(rt, alloc, &shared, seats, setting)?;
+    Ok(Times {
+        empty: after.whole,
+        ..round
+    })
 }
 
-/// How long a round takes, and one after it.
-fn time_both<
+/// How long a round takes.
+fn time_round<
     K: ZoneIdentity + Send + Sync,
     I: Ledger + Send + Sync,
     N: Ledger,
@@ -69,37 +95,11 @@ fn time_both<
     seats: &mut Seats<I, N, M, B>,
     setting: Setting,
 ) -> io::Result<Times> {
-    let start = Instant::now(rt)?;
-    let moved = moved_by(rt, alloc, shared, seats, setting);
-    let whole = nanos_since(rt, &start)?;
-    let start = Instant::now(rt)?;
-    let _none = moved_by(rt, alloc, shared, seats, setting);
-    let empty = nanos_since(rt, &start)?;
-    Ok(Times {
-        moved,
-        whole,
-        empty,
-    })
-}
-
-/// How many pages a round moves.
-fn moved_by<
-    K: ZoneIdentity + Send + Sync,
-    I: Ledger + Send + Sync,
-    N: Ledger,
-    M: Ledger + Send + Sync,
-    B: Ledger + Send + Sync,
-    R: Threads + Wait + Sync,
->(
-    rt: &R,
-    alloc: Global,
-    shared: &SharedZone<K, I, M, B>,
-    seats: &mut Seats<I, N, M, B>,
-    setting: Setting,
-) -> u32 {
     let Setting { threads, capacity } = setting;
-    match compact(rt, alloc, shared, seats, threads, capacity, &NoGate) {
+    let start = Instant::now(rt)?;
+    let pages = match compact(rt, alloc, shared, seats, threads, capacity, &NoGate) {
         Ok(round) => round.moved,
         Err(_) => 0,
-    }
+    };
+    Ok(Times::of(pages, nanos_since(rt, &start)?))
 }

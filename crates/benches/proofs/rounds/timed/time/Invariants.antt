@@ -1,4 +1,4 @@
-use Rattle.benches.proofs.rounds.timed.run_round.Given as goal
+use Rattle.benches.proofs.rounds.timed.time.Given as goal
 
 -- the zone that is shared
 abbrev pub ghosts-time_rounds : goal.ghosts-time_rounds
