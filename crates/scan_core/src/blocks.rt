@@ -80,7 +80,9 @@ impl BlockCounts {
         false
     }
 
-    /// How many pageblocks have all of their 512 frames counted.
+    /// How many pageblocks have all of their 512 frames counted. Compiled by itself it compares the eight counts at once, which it
+    /// doesn't where it is inlined.
+    #[inline(never)]
     pub fn whole(&self) -> u32
         ensures count { result ≡ count_below (is_all_counted self.now) 8 }
     {
