@@ -38,6 +38,7 @@ impl<const W: usize> ZoneTables<W> {
     }
 
     /// Hands out a free block.
+    #[inline(always)]
     pub fn hand_out(&mut self, first: FrameNo, order: Order)
         requires room { IsTrue (has_room self.old) }
         requires run { IsTrue (is_run self.old order first) }
@@ -54,6 +55,7 @@ impl<const W: usize> ZoneTables<W> {
     }
 
     /// Takes back a block that was handed out.
+    #[inline(always)]
     pub fn take_back(&mut self, first: FrameNo, order: Order)
         requires room { IsTrue (has_room self.old) }
         requires held { IsTrue (is_order (map.get self.old.handed_out first) order) }

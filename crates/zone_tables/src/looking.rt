@@ -23,6 +23,7 @@ pub struct Uses {
 
 impl<const W: usize> ZoneTables<W> {
     /// The page that an address names, if it names one. The page may be moving.
+    #[inline(always)]
     pub fn page_named(&self, address: &Address) -> Option<PageNo>
         ensures page { result ≡ page_at self.now.records address.now }
         ensures in_use { IfSome result (λ page. IsSome (map.get self.now.placement page)) }

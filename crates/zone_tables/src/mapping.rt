@@ -58,6 +58,7 @@ impl<const W: usize> ZoneTables<W> {
     }
 
     /// Makes an address name a fresh page in a free frame, and answers its number.
+    #[inline(always)]
     pub fn place(
         &mut self,
         client: ClientNo,

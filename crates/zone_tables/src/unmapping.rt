@@ -14,6 +14,7 @@ use frame_core::{Address, ClientNo, FrameNo, PageNo, Record};
 
 impl<const W: usize> ZoneTables<W> {
     /// Makes an address name no page any more. A page that has no address left isn't in use.
+    #[inline(always)]
     pub fn unmap(&mut self, client: ClientNo, address: Address, page: PageNo, frame: FrameNo)
         requires room { IsTrue (has_room self.old) }
         requires named { page_at self.old.records address ≡ Some page }
@@ -45,6 +46,7 @@ impl<const W: usize> ZoneTables<W> {
     }
 
     /// Takes its last address from a page: its frame is free, and its number isn't in use.
+    #[inline(always)]
     fn unmap_last(&mut self, client: ClientNo, address: Address, page: PageNo, frame: FrameNo)
         requires room { IsTrue (has_room self.old) }
         requires named { page_at self.old.records address ≡ Some page }
