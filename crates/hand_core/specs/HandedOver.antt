@@ -1,5 +1,5 @@
 -- What is true of a hand-over of pages after each step, in every schedule.
-use Rattle.std.specs.Prelude.{◌≡◌, ℕ, ◌+◌, ◌-◌, ◌*◌, ◌<◌, ◌≤◌, true, false, if◌then◌else◌, List, [], ◌∷◌, ◌++◌, length, map, replicate, take, drop}
+use Rattle.std.specs.Prelude.{◌≡◌, ℕ, ◌+◌, ◌-◌, ◌*◌, ◌<◌, ◌≤◌, Bool, true, false, if◌then◌else◌, List, [], ◌∷◌, ◌++◌, length, map, replicate, take, drop}
 use Rattle.std.specs.List.{flat_map, range_with_len}
 use Rattle.std.specs.List.Sorted.{IsPermutation}
 use Rattle.frame_core.specs.Page.{IsolatedPage}
@@ -23,6 +23,11 @@ ends_of largest g takers = known (1024 - length takers) true g.given g.marks lar
 abbrev pub pages_in_one : Note → List IsolatedPage
 pages_in_one (Pages h) = h.items
 pages_in_one Mark = []
+
+-- whether a message is an end mark
+abbrev pub is_mark : Note → Bool
+is_mark (Pages h) = false
+is_mark Mark = true
 
 -- the pages that a queue holds, in their order
 abbrev pub pages_in : List Note → List IsolatedPage

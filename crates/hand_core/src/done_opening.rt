@@ -1,10 +1,10 @@
-ghost use Rattle.std.specs.Prelude.{◌≡◌, ◌*◌, ◌/◌, ◌<◌, ◌≤◌, ◌↔◌, ℕ, false, [], IfOk, vec_len, slice_get, Some, OnOk, vec_capacity};
+ghost use Rattle.std.specs.Prelude.{◌≡◌, ◌*◌, ◌/◌, ◌<◌, ◌≤◌, ◌↔◌, ℕ, false, [], IfOk, IfErr, vec_len, slice_get, Some, OnOk};
 ghost use Rattle.crossbeam_channel.specs.Claims.{view, IsSeatAt};
 ghost use Rattle.crossbeam_channel.specs.Ends.{sends_on};
 ghost use Rattle.hand_core.specs.Queue.{name_of};
 ghost use Rattle.hand_core.specs.CopyQueue.{taker_account};
 
-use crate::batch::{BATCH_CAPACITY, Batch};
+use crate::batch::{Batch, is_in_range};
 use crate::copy_queue::{Account, Makes, Message, Turns};
 use crate::done_sender::DoneSender;
 use crate::done_taker::DoneTaker;
@@ -47,29 +47,29 @@ pub fn done_open_in_batches<R>(
     ensures senders { IfOk result (λ ends. vec_len ends.0 ≡ senders) }
     ensures fresh { IfOk result (λ ends. (number : ℕ) → number < senders → slice_get ends.0.items number ≡ Some (record { queue = ends.1.queue; most = most; number = number; sent = []; marked = false; closed = false })) }
 {
-    if senders == 0 || senders > 4 || cap > 64 || most == 0 || most > BATCH_CAPACITY || most > cap {
+    if !is_in_range(senders, cap, most) {
         return Err(HandError::Range);
     }
-    opened(alloc, senders, cap / most, most).map_err(|_| HandError::Memory)
+    opened(alloc, senders, cap / most, most)
 }
 
-/// Opens a queue with room for so many batches, where the numbers are in range. The error is for want of memory.
+/// Opens a queue with room for so many batches, where the numbers are in range.
 fn opened(
     alloc: Global,
     senders: usize,
     room: usize,
     most: usize,
-) -> Result<(Vec<DoneSender>, DoneTaker), AllocError>
+) -> Result<(Vec<DoneSender>, DoneTaker), HandError>
     requires senders { senders ≤ 4 }
     requires room { 0 < room }
     requires most { (0 < most) × (most ≤ 8) }
     ensures taker { IfOk result (λ ends. ends.1 ≡ record { queue = ends.1.queue; room = room; senders = senders; came = []; in_hand = [] }) }
     ensures senders { IfOk result (λ ends. vec_len ends.0 ≡ senders) }
     ensures fresh { IfOk result (λ ends. (number : ℕ) → number < senders → slice_get ends.0.items number ≡ Some (record { queue = ends.1.queue; most = most; number = number; sent = []; marked = false; closed = false })) }
+    ensures memory { IfErr result (λ error. error ≡ HandError.Memory) }
 {
-    let mut all = Vec::with_capacity(alloc, senders)?;
     let (to, from, mut pass) = bounded_with::<Message, Account, Turns, Global>(alloc, room)?;
-    add_senders(&to, &mut pass, &mut all, senders, most)?;
+    let all = new_senders(alloc, &to, &mut pass, senders, most)?;
     let taker = DoneTaker {
         senders,
         marked: [false; 4],
@@ -80,23 +80,23 @@ fn opened(
     Ok((all, taker))
 }
 
-/// Adds this many senders, which the taker's pass makes.
-fn add_senders(
+/// This many senders, which the taker's pass makes.
+fn new_senders(
+    alloc: Global,
     to: &RuledSender<Message, Account, Turns, Global>,
     pass: &mut Pass<Message, Account>,
-    all: &mut Vec<DoneSender>,
     senders: usize,
     most: usize,
-) -> Result<(), AllocError>
-    requires room { (all.old.items ≡ []) × (senders ≤ vec_capacity all.old) }
+) -> Result<Vec<DoneSender>, AllocError>
     requires most { (0 < most) × (most ≤ 8) }
     requires channel { IsSeatAt (sends_on to.now) pass.old }
     requires knows { view pass.old ≡ taker_account }
-    ensures channel { IsSeatAt (sends_on to.now) pass.new }
+    ensures channel { OnOk result (IsSeatAt (sends_on to.now) pass.new) }
     ensures knows { OnOk result (view pass.new ≡ record taker_account { made = senders }) }
-    ensures made { OnOk result (vec_len all.new ≡ senders) }
-    ensures fresh { OnOk result ((number : ℕ) → number < senders → slice_get all.new.items number ≡ Some (record { queue = name_of (sends_on to.now); most = most; number = number; sent = []; marked = false; closed = false })) }
+    ensures made { IfOk result (λ all. vec_len all ≡ senders) }
+    ensures fresh { IfOk result (λ all. (number : ℕ) → number < senders → slice_get all.items number ≡ Some (record { queue = name_of (sends_on to.now); most = most; number = number; sent = []; marked = false; closed = false })) }
 {
+    let mut all = Vec::with_capacity(alloc, senders)?;
     for number in 0..senders {
         let theirs = to.another::<Makes>(pass);
         let to = to.try_clone()?;
@@ -108,5 +108,5 @@ fn add_senders(
             pass: theirs,
         });
     }
-    Ok(())
+    Ok(all)
 }

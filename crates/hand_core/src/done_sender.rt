@@ -104,7 +104,9 @@ impl DoneSender {
             pass,
             ..
         } = self;
-        let message = Message::Mark(*number);
-        patience::send::<Sends, _, _, _, R>(rt, to, pass, message).map_err(|_| Gone)
+        match patience::send::<Sends, _, _, _, R>(rt, to, pass, Message::Mark(*number)) {
+            Ok(()) => Ok(()),
+            Err(_) => Err(Gone),
+        }
     }
 }

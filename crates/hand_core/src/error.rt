@@ -1,3 +1,4 @@
+use std::alloc::AllocError;
 use thiserror::Error;
 
 /// Why a hand-over isn't opened.
@@ -7,6 +8,17 @@ pub enum HandError {
     Memory,
     #[error("there are 1 to 4 takers or senders, and room for 1 to 64 pages or copies, in batches of 1 to 8 that fit in it")]
     Range,
+}
+
+impl From<AllocError> for HandError {
+    ghost use Rattle.std.specs.Prelude.{◌≡◌};
+    ghost use Rattle.hand_core.specs.declared.error.HandError.TheVariants.{Memory};
+
+    ghost from_gives = { λ _ error. error ≡ Memory };
+
+    fn from(_error: AllocError) -> HandError {
+        HandError::Memory
+    }
 }
 
 /// The other side of a hand-over is gone.

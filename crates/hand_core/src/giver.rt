@@ -124,7 +124,9 @@ impl Giver {
             pass,
             ..
         } = self;
-        patience::send::<Puts, _, _, _, R>(rt, to, pass, Note::Mark).map_err(|_| Gone)?;
+        let Ok(()) = patience::send::<Puts, _, _, _, R>(rt, to, pass, Note::Mark) else {
+            return Err(Gone);
+        };
         *marks += 1;
         Ok(())
     }

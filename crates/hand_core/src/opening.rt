@@ -1,10 +1,10 @@
-ghost use Rattle.std.specs.Prelude.{◌≡◌, ◌+◌, ◌*◌, ◌/◌, ◌<◌, ◌≤◌, ◌↔◌, false, [], All, IfOk, OnOk, vec_len, vec_capacity};
+ghost use Rattle.std.specs.Prelude.{◌≡◌, ◌+◌, ◌*◌, ◌/◌, ◌<◌, ◌≤◌, ◌↔◌, false, [], All, IfOk, IfErr, OnOk, vec_len};
 ghost use Rattle.crossbeam_channel.specs.Claims.{view, IsSeatAt};
 ghost use Rattle.crossbeam_channel.specs.Ends.{sends_on, receives_on};
 ghost use Rattle.hand_core.specs.Queue.{name_of};
 ghost use Rattle.hand_core.specs.PageQueue.{giver_knows};
 
-use crate::batch::{BATCH_CAPACITY, Batch};
+use crate::batch::{Batch, is_in_range};
 use crate::error::HandError;
 use crate::giver::Giver;
 use crate::page_queue::{Known, Note, Ordered, Shares};
@@ -54,30 +54,30 @@ pub fn open_in_batches<R>(
     ensures takers { IfOk result (λ ends. vec_len ends.1 ≡ takers) }
     ensures fresh { IfOk result (λ ends. All (λ t. t ≡ record { hand_over = ends.0.hand_over; taken = []; in_hand = []; ended = false }) ends.1.items) }
 {
-    if takers == 0 || takers > 4 || cap > 64 || most == 0 || most > BATCH_CAPACITY || most > cap {
+    if !is_in_range(takers, cap, most) {
         return Err(HandError::Range);
     }
-    opened(alloc, base, takers, cap / most, most).map_err(|_| HandError::Memory)
+    opened(alloc, base, takers, cap / most, most)
 }
 
-/// Opens a hand-over with room for so many batches, where the numbers are in range. The error is for want of memory.
+/// Opens a hand-over with room for so many batches, where the numbers are in range.
 fn opened(
     alloc: Global,
     base: Serial,
     takers: usize,
     room: usize,
     most: usize,
-) -> Result<(Giver, Takers), AllocError>
+) -> Result<(Giver, Takers), HandError>
     requires takers { (0 < takers) × (takers ≤ 4) }
     requires room { 0 < room }
     requires most { (0 < most) × (most ≤ 8) }
     ensures giver { IfOk result (λ ends. ends.0 ≡ record { hand_over = ends.0.hand_over; room = room; most = most; takers = takers; base = base; given = []; marks = 0; closed = false }) }
     ensures takers { IfOk result (λ ends. vec_len ends.1 ≡ takers) }
     ensures fresh { IfOk result (λ ends. All (λ t. t ≡ record { hand_over = ends.0.hand_over; taken = []; in_hand = []; ended = false }) ends.1.items) }
+    ensures memory { IfErr result (λ error. error ≡ HandError.Memory) }
 {
-    let mut all = Vec::with_capacity(alloc, takers)?;
     let (to, from, mut pass) = bounded_with::<Note, Known, Ordered, Global>(alloc, room)?;
-    add_takers(&to, &from, &mut pass, &mut all, takers)?;
+    let all = new_takers(alloc, &to, &from, &mut pass, takers)?;
     let giver = Giver {
         base,
         next: u64::from(base),
@@ -91,23 +91,23 @@ fn opened(
     Ok((giver, all))
 }
 
-/// Adds this many takers, each with a share of the giver's knowledge.
-fn add_takers(
+/// This many takers, each with a share of the giver's knowledge.
+fn new_takers(
+    alloc: Global,
     to: &RuledSender<Note, Known, Ordered, Global>,
     from: &RuledReceiver<Note, Known, Ordered, Global>,
     pass: &mut Pass<Note, Known>,
-    all: &mut Takers,
     takers: usize,
-) -> Result<(), AllocError>
+) -> Result<Takers, AllocError>
     requires few { takers ≤ 4 }
-    requires room { (all.old.items ≡ []) × (takers ≤ vec_capacity all.old) }
     requires channel { (receives_on from.now ≡ sends_on to.now) × IsSeatAt (sends_on to.now) pass.old }
     requires knows { view pass.old ≡ giver_knows }
-    ensures channel { IsSeatAt (sends_on to.now) pass.new }
+    ensures channel { OnOk result (IsSeatAt (sends_on to.now) pass.new) }
     ensures knows { OnOk result ((view pass.new ≡ record giver_knows { shares = (view pass.new).shares }) × ((view pass.new).shares + takers ≡ 1024)) }
-    ensures made { OnOk result (vec_len all.new ≡ takers) }
-    ensures fresh { OnOk result (All (λ t. t ≡ record { hand_over = name_of (sends_on to.now); taken = []; in_hand = []; ended = false }) all.new.items) }
+    ensures made { IfOk result (λ all. vec_len all ≡ takers) }
+    ensures fresh { IfOk result (λ all. All (λ t. t ≡ record { hand_over = name_of (sends_on to.now); taken = []; in_hand = []; ended = false }) all.items) }
 {
+    let mut all = Vec::with_capacity(alloc, takers)?;
     for _taker in 0..takers {
         let theirs = to.another::<Shares>(pass);
         let from = from.try_clone()?;
@@ -118,5 +118,5 @@ fn add_takers(
             pass: theirs,
         });
     }
-    Ok(())
+    Ok(all)
 }

@@ -37,8 +37,10 @@ pub(crate) fn send<M: Outcome<T, V> + Lesson<T, V>, T: Drop, V, P: Protocol<T, V
         }
         pause(tries);
     }
-    to.send_as::<M, R>(rt, pass, message)
-        .map_err(|refused| refused.into_inner())
+    match to.send_as::<M, R>(rt, pass, message) {
+        Ok(()) => Ok(()),
+        Err(refused) => Err(refused.into_inner()),
+    }
 }
 
 /// Takes the message at the front of the queue, and waits for one. The error is that the other side is gone and nothing is left.

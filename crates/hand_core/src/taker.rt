@@ -1,3 +1,8 @@
+ghost use Rattle.std.specs.Prelude.{◌≡◌, ◌≢◌, ◌++◌, ◌∷◌, ◌↔◌, [], true, false, IfSome, IfNone, OnErr};
+ghost use Rattle.frame_core.specs.Serials.{IsRising};
+ghost use Rattle.hand_core.specs.HandedOver.{is_mark, pages_in_one};
+ghost use Rattle.hand_core.specs.PageEnds.{IsAnswered, off};
+
 use crate::batch::BATCH_CAPACITY;
 use crate::page_queue::{Gets, Known, Note, Ordered};
 use crate::patience;
@@ -43,10 +48,6 @@ pub enum Took {
 }
 
 impl Taker {
-    ghost use Rattle.std.specs.Prelude.{◌≡◌, ◌≢◌, ◌++◌, ◌∷◌, ◌↔◌, [], true, false, IfSome, IfNone, OnErr};
-    ghost use Rattle.frame_core.specs.Serials.{IsRising};
-    ghost use Rattle.hand_core.specs.PageEnds.{IsAnswered, off};
-
     /// Takes the next page, and waits for it. Nothing more is taken after an end mark.
     pub fn take<R: Wait>(&mut self, rt: &R) -> Took
         requires { self.old.ended ≡ false }
@@ -99,10 +100,21 @@ impl Taker {
             from,
             pass,
         } = self;
-        match patience::receive::<Gets, _, _, _, R>(rt, from, pass)? {
-            Note::Pages(pages) => *hand = pages.into_iter(),
-            Note::Mark => *ended = true,
-        }
+        let note = patience::receive::<Gets, _, _, _, R>(rt, from, pass)?;
+        keep(ended, hand, note);
         Ok(())
+    }
+}
+
+// Keeps the pages of a message in hand, which has to be empty, or notes that the end mark came.
+fn keep(ended: &mut bool, hand: &mut IntoIter<Isolated, BATCH_CAPACITY>, note: Note)
+    requires going { ended.old ≡ false }
+    requires empty { hand.old ≡ [] }
+    ensures ended { ended.new ≡ is_mark note }
+    ensures hand { hand.new ≡ pages_in_one note }
+{
+    match note {
+        Note::Pages(pages) => *hand = pages.into_iter(),
+        Note::Mark => *ended = true,
     }
 }

@@ -5,7 +5,7 @@ use Rattle.hand_core.specs.declared.copy_queue.Account.{Account}
 use Rattle.hand_core.specs.Batches.{pages_of}
 use Rattle.hand_core.specs.Queue.{name_of}
 use Rattle.hand_core.proofs.CopySteps.{makes}
-use Rattle.hand_core.proofs.done_opening.add_senders.Goals as goal
+use Rattle.hand_core.proofs.done_opening.new_senders.Goals as goal
 
 pub another-theirs-requires-clause-rule : goal.another-theirs-requires-clause-rule
 another-theirs-requires-clause-rule c =

@@ -4,7 +4,7 @@ use Rattle.crossbeam_channel.specs.Claims.{view, IsSeatAt}
 use Rattle.crossbeam_channel.specs.Ends.{sends_on}
 use Rattle.hand_core.specs.Queue.{name_of}
 use Rattle.hand_core.specs.CopyQueue.{taker_account}
-use Rattle.hand_core.proofs.done_opening.add_senders.Given as goal
+use Rattle.hand_core.proofs.done_opening.new_senders.Given as goal
 
 abbrev pub invariant-loop-number : goal.invariant-loop-number
 invariant-loop-number l = record {

@@ -7,7 +7,7 @@ use Rattle.hand_core.specs.Batches.{before_hand}
 use Rattle.hand_core.specs.PageQueue.{giver_knows}
 use Rattle.hand_core.specs.Queue.{name_of}
 use Rattle.hand_core.proofs.PageSteps.{cuts}
-use Rattle.hand_core.proofs.opening.add_takers.Goals as goal
+use Rattle.hand_core.proofs.opening.new_takers.Goals as goal
 
 pub another-theirs-requires-clause-rule : goal.another-theirs-requires-clause-rule
 another-theirs-requires-clause-rule c = let shares = c.loop-taker.invariant.shares in cuts _ _ (omega arith)

@@ -3,7 +3,7 @@ use Rattle.crossbeam_channel.specs.Claims.{view, IsSeatAt}
 use Rattle.crossbeam_channel.specs.Ends.{sends_on}
 use Rattle.hand_core.specs.Queue.{name_of}
 use Rattle.hand_core.specs.PageQueue.{giver_knows}
-use Rattle.hand_core.proofs.opening.add_takers.Given as goal
+use Rattle.hand_core.proofs.opening.new_takers.Given as goal
 
 abbrev pub invariant-loop-taker : goal.invariant-loop-taker
 invariant-loop-taker l = record {
