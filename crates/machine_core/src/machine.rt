@@ -107,14 +107,14 @@ impl<I: Ledger, N: Ledger, M: Ledger, B: Ledger> Machine<I, N, M, B> {
         match command {
             Command::OutOfRange => *reply = Refusal::OutOfRange.reply(),
             Command::Profile2 => *reply = Reply::Done,
-            Command::Open { zone, blocks } => *reply = self.open(zone, blocks)?,
+            Command::Open { zone, blocks } => self.open(zone, blocks, reply)?,
             Command::On { zone, calls } => self.call(zone, calls, reply),
             Command::Compact { zone } => *reply = self.compact(zone),
             Command::Pool {
                 zone,
                 count,
                 blocks,
-            } => *reply = self.pool(zone, count, blocks),
+            } => self.tell_pool(zone, count, blocks, reply),
             Command::During { zone } => *reply = self.during(zone),
         }
         Ok(())
@@ -123,13 +123,19 @@ impl<I: Ledger, N: Ledger, M: Ledger, B: Ledger> Machine<I, N, M, B> {
     /// Opens a zone, where none was opened before. This is a function of its own since it needs room for a whole world, which
     /// no other command does.
     #[inline(never)]
-    fn open(&mut self, zone: ZoneNo, blocks: BlockCount) -> Result<Reply, AllocError>
-        ensures ok { IfOk result (λ reply. record { reply = reply; world = self.new.world } ≡ open_step zone blocks self.old.places self.old.world) }
+    fn open(
+        &mut self,
+        zone: ZoneNo,
+        blocks: BlockCount,
+        reply: &mut Reply,
+    ) -> Result<(), AllocError>
+        ensures ok { OnOk result (record { reply = reply.new; world = self.new.world } ≡ open_step zone blocks self.old.places self.old.world) }
         ensures places { OnOk result (self.new.places ≡ self.old.places) }
         ensures memory { OnErr result (self.old.world ≡ None) }
     {
         if self.world().is_some() {
-            return Ok(Refusal::AlreadyOpen.reply());
+            *reply = Refusal::AlreadyOpen.reply();
+            return Ok(());
         }
         let Stage::Closed(Opening { alloc, blanks }) = replace(&mut self.zone, Stage::Gone) else {
             return Err(AllocError);
@@ -138,7 +144,8 @@ impl<I: Ledger, N: Ledger, M: Ledger, B: Ledger> Machine<I, N, M, B> {
             return Err(AllocError);
         };
         self.give_world(world);
-        Ok(Reply::Done)
+        *reply = Reply::Done;
+        Ok(())
     }
 
     /// The reply to a round over the zone with this number. Without threads no worker can be had, so the round isn't run.
@@ -180,6 +187,15 @@ impl<I: Ledger, N: Ledger, M: Ledger, B: Ledger> Machine<I, N, M, B> {
             ),
             _ => Refusal::OtherZone.reply(),
         }
+    }
+
+    /// Writes the reply to a pool. This is a function of its own since it needs room for a pool's blocks, which no other command does.
+    #[inline(never)]
+    fn tell_pool(&mut self, zone: ZoneNo, count: BlockCount, blocks: PoolBlocks, reply: &mut Reply)
+        ensures answer { record { reply = reply.new; world = self.new.world } ≡ pool_on zone count blocks self.old.world }
+        ensures places { self.new.places ≡ self.old.places }
+    {
+        *reply = self.pool(zone, count, blocks);
     }
 
     /// The world of the zone that is open, if one is.
@@ -325,12 +341,13 @@ fn answer_series<I: Ledger, N: Ledger, M: Ledger, B: Ledger>(
         step,
     } = series;
     let count = count.get();
-    let mut page = u128::from(first);
+    let mut page = first;
     for done in 0..count {
         if let Err(refusal) = answer_at(world, call, address(space, page)) {
             return Reply::DoneUntil { done, refusal };
         }
-        page += u128::from(step);
+        // A number that doesn't fit stands for one beyond the pages of any space, at which the next call is refused.
+        page = page.saturating_add(step);
     }
     Reply::AllDone(count)
 }
@@ -373,7 +390,7 @@ fn repeat<I: Ledger, N: Ledger, M: Ledger, B: Ledger>(
 }
 
 /// The address of a page in a space, if the space has such a page.
-fn address(space: SpaceNo, page: u128) -> Option<Address>
+fn address(space: SpaceNo, page: u64) -> Option<Address>
     ensures { result ≡ address_of space page }
 {
     let vpage = VPage::new(u32::try_from(page).ok()?)?;

@@ -37,7 +37,6 @@ pub fn carry<G: Gate, R: Wait>(
     requires serials { serials.items ≡ [] }
     ensures { IsCarried taker sender result }
 {
-    let most = sender.most();
     let mut carried = Carried {
         taker,
         sender,
@@ -46,7 +45,7 @@ pub fn carry<G: Gate, R: Wait>(
     };
     let mut copies = Batch::new();
     for _ in rt.forever() {
-        if !carry_next(rt, &mut carried, &mut copies, most, gate, who) {
+        if !carry_next(rt, &mut carried, &mut copies, gate, who) {
             return carried;
         }
     }
@@ -58,15 +57,14 @@ fn carry_next<G: Gate, R: Wait>(
     rt: &R,
     carried: &mut Carried,
     copies: &mut Batch<Copied>,
-    most: usize,
     gate: &G,
     who: usize,
 ) -> bool
-    requires most { (most ≡ carried.old.sender.most) × (most ≤ 8) }
-    requires way { IsUnderWay carried.old.taker carried.old.sender carried.old copies.old.items }
+    requires { IsUnderWay carried.old.taker carried.old.sender carried.old copies.old.items }
     ensures more { result ≡ true → IsUnderWay carried.old.taker carried.old.sender carried.new copies.new.items }
     ensures over { result ≡ false → IsCarried carried.old.taker carried.old.sender carried.new }
 {
+    let most = carried.sender.most();
     match carried.taker.take(rt) {
         Took::Page(page) => {
             gate.at(Point::Taken, who);

@@ -10,7 +10,8 @@ use std::alloc::AllocError;
 use text_core::{Answers, Block, BlockCount, Command, PoolBlocks, Reply, Respond};
 
 /// A machine with threads that answers a script. It answers by itself what a machine on one thread answers. For a round, for a pool
-/// and for a block it has three calls, which start the threads.
+/// and for a block it has three calls, which start the threads. Those for a round and a pool write the reply over the one that they are
+/// passed.
 #[derive(Drop)]
 pub(crate) struct Dispatcher<A, R, P, D> {
     pub(crate) machine: A,
@@ -21,8 +22,8 @@ pub(crate) struct Dispatcher<A, R, P, D> {
 
 impl<
     A: BaseMachine,
-    R: Fn(&mut A, ZoneNo) -> Reply,
-    P: Fn(&mut A, ZoneNo, BlockCount, PoolBlocks) -> Reply,
+    R: Fn(&mut A, ZoneNo, &mut Reply),
+    P: Fn(&mut A, ZoneNo, BlockCount, PoolBlocks, &mut Reply),
     D: Fn(&mut A, Block) -> Result<Answers, AllocError>,
 > Respond for Dispatcher<A, R, P, D> {
     ghost may = { λ old c answers new. IsThreadedStep (A.seen old.machine) c answers (A.seen new.machine) };
@@ -31,13 +32,15 @@ impl<
 
     // Where no zone is broken, each of the three calls may be made, and it answers as the machine's step says.
     ghost ready = { λ now.
-        ((old : _) (zone : _) → (A.seen old.now).broken ≡ None → R.pre now.round old zone)
-        × ((old : _) (zone : _) (reply : _) (new : _) → (A.seen old.now).broken ≡ None → R.post now.round old zone reply new
-        → IsStepBy (is_threaded (Compact zone) (A.seen old.now).single.world) (A.seen old.now) (Compact zone) reply (A.seen new.now))
-        × ((old : _) (zone : _) (count : _) (blocks : _) → (A.seen old.now).broken ≡ None → P.pre now.pool old zone count blocks)
-        × ((old : _) (zone : _) (count : _) (blocks : _) (reply : _) (new : _) → (A.seen old.now).broken ≡ None
-        → P.post now.pool old zone count blocks reply new
-        → IsStepBy (is_threaded (Pool zone count blocks) (A.seen old.now).single.world) (A.seen old.now) (Pool zone count blocks) reply (A.seen new.now))
+        ((old : _) (zone : _) (reply : _) → (A.seen old.now).broken ≡ None → R.pre now.round old zone reply)
+        × ((old : _) (zone : _) (reply : _) (done : _) (new : _) (told : _) → (A.seen old.now).broken ≡ None
+        → R.post now.round old zone reply done new told
+        → IsStepBy (is_threaded (Compact zone) (A.seen old.now).single.world) (A.seen old.now) (Compact zone) told.now (A.seen new.now))
+        × ((old : _) (zone : _) (count : _) (blocks : _) (reply : _) → (A.seen old.now).broken ≡ None
+        → P.pre now.pool old zone count blocks reply)
+        × ((old : _) (zone : _) (count : _) (blocks : _) (reply : _) (done : _) (new : _) (told : _) → (A.seen old.now).broken ≡ None
+        → P.post now.pool old zone count blocks reply done new told
+        → IsStepBy (is_threaded (Pool zone count blocks) (A.seen old.now).single.world) (A.seen old.now) (Pool zone count blocks) told.now (A.seen new.now))
         × ((old : _) (block : _) → (A.seen old.now).broken ≡ None → D.pre now.block old block)
         × ((old : _) (block : _) (result : _) (new : _) → (A.seen old.now).broken ≡ None → D.post now.block old block result new
         → IfOk result (λ answers. IsThreadedStep (A.seen old.now) (command_in_block block) answers (A.seen new.now))
@@ -49,12 +52,12 @@ impl<
             return Ok(());
         }
         match command {
-            Command::Compact { zone } => *reply = (self.round)(&mut self.machine, zone),
+            Command::Compact { zone } => (self.round)(&mut self.machine, zone, reply),
             Command::Pool {
                 zone,
                 count,
                 blocks,
-            } => *reply = (self.pool)(&mut self.machine, zone, count, blocks),
+            } => (self.pool)(&mut self.machine, zone, count, blocks, reply),
             Command::Open { .. }
             | Command::On { .. }
             | Command::During { .. }

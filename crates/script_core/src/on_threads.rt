@@ -21,7 +21,7 @@ use std::marker::Brand;
 use std::sync::Wait;
 use std::sync::ledger::Ledger;
 use std::thread::Threads;
-use text_core::{Block, BlockCount, Input, Output, PoolBlocks, RunError, Totals, play};
+use text_core::{Block, BlockCount, Input, Output, PoolBlocks, Reply, RunError, Totals, play};
 use zone_core::Blanks;
 
 /// Runs a script as `run` does, but its rounds and pools on threads, and the calls of a client during the round of a block. These calls
@@ -138,19 +138,19 @@ fn run_threaded<
         (R.reads reader.old) (R.reads reader.new) (R.remaining reader.old)) }
     ensures stuck { IfErr result (λ error. error.fault ≡ Fault.Write → IsTrue (W.stuck writer.new)) }
 {
-    let round = move |machine: &mut WithThreads<I, N, M, B>, zone: ZoneNo|
+    let round = move |machine: &mut WithThreads<I, N, M, B>, zone: ZoneNo, reply: &mut Reply|
         requires whole { machine.old.broken ≡ None }
-        ensures { IsStepBy (is_threaded (Compact zone) machine.old.single.world) machine.old (Compact zone) result machine.new }
-    { machine.answer_compact(rt, alloc, zone) };
+        ensures { IsStepBy (is_threaded (Compact zone) machine.old.single.world) machine.old (Compact zone) reply.new machine.new }
+    { machine.answer_compact(rt, alloc, zone, reply) };
     let pool = move |machine: &mut WithThreads<
         I,
         N,
         M,
         B,
-    >, zone: ZoneNo, count: BlockCount, blocks: PoolBlocks,|
+    >, zone: ZoneNo, count: BlockCount, blocks: PoolBlocks, reply: &mut Reply,|
         requires whole { machine.old.broken ≡ None }
-        ensures { IsStepBy (is_threaded (Pool zone count blocks) machine.old.single.world) machine.old (Pool zone count blocks) result machine.new }
-    { machine.answer_pool(rt, alloc, zone, count, blocks) };
+        ensures { IsStepBy (is_threaded (Pool zone count blocks) machine.old.single.world) machine.old (Pool zone count blocks) reply.new machine.new }
+    { machine.answer_pool(rt, alloc, zone, count, blocks, reply) };
     let block = move |machine: &mut WithThreads<I, N, M, B>, block: Block|
         requires whole { machine.old.broken ≡ None }
         ensures ok { IfOk result (λ answers. IsThreadedStep machine.old (command_in_block block) answers machine.new) }

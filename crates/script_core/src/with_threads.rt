@@ -101,22 +101,24 @@ impl<
     M: Ledger + Send + Sync,
     B: Ledger + Send + Sync,
 > WithThreads<I, N, M, B> {
-    /// Answers the command for a round over a zone, where no zone is broken. This is a function of its own since it needs room for a
-    /// whole world, which no other command does.
+    /// Answers the command for a round over a zone, where no zone is broken, and writes the reply over the one that is passed. This is a
+    /// function of its own since it needs room for a whole world, which no other command does.
     #[inline(never)]
     pub(crate) fn answer_compact<H: Threads + Wait + Sync>(
         &mut self,
         rt: &H,
         alloc: Global,
         zone: ZoneNo,
-    ) -> Reply
+        reply: &mut Reply,
+    )
         requires whole { self.old.broken ≡ None }
-        ensures { IsStepBy (is_threaded (Command.Compact zone) self.old.single.world) self.old (Command.Compact zone) result self.new }
+        ensures { IsStepBy (is_threaded (Command.Compact zone) self.old.single.world) self.old (Command.Compact zone) reply.new self.new }
     {
         let Some(world) = self.machine.take_closed(zone) else {
-            return self.machine.compact(zone);
+            *reply = self.machine.compact(zone);
+            return;
         };
-        self.run_round(rt, alloc, world)
+        *reply = self.run_round(rt, alloc, world);
     }
 
     /// Answers the command for a pool of blocks of a zone. This is a function of its own for the same reason.
@@ -128,14 +130,16 @@ impl<
         zone: ZoneNo,
         count: BlockCount,
         blocks: PoolBlocks,
-    ) -> Reply
+        reply: &mut Reply,
+    )
         requires whole { self.old.broken ≡ None }
-        ensures { IsStepBy (is_threaded (Command.Pool zone count blocks) self.old.single.world) self.old (Command.Pool zone count blocks) result self.new }
+        ensures { IsStepBy (is_threaded (Command.Pool zone count blocks) self.old.single.world) self.old (Command.Pool zone count blocks) reply.new self.new }
     {
         let Some(world) = self.machine.take_closed(zone) else {
-            return self.machine.pool(zone, count, blocks);
+            *reply = self.machine.pool(zone, count, blocks);
+            return;
         };
-        self.run_pool(rt, alloc, world, count, blocks)
+        *reply = self.run_pool(rt, alloc, world, count, blocks);
     }
 
     /// Answers a block. This is a function of its own for the same reason.

@@ -1,7 +1,7 @@
 use Rattle.std.proofs.Common.{◌≡◌, ◌∙◌, ℕ, suc, ◌+◌, ◌-◌, refl, sym, ap, arith}
 use Rattle.std.specs.Prelude.{⊤, Result, Ok, Err, OnOk}
-use Rattle.machine_core.specs.Machine.{page_step, series_from}
-use Rattle.machine_core.proofs.SeriesOfCalls.{series_from-on}
+use Rattle.machine_core.specs.Machine.{page_step}
+use Rattle.machine_core.proofs.SeriesOfCalls.{series_from-on, series_from-saturated}
 use Rattle.machine_core.proofs.machine.answer_series.Goals as goal
 
 -- a call of a series that isn't refused is accepted
@@ -16,9 +16,6 @@ loop-done-preserved g c =
     let m = c.get-count.result - (done + 1) in
     let left : c.get-count.result - done ≡ suc m = omega (arith, c.loop-done-test.true) in
     let told = accepted c.answer_at.result c.in_default.not-Err c.answer_at.ensures.ok ∙ ap (page_step s.call c.loop-done.world) c.address.ensures in
-    record {
-      page = omega (arith, c.loop-done.invariant.page, c.from-page-in-loop-done.ensures);
-      left = ap (λ (n : ℕ). series_from s.call s.space (c.loop-done.page + n) s.step (done + 1) m c.answer_at.new.world) c.from-page-in-loop-done.ensures
-          ∙ sym (series_from-on s.call s.space c.loop-done.page s.step done _ m c.loop-done.world c.answer_at.new.world left told)
-          ∙ c.loop-done.invariant.left;
-    }
+    series_from-saturated s.call s.space c.loop-done.page s.step (done + 1) m _ c.answer_at.new.world c.saturating_add-page.ensures
+    ∙ sym (series_from-on s.call s.space c.loop-done.page s.step done _ m c.loop-done.world c.answer_at.new.world left told)
+    ∙ c.loop-done.invariant
