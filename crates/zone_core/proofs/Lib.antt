@@ -4,6 +4,7 @@ pub mod Calls
 pub mod Coming
 pub mod Ending
 mod InTurn
+mod MadeAs
 pub mod Moves
 mod OneThread
 pub mod Packed

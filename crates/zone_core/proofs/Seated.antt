@@ -1,6 +1,6 @@
 -- What the clauses of public calls say of pages, books and seats.
 use Rattle.std.proofs.Common.{◌≡◌, ℕ, ◌+◌, Bool, true, false, if◌then◌else◌, ◌≤◌, [], length, refl, sym, ap, subst, ◌∙◌, arith}
-use Rattle.std.specs.Prelude.{Option, Some, None, IsSome, IfSome, Result, Ok, Err, IsOk, IfOk, OnOk, ◌↔◌, ◌&&◌, nat_eq, nat_lt}
+use Rattle.std.specs.Prelude.{Option, Some, None, is_some, IsSome, IfSome, Result, Ok, Err, IsOk, IfOk, OnOk, ◌↔◌, ◌&&◌, nat_eq, nat_lt}
 use Rattle.std.specs.FinMap as map
 use Rattle.std.proofs.lemmas.Bool.{eq-eqb, both_ways, ltb-true, ltb-false}
 use Rattle.std.proofs.lemmas.List.{nil_from_length}
@@ -9,7 +9,7 @@ use Rattle.std.specs.Result.{result_err}
 use Rattle.frame_core.specs.declared.record.Record.{Record}
 use Rattle.frame_core.specs.Moves.{isolated, moved, put_back, out}
 use Rattle.frame_core.proofs.Ends.{is_balanced, ended_once as each_once}
-use Rattle.frame_core.specs.Page.{IsolatedPage}
+use Rattle.frame_core.specs.Page.{IsolatedPage, Page}
 use Rattle.state_core.specs.declared.error.ZoneError.{ZoneError}
 use Rattle.state_core.specs.declared.error.ZoneError.TheVariants.{Out}
 use Rattle.state_core.specs.declared.information.Audit.{Audit}
@@ -18,8 +18,8 @@ use Rattle.state_core.specs.declared.placement.Placement.TheVariants.{At, Moving
 use Rattle.zone_core.specs.Books.{AreBooks}
 use Rattle.zone_core.specs.Counted.{IsCounted}
 use Rattle.state_core.specs.Valid.{IsValidZone, is_under}
-use Rattle.state_core.specs.Carrying.{relocated}
-use Rattle.state_core.specs.Ending.{is_own, IsSettled, IsEnded}
+use Rattle.state_core.specs.Carrying.{relocated, words_now}
+use Rattle.state_core.specs.Ending.{is_own, IsOwnCopy, IsSettled, IsEnded}
 use Rattle.state_core.specs.Packed.{IsPacked}
 use Rattle.state_core.specs.Pairs.{HaveMet}
 use Rattle.zone_core.specs.Seats.{IsAudited, ScanSeat, EndSeat}
@@ -35,6 +35,31 @@ neither false b e = refl
 -- a page whose move has ended isn't moving any more
 pub ended_once : (v : ZoneState) (entry : Record) (page frame : ℕ) (p : IsolatedPage) → p.page.number ≡ page → is_own (relocated v entry page (At frame)) p ≡ false
 ended_once v entry page frame p e = neither (nat_eq p.page.zone v.number) _ (ap (λ (o : Option Placement). is_under o p.serial) (get_insert_same v.placement page p.page.number (At frame) e))
+
+-- a page of a copy whose move is found is moving in the zone, and only then
+module _ {z v : ZoneState} {serial : ℕ} {page : Page} {copy : IsolatedPage} (same : z ≡ v) (serial_is : serial ≡ copy.serial) (page_is : page ≡ copy.page) where
+  found_is : is_own z (record { serial = serial; page = page }) ≡ is_own v copy
+  found_is = λ i. is_own (same i) (record { serial = serial_is i; page = page_is i })
+
+  pub own_found : {A : Type 0} {x : A} (way : Option A) → IsSome way ↔ (is_own z (record { serial = serial; page = page }) ≡ true) → way ≡ Some x → is_own v copy ≡ true
+  own_found way found is = sym found_is ∙ found.0 (ap is_some is)
+
+  pub none_found : {A : Type 0} (way : Option A) → IsSome way ↔ (is_own z (record { serial = serial; page = page }) ≡ true) → ((x : A) → way ≡ Some x → ⊥)
+      → (false ≡ true → IsOwnCopy v copy) × (IsOwnCopy v copy → false ≡ true)
+  none_found (Some x) found not = absurd (not x refl)
+  none_found None found not = (λ bad. absurd (cc), λ own. found.1 (found_is ∙ own.own))
+
+-- a copy has the words of a page where they are those of what is the same page
+pub words_of_copy : {z v : ZoneState} {page copy : Page} {number : ℕ} → z ≡ v → page ≡ copy → number ≡ copy.number → page.words ≡ words_now z number → copy.words ≡ words_now v copy.number
+words_of_copy same page_is number_is are = ap (λ (p : Page). p.words) (sym page_is) ∙ are ∙ (λ i. words_now (same i) (number_is i))
+
+-- and it is no copy of the zone's own where it has other words
+pub other_words : {z v : ZoneState} {page : Page} {copy : IsolatedPage} {number : ℕ} {has : Bool} → z ≡ v → page ≡ copy.page → number ≡ copy.page.number → has ≡ false
+    → (page.words ≡ words_now z number → has ≡ true) → (false ≡ true → IsOwnCopy v copy) × (IsOwnCopy v copy → false ≡ true)
+other_words same page_is number_is differ words = (
+  λ bad. absurd (cc),
+  λ own. sym differ ∙ words (ap (λ (p : Page). p.words) page_is ∙ own.same ∙ sym (λ i. words_now (same i) (number_is i))),
+)
 
 -- the end of a move, as the public call says it
 pub ended_in : (z v new : ZoneState) (p : IsolatedPage) (page serial source target : ℕ) (kept left : ℕ → ℕ → ℕ) → z ≡ v → p.page.number ≡ page → p.serial ≡ serial → map.get z.placement page ≡ Some (Moving serial source target) → IsSettled z new page (kept source target) (left source target) → IsEnded v new p.page.number p.serial kept left

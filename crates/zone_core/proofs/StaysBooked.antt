@@ -165,6 +165,35 @@ booked_met {t} {t_new} {m} {b} {v} {u} count last r is answer ok scans books tol
       back = books.back;
     })
 
+-- the books after the answer that a page was isolated
+pub booked_page : {t t_new m b : ℕ} {v u : ZoneState} {p : IsolatedPage} (count : ℕ) (last : Option Answered) (r : Result (Next IsolatedPage) ZoneError) → r ≡ Ok (next.Page p)
+    → IfOk r (λ found. found ≡ next_answer v (next_pair v)) → OnOk r (u ≡ next_state v (next_pair v))
+    → AreBooks t m b v → t ≡ scan_amount count last → t_new ≡ scan_amount (count + 1) (Some answered.Page) → AreBooks t_new m b u
+booked_page {t} {t_new} {m} {b} {v} {u} {p} count last r is answer ok books told marked =
+    by (next_pair v) (subst (λ (q : Result (Next IsolatedPage) ZoneError). IfOk q (λ found. found ≡ next_answer v (next_pair v))) is answer)
+    (subst (λ (q : Result (Next IsolatedPage) ZoneError). OnOk q (u ≡ next_state v (next_pair v))) is ok) where
+      by : (o : Option Pair) → next.Page p ≡ next_answer v o → u ≡ next_state v o → AreBooks t_new m b u
+      by None found step = absurd (cc)
+      by (Some pair) found step = subst (AreBooks t_new m b) (sym step) (record {
+        last = Some answered.Page;
+        counted = marked ∙ ap (λ (n : ℕ). scan_amount (n + 1) (Some answered.Page)) (seat_counted count last books told);
+        met = λ noted quiet. absurd (cc);
+        moved = books.moved;
+        back = books.back;
+      })
+
+-- the books after the answer that the journal is full
+pub booked_full : {t t_new m b : ℕ} {v u : ZoneState} {e : ZoneError} (count : ℕ) (last : Option Answered) (r : Result (Next IsolatedPage) ZoneError) → r ≡ Err e → OnErr r (u ≡ v)
+    → AreBooks t m b v → t ≡ scan_amount count last → t_new ≡ scan_amount count (Some answered.JournalFull) → AreBooks t_new m b u
+booked_full {t} {t_new} {m} {b} {v} {u} count last r is err books told marked =
+    subst (AreBooks t_new m b) (sym (subst (λ (q : Result (Next IsolatedPage) ZoneError). OnErr q (u ≡ v)) is err)) (record {
+      last = Some answered.JournalFull;
+      counted = marked ∙ ap (λ (n : ℕ). scan_amount n (Some answered.JournalFull)) (seat_counted count last books told);
+      met = λ noted quiet. absurd (cc);
+      moved = books.moved;
+      back = books.back;
+    })
+
 -- a call that may be refused leaves what held before it, or what holds after its step
 pub either_way : {A E : Type 0} (P : ZoneState → Type 0) {old new step : ZoneState} (r : Result A E) → OnErr r (new ≡ old) → OnOk r (new ≡ step) → P old → P step → P new
 either_way P (Ok a) err ok before after = subst P (sym ok) after

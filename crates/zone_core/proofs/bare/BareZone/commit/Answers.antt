@@ -1,15 +1,17 @@
-use Rattle.std.proofs.Common.{◌∙◌, ap, subst, sym}
+use Rattle.std.proofs.Common.{◌∙◌, refl, ap, subst, sym}
 use Rattle.std.specs.FinMap as map
 use Rattle.frame_core.specs.declared.record.Cause.TheVariants.{Pinned}
 use Rattle.frame_core.specs.declared.record.Record.TheVariants.{Moved, Back}
 use Rattle.frame_core.specs.Page.{Page}
-use Rattle.state_core.specs.Ending.{is_own, source_of, target_of, moved_to_target}
+use Rattle.state_core.specs.Ending.{is_own, IsOwnCopy, source_of, target_of, moved_to_target}
 use Rattle.state_core.specs.Pairs.{HaveMet}
 use Rattle.state_core.specs.Valid.{IsValidZone}
 use Rattle.state_core.specs.ZoneState.{ZoneState, is_quiet}
 use Rattle.state_core.proofs.StaysMet.{met_moved, never_pinned}
-use Rattle.zone_core.proofs.Seated.{ended_once, ended_in}
+use Rattle.zone_core.proofs.Seated.{ended_once, ended_in, own_found, none_found, words_of_copy, other_words}
+use Rattle.zone_core.proofs.bare.BareZone.commit.Given.{Over}
 use Rattle.zone_core.proofs.bare.BareZone.commit.Goals as goal
+use Rattle.zone_core.proofs.bare.BareZone.commit.Goals.{After-has_pin}
 
 pub returns-then-has_pin-clause-once : goal.returns-then-has_pin-clause-once
 returns-then-has_pin-clause-once g c =
@@ -59,3 +61,24 @@ returns-then-has_pin-clause-moves g c quiet =
     let is = c.deref-3.ensures in
     let placed = ap (λ (v : ZoneState). map.get v.placement way.page) (is ∙ sym c.deref.ensures) ∙ c.in-Some.ensures.placed in
     absurd (never_pinned c.deref-3.result.now way.page way.serial way.source way.target (subst IsValidZone (sym is) c.self.invariant) placed (ap is_quiet (is ∙ c.self.view_is) ∙ quiet) (sym c.has_pin.ensures ∙ c.if-has_pin.true))
+
+pub returns-in_default-clause-own : goal.returns-in_default-clause-own
+returns-in_default-clause-own g c = none_found (c.deref.ensures ∙ c.self.view_is) c.serial.ensures c.page.ensures c.find_move.result c.find_move.ensures.own c.in_default.not-Some
+
+pub returns-then-not-has_words-clause-own : goal.returns-then-not-has_words-clause-own
+returns-then-not-has_words-clause-own g c =
+    other_words (c.deref-2.ensures ∙ c.self.view_is) c.page-2.ensures (c.in-Some.ensures.named.0 ∙ ap (λ (p : Page). p.number) c.page.ensures) c.if-not-has_words.true c.has_words.ensures.1
+
+own_here : (g : Over) (c : After-has_pin g) → IsOwnCopy c.args.self.now c.args.copied
+own_here g c = record {
+  own = own_found (c.deref.ensures ∙ c.self.view_is) c.serial.ensures c.page.ensures c.find_move.result c.find_move.ensures.own c.in-Some.is;
+  same =
+      words_of_copy (c.deref-2.ensures ∙ c.self.view_is) c.page-2.ensures (c.in-Some.ensures.named.0 ∙ ap (λ (p : Page). p.number) c.page.ensures)
+      (c.has_words.ensures.0 c.if-not-has_words.false);
+}
+
+pub returns-then-has_pin-clause-own : goal.returns-then-has_pin-clause-own
+returns-then-has_pin-clause-own g c = (λ ok. own_here g (goal.at.returns-then-has_pin-clause-own g c).After-has_pin, λ own. refl)
+
+pub returns-clause-own : goal.returns-clause-own
+returns-clause-own g c = (λ ok. own_here g (goal.at.returns-clause-own g c).After-has_pin, λ own. refl)
