@@ -39,7 +39,7 @@ took_by z next None (Some pair) is moved =
     omega (arith, spare.0, ap (λ (w : ZoneState). w.room) left, committed_took (isolated_next z pair) (isolated z.records) pair.page)
 
 -- each move takes places of the journal
-took : (z next : ZoneState) → moved_next z ≡ Some next → next.room < z.room
+pub took : (z next : ZoneState) → moved_next z ≡ Some next → next.room < z.room
 took z next moved = took_by z next (isolate_refusal z) (next_pair z) refl moved
 
 none_left_by : (z : ZoneState) (o : Option ZoneState) → moved_next z ≡ o → z.room ≤ 0 → o ≡ None

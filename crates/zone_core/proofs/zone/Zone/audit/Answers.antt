@@ -50,3 +50,9 @@ returns-clause-most g c most =
 pub returns-then-not-is_whole-clause-most : goal.returns-then-not-is_whole-clause-most
 returns-then-not-is_whole-clause-most g c least =
     absurd (part_missing c.args.ends.now c.tell-2.new.self c.tell-2.ensures.seat (sym c.is_whole.ensures.whole ∙ c.if-not-is_whole.true) c.is_whole.ensures.most least)
+
+pub returns-clause-serial : goal.returns-clause-serial
+returns-clause-serial g c = rw (← c.self.view_is) (counted_as g c)
+
+pub returns-then-not-is_whole-clause-serial : goal.returns-then-not-is_whole-clause-serial
+returns-then-not-is_whole-clause-serial g c = rw (← c.self.view_is) (seat_counted c.args.scan.now.count c.args.scan.now.last c.self.invariant.0 c.tell.ensures.total)
