@@ -19,16 +19,6 @@ pub enum Cell {
     HandedOut,
 }
 
-/// Whatever a frame may be used for, in the order of the legend.
-pub const CELLS: [Cell; 6] = [
-    Cell::Free,
-    Cell::Page,
-    Cell::Fixed,
-    Cell::Source,
-    Cell::Target,
-    Cell::HandedOut,
-];
-
 impl Cell {
     /// What a frame in this state is drawn as, where the page that it holds may be moved or not.
     pub fn of(state: FrameState, movable: bool) -> Self
@@ -41,30 +31,6 @@ impl Cell {
             FrameState::Source(_) => Cell::Source,
             FrameState::Target(_) => Cell::Target,
             FrameState::Huge => Cell::HandedOut,
-        }
-    }
-
-    /// Its class in the style sheet.
-    pub fn class(self) -> &'static str {
-        match self {
-            Cell::Free => "free",
-            Cell::Page => "page",
-            Cell::Fixed => "fixed",
-            Cell::Source => "source",
-            Cell::Target => "target",
-            Cell::HandedOut => "held",
-        }
-    }
-
-    /// What the legend says of it.
-    pub fn meaning(self) -> &'static str {
-        match self {
-            Cell::Free => "free frame",
-            Cell::Page => "page",
-            Cell::Fixed => "unmovable or pinned",
-            Cell::Source => "page being moved",
-            Cell::Target => "where it goes",
-            Cell::HandedOut => "handed out",
         }
     }
 }

@@ -4,6 +4,7 @@
 mod album;
 mod cell;
 mod drawing;
+mod error;
 mod pageblock;
 mod process;
 mod sheet;

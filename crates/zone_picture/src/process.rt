@@ -2,16 +2,16 @@ ghost use Rattle.std.specs.Prelude.{◌≡◌, ◌≢◌, ◌≤◌, None, IfSom
 ghost use Rattle.std.specs.Io.KnownBytes.{Keeps};
 ghost use Rattle.text_core.specs.Script.{fault_of};
 
-use crate::album::{Album, AlbumError, Panel};
+use crate::album::{Album, Panel};
 use crate::drawing::draw;
-use script_core::{Input, Options, RunError, Sink, run_watched};
+use crate::error::PictureError;
+use script_core::{Input, Options, Sink, run_watched};
 use std::alloc::Global;
 use std::env::Args;
 use std::io;
 use std::io::{BufWriter, Write};
 use std::sync::Wait;
 use std::thread::Threads;
-use thiserror::Error;
 
 /// The exit statuses.
 const DONE: u8 = 0;
@@ -41,17 +41,6 @@ enum Asked {
     Picture,
     Help,
     Unknown,
-}
-
-/// Why no picture was written.
-#[derive(Debug, Drop, Error)]
-enum PictureError {
-    #[error("{0}")]
-    Fault(RunError),
-    #[error("{0}")]
-    Album(AlbumError),
-    #[error("the picture can't be written")]
-    Write,
 }
 
 /// Draws the script that the reader gives. The result is the exit status: 0 where the picture or the help was written, 2 where the words
@@ -120,7 +109,7 @@ fn picture<R: Input, W: Write, F: Write, H: Threads + Wait + Sync>(
     }
 }
 
-/// Runs the script and draws it.
+/// Runs the script and writes its picture.
 fn drawn<R: Input, W: Write, H: Threads + Wait + Sync>(
     rt: &H,
     alloc: Global,
@@ -146,7 +135,7 @@ fn panels_of<R: Input, H: Threads + Wait + Sync>(
     let mut album = Album::new(alloc);
     let mut replies = Sink::new(io::sink());
     run_watched(rt, alloc, reader, &mut replies, OPTIONS, &mut album).map_err(PictureError::Fault)?;
-    album.into_panels().map_err(PictureError::Album)
+    album.into_panels()
 }
 
 /// Writes the picture of panels.

@@ -10,17 +10,25 @@ pub enum Sign {
     Marked,
 }
 
-/// All signs, in the order of the legend.
-pub const SIGNS: [Sign; 8] = [
-    Sign::Cell(Cell::Free),
-    Sign::Cell(Cell::Page),
-    Sign::Cell(Cell::Fixed),
-    Sign::Cell(Cell::Source),
-    Sign::Cell(Cell::Target),
-    Sign::Cell(Cell::HandedOut),
-    Sign::Whole,
-    Sign::Marked,
+/// All signs, in the order of the legend, each with its class in the style sheet and what it means.
+pub static SIGNS: [(Sign, &str, &str); 8] = [
+    (Sign::Cell(Cell::Free), "free", "free frame"),
+    (Sign::Cell(Cell::Page), "page", "page"),
+    (Sign::Cell(Cell::Fixed), "fixed", "unmovable or pinned"),
+    (Sign::Cell(Cell::Source), "source", "page being moved"),
+    (Sign::Cell(Cell::Target), "target", "where it goes"),
+    (Sign::Cell(Cell::HandedOut), "held", "handed out"),
+    (Sign::Whole, "whole", "whole pageblock"),
+    (Sign::Marked, "marked", "marked pageblock"),
 ];
+
+/// How many signs these panels have.
+pub fn count_among(panels: &[Panel]) -> usize {
+    SIGNS
+        .iter()
+        .filter(|(sign, _, _)| sign.is_among(panels))
+        .count()
+}
 
 impl Sign {
     /// Whether one of these panels has it.
@@ -29,29 +37,11 @@ impl Sign {
     }
 
     /// Whether a pageblock has it.
-    fn is_in(self, block: &Pageblock) -> bool {
+    pub fn is_in(self, block: &Pageblock) -> bool {
         match self {
             Sign::Cell(cell) => block.cells.contains(&cell),
-            Sign::Whole => block.is_whole(),
+            Sign::Whole => block.is_all(Cell::Free),
             Sign::Marked => block.marked,
-        }
-    }
-
-    /// Its class in the style sheet.
-    pub fn class(self) -> &'static str {
-        match self {
-            Sign::Cell(cell) => cell.class(),
-            Sign::Whole => "whole",
-            Sign::Marked => "marked",
-        }
-    }
-
-    /// What the legend says of it.
-    pub fn meaning(self) -> &'static str {
-        match self {
-            Sign::Cell(cell) => cell.meaning(),
-            Sign::Whole => "whole pageblock",
-            Sign::Marked => "marked pageblock",
         }
     }
 }

@@ -8,15 +8,16 @@ use std::alloc::{AllocError, Global};
 use std::sync::ledger::Ledger;
 use zone_core::{Info, Zone};
 
-/// A pageblock as it is drawn: what each of its 512 frames is used for, and whether it is marked.
-#[derive(Drop, PartialEq, Eq)]
+/// A pageblock as it is drawn: its number, what each of its 512 frames is used for, and whether it is marked.
+#[derive(Drop, PartialEq)]
 pub struct Pageblock {
+    pub number: u8,
     pub cells: Vec<Cell>,
     pub marked: bool,
 }
 
 /// A zone as it is drawn: its pageblocks and its counts.
-#[derive(Drop, PartialEq, Eq)]
+#[derive(Drop, PartialEq)]
 pub struct View {
     pub blocks: Vec<Pageblock>,
     pub info: Info,
@@ -32,6 +33,7 @@ impl View {
         let mut blocks = Vec::new(alloc);
         for number in 0..frames.blocks() {
             blocks.push(Pageblock {
+                number: number as u8,
                 cells: cells_of(alloc, frames, number)?,
                 marked: is_marked(zone, number),
             })?;
@@ -44,14 +46,9 @@ impl View {
 }
 
 impl Pageblock {
-    /// Whether all of its frames are free.
-    pub fn is_whole(&self) -> bool {
-        self.cells.iter().all(|cell| *cell == Cell::Free)
-    }
-
-    /// Whether all of its frames are handed out.
-    pub fn is_handed_out(&self) -> bool {
-        self.cells.iter().all(|cell| *cell == Cell::HandedOut)
+    /// Whether all of its frames are used for this.
+    pub fn is_all(&self, use_of_all: Cell) -> bool {
+        self.cells.iter().all(|cell| *cell == use_of_all)
     }
 
     /// How many pages stand in it.
