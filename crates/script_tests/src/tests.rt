@@ -6,30 +6,12 @@ mod streams;
 mod words;
 
 use cases::Case;
-use script_core::{Sink, Source, program};
+use fakes::{Limited, Pieces};
+use script_core::{Input, Sink, Source, program};
 use std::env::Args;
-use std::io::Read;
 use std::process::Abort;
 use std::sync::Wait;
 use std::thread::Threads;
-
-/// What is wanted of a run.
-#[derive(Clone, Copy)]
-struct Wanted<'a> {
-    replies: &'a [u8],
-    faults: &'a [u8],
-    status: u8,
-}
-
-impl Case {
-    fn wanted(&self) -> Wanted<'static> {
-        Wanted {
-            replies: self.replies.as_bytes(),
-            faults: self.faults.as_bytes(),
-            status: self.status,
-        }
-    }
-}
 
 /// What came of a run.
 #[derive(Drop)]
@@ -40,29 +22,25 @@ struct Outcome {
 }
 
 impl Outcome {
-    /// Compares it with what is wanted. A failure tells the run, and the number of bytes that was tried.
-    fn assert_is(&self, rt: &impl Abort, wanted: Wanted<'_>, run: &str, bytes: usize) {
-        assert!(rt;
-            self.replies.as_slice() == wanted.replies,
-            "{run}, {bytes} bytes: other replies"
-        );
-        assert!(rt;
-            self.faults.as_slice() == wanted.faults,
-            "{run}, {bytes} bytes: another fault"
-        );
-        assert!(rt;
-            self.status == wanted.status,
-            "{run}, {bytes} bytes: another status"
-        );
+    /// What isn't as the case has it.
+    fn difference(&self, case: &Case<'_>) -> Option<&'static str> {
+        if self.replies.as_slice() != case.replies {
+            Some("other replies")
+        } else if self.faults.as_slice() != case.faults {
+            Some("another fault")
+        } else if self.status != case.status {
+            Some("another status")
+        } else {
+            None
+        }
     }
 }
 
 /// The words that the program is started with.
 fn words_of(rt: &(impl Abort + AllocGlobal), arguments: &[&str]) -> Args {
     let mut words = Vec::new(rt.alloc());
-    words.push(text_of(rt, "compactd")).expect(rt, "memory");
-    for argument in arguments {
-        words.push(text_of(rt, argument)).expect(rt, "memory");
+    for word in ["compactd"].iter().chain(arguments.iter()) {
+        words.push(text_of(rt, word)).expect(rt, "memory");
     }
     words.into_iter()
 }
@@ -71,30 +49,51 @@ fn text_of(rt: &(impl Abort + AllocGlobal), text: &str) -> String {
     String::from_str(rt.alloc(), text).expect(rt, "memory")
 }
 
-/// Bytes with room for more.
-fn room_for(rt: &(impl Abort + AllocGlobal), bytes: usize) -> Vec<u8> {
-    Vec::with_capacity(rt.alloc(), bytes).expect(rt, "memory")
-}
-
 /// Runs the program.
-fn played<R: Read + Drop, H: Threads + Wait + Abort + AllocGlobal + Sync>(
+fn played<R: Input, H: Threads + Wait + Abort + AllocGlobal + Sync>(
     rt: &H,
     arguments: &[&str],
-    reader: R,
+    reader: &mut R,
+    writer: Limited,
 ) -> Outcome {
-    let mut replies = Sink::new(room_for(rt, 4096));
-    let mut faults = Sink::new(room_for(rt, 4096));
+    let mut replies = Sink::new(writer);
+    let mut faults = Sink::new(Vec::new(rt.alloc()));
     let status = program(
         rt,
         rt.alloc(),
         Ok(words_of(rt, arguments)),
-        &mut Source::new(reader),
+        reader,
         &mut replies,
         &mut faults,
     );
     Outcome {
-        replies: replies.into_inner(),
+        replies: replies.into_inner().bytes,
         faults: faults.into_inner(),
         status,
     }
+}
+
+/// Runs a case over a reader of its script, with a writer of its replies. A failure tells the case, and the number of bytes that was tried.
+fn assert_played<R: Input, H: Threads + Wait + Abort + AllocGlobal + Sync>(
+    rt: &H,
+    case: &Case<'_>,
+    reader: &mut R,
+    writer: Limited,
+    bytes: usize,
+) {
+    let found = played(rt, case.arguments, reader, writer);
+    if let Some(difference) = found.difference(case) {
+        panic!(rt; "{}, {bytes} bytes: {difference}", case.name);
+    }
+}
+
+/// Runs a case, whose script is read in pieces of so many bytes.
+fn assert_read<H: Threads + Wait + Abort + AllocGlobal + Sync>(
+    rt: &H,
+    case: &Case<'_>,
+    size: usize,
+) {
+    let mut reader = Source::new(Pieces::of(case.script, size));
+    let writer = Limited::with_room(rt.alloc(), usize::MAX);
+    assert_played(rt, case, &mut reader, writer, size);
 }

@@ -1,5 +1,6 @@
 //! Readers and writers that give and take little, or fail.
 
+use std::alloc::Global;
 use std::io;
 use std::io::{Read, Write};
 
@@ -9,6 +10,17 @@ pub struct Pieces<'a> {
     pub rest: &'a [u8],
     pub size: usize,
     pub calls: usize,
+}
+
+impl<'a> Pieces<'a> {
+    /// A reader of all these bytes, of which it gives so many a call.
+    pub fn of(rest: &'a [u8], size: usize) -> Self {
+        Pieces {
+            rest,
+            size,
+            calls: usize::MAX,
+        }
+    }
 }
 
 impl Read for Pieces<'_> {
@@ -38,6 +50,18 @@ pub struct Limited {
     pub room: usize,
     pub size: usize,
     pub full: Full,
+}
+
+impl Limited {
+    /// A writer with room for so many bytes, of which it takes all that fit.
+    pub fn with_room(alloc: Global, room: usize) -> Self {
+        Limited {
+            bytes: Vec::new(alloc),
+            room,
+            size: usize::MAX,
+            full: Full::Fails,
+        }
+    }
 }
 
 impl Write for Limited {

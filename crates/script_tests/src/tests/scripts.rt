@@ -1,42 +1,47 @@
-use super::cases::{CASES, CLIENTS, Case, FAULTS, ROUNDS};
-use super::{Wanted, played};
+use super::assert_read;
+use super::cases::{
+    Case, FAULTS, blocks, clients, lines, moves, pages, pools, profiles, rounds, stopped_rounds,
+    wrong_blocks,
+};
 use std::process::Abort;
 use std::sync::Wait;
 use std::thread::Threads;
 
-/// Runs each case, and compares what comes of it with what is wanted.
-fn assert_answered<H: Threads + Wait + Abort + AllocGlobal + Sync>(rt: &H, cases: &[Case]) {
+/// Runs each case.
+fn assert_answered<H: Threads + Wait + Abort + AllocGlobal + Sync>(rt: &H, cases: &[Case<'_>]) {
     for case in cases {
-        let found = played(rt, case.arguments, case.script.as_bytes());
-        found.assert_is(rt, case.wanted(), case.name, case.script.len());
+        assert_read(rt, case, case.script.len());
     }
 }
 
 #[test]
 fn answers_each_script(rt: HostRuntime) {
-    assert_answered(&rt, &CASES);
+    assert_answered(&rt, lines());
+    assert_answered(&rt, pages());
+    assert_answered(&rt, moves());
+    assert_answered(&rt, blocks());
+    assert_answered(&rt, profiles());
 }
 
 #[test]
 fn answers_rounds_and_pools(rt: HostRuntime) {
-    assert_answered(&rt, &ROUNDS);
+    assert_answered(&rt, rounds());
+    assert_answered(&rt, stopped_rounds());
+    assert_answered(&rt, pools());
 }
 
 #[test]
 fn answers_each_block(rt: HostRuntime) {
-    assert_answered(&rt, &CLIENTS);
+    assert_answered(&rt, clients());
+    assert_answered(&rt, wrong_blocks());
 }
 
 #[test]
 fn refuses_lines_that_are_no_command(rt: HostRuntime) {
-    for line in FAULTS {
+    for line in &FAULTS {
         let script = format!(in rt.alloc(); "{line}\ninfo 0\n").expect(&rt, "memory");
-        let found = played(&rt, &[], script.as_bytes());
-        let wanted = Wanted {
-            replies: b"",
-            faults: b"compactd: fault 41 at line 1\n",
-            status: 1,
-        };
-        found.assert_is(&rt, wanted, line, script.len());
+        let fault = b"compactd: fault 41 at line 1\n";
+        let case = Case::stopped(line, script.as_bytes(), b"", fault);
+        assert_read(&rt, &case, script.len());
     }
 }

@@ -1,76 +1,66 @@
 //! Readers that give a few bytes a call or fail, and writers that fail, take a few bytes a call, or none.
 
-use super::cases::{CLIENTS, CUT_LINE, FIRST_PAGE};
+use super::cases::{
+    Case, FIRST_REPLIES, FIRST_SCRIPT, LONG_LINE, LONGEST_LINE, clients, lines, wrong_blocks,
+};
 use super::fakes::{Full, Limited, Pieces};
-use super::{Outcome, Wanted, played, room_for, text_of, words_of};
+use super::{assert_played, assert_read, played, text_of, words_of};
 use script_core::{Sink, Source, Text, program};
 use std::io::Read;
 use std::process::Abort;
 use std::sync::Wait;
 use std::thread::Threads;
 
+/// Runs each case, whose script is read in pieces of so many bytes.
+fn assert_each_read<H: Threads + Wait + Abort + AllocGlobal + Sync>(
+    rt: &H,
+    cases: &[Case<'_>],
+    size: usize,
+) {
+    for case in cases {
+        assert_read(rt, case, size);
+    }
+}
+
 #[test]
 fn reads_a_few_bytes_at_a_time(rt: HostRuntime) {
-    for case in [FIRST_PAGE, CUT_LINE].iter().chain(CLIENTS.iter()) {
+    for cases in [lines(), clients(), wrong_blocks()] {
         for size in [1, 2, 7] {
-            let reader = Pieces {
-                rest: case.script.as_bytes(),
-                size,
-                calls: usize::MAX,
-            };
-            let found = played(&rt, case.arguments, reader);
-            found.assert_is(&rt, case.wanted(), case.name, size);
+            assert_each_read(&rt, cases, size);
         }
     }
 }
 
 #[test]
 fn a_source_gives_what_its_reader_gives(rt: HostRuntime) {
-    let mut source = Source::new(Pieces {
-        rest: b"zone".as_slice(),
-        size: 4,
-        calls: usize::MAX,
-    });
+    let mut source = Source::new(Pieces::of(b"zone", 4));
     let mut bytes = [0; 4];
     assert!(rt; source.read(&mut bytes).ok() == Some(4));
     assert!(rt; bytes == *b"zone");
 }
 
+/// Runs a case whose script has so many spaces at its end.
+fn assert_spaced<H: Threads + Wait + Abort + AllocGlobal + Sync>(
+    rt: &H,
+    case: &Case<'_>,
+    spaces: usize,
+    size: usize,
+) {
+    let script = with_spaces(rt, "zone 0 1\ninfo 0", spaces);
+    let case = Case {
+        script: script.as_bytes(),
+        ..*case
+    };
+    assert_read(rt, &case, size);
+}
+
 #[test]
 fn refuses_lines_of_more_than_200_bytes(rt: HostRuntime) {
-    for (spaces, size, replies, faults, status) in [
-        (
-            194,
-            4096,
-            "ok\nfree=512 pages=0 moving=0 huge=0 whole=1\n",
-            "",
-            0,
-        ),
-        (
-            194,
-            7,
-            "ok\nfree=512 pages=0 moving=0 huge=0 whole=1\n",
-            "",
-            0,
-        ),
-        (195, 4096, "ok\n", "compactd: fault 42 at line 2\n", 1),
-        (195, 1, "ok\n", "compactd: fault 42 at line 2\n", 1),
-        (195, 2, "ok\n", "compactd: fault 42 at line 2\n", 1),
-        (195, 7, "ok\n", "compactd: fault 42 at line 2\n", 1),
-    ] {
-        let script = with_spaces(&rt, "zone 0 1\ninfo 0", spaces);
-        let reader = Pieces {
-            rest: script.as_bytes(),
-            size,
-            calls: usize::MAX,
-        };
-        let found = played(&rt, &[], reader);
-        let wanted = Wanted {
-            replies: replies.as_bytes(),
-            faults: faults.as_bytes(),
-            status,
-        };
-        found.assert_is(&rt, wanted, "a line with spaces", spaces);
+    for size in [4096, 7] {
+        assert_spaced(&rt, &LONGEST_LINE, 194, size);
+    }
+    for size in [4096, 1, 2, 7] {
+        assert_spaced(&rt, &LONG_LINE, 195, size);
     }
 }
 
@@ -95,102 +85,98 @@ fn line_of_byte(text: &[u8], at: usize) -> usize {
 }
 
 /// The lines of a text before this one.
-fn lines_before(text: &str, line: usize) -> &[u8] {
-    let bytes = text.as_bytes();
+fn lines_before(text: &[u8], line: usize) -> &[u8] {
     let mut left = line.saturating_sub(1);
-    for (at, byte) in bytes.iter().enumerate() {
+    for (at, byte) in text.iter().enumerate() {
         if left == 0 {
-            return &bytes[..at];
+            return &text[..at];
         }
         if *byte == b'\n' {
             left -= 1;
         }
     }
-    bytes
+    text
+}
+
+/// Runs the first script with a reader that fails after so many calls, each of which gives a byte.
+fn assert_unread<H: Threads + Wait + Abort + AllocGlobal + Sync>(rt: &H, calls: usize) {
+    let line = line_of_byte(FIRST_SCRIPT, calls);
+    let fault = fault_text(rt, 46, line);
+    let replies = lines_before(FIRST_REPLIES, line);
+    let case = Case::stopped(
+        "a reader that fails",
+        FIRST_SCRIPT,
+        replies,
+        fault.as_bytes(),
+    );
+    let mut reader = Source::new(Pieces {
+        rest: FIRST_SCRIPT,
+        size: 1,
+        calls,
+    });
+    let writer = Limited::with_room(rt.alloc(), usize::MAX);
+    assert_played(rt, &case, &mut reader, writer, calls);
 }
 
 #[test]
 fn ends_where_a_read_fails(rt: HostRuntime) {
-    let script = FIRST_PAGE.script.as_bytes();
-    for calls in 0..=script.len() {
-        let reader = Pieces {
-            rest: script,
-            size: 1,
-            calls,
-        };
-        let found = played(&rt, &[], reader);
-        let line = line_of_byte(script, calls);
-        let faults = fault_text(&rt, 46, line);
-        let wanted = Wanted {
-            replies: lines_before(FIRST_PAGE.replies, line),
-            faults: faults.as_bytes(),
-            status: 1,
-        };
-        found.assert_is(&rt, wanted, "a reader that fails", calls);
+    for calls in 0..=FIRST_SCRIPT.len() {
+        assert_unread(&rt, calls);
     }
+}
+
+/// Runs as many bytes of the first script. It has a fault where that is a part of a line.
+fn assert_cut<H: Threads + Wait + Abort + AllocGlobal + Sync>(rt: &H, script: &[u8]) {
+    let line = line_of_byte(script, script.len());
+    let fault = fault_text(rt, 41, line);
+    let is_whole = matches!(script, [] | [.., b'\n']);
+    let case = Case {
+        name: "a script that is cut",
+        arguments: &[],
+        script,
+        replies: lines_before(FIRST_REPLIES, line),
+        faults: if is_whole { b"" } else { fault.as_bytes() },
+        status: u8::from(!is_whole),
+    };
+    assert_read(rt, &case, script.len());
 }
 
 #[test]
 fn ends_where_a_script_is_cut(rt: HostRuntime) {
-    let script = FIRST_PAGE.script.as_bytes();
-    for size in 0..script.len() {
-        let found = played(&rt, &[], &script[..size]);
-        let line = line_of_byte(script, size);
-        let is_whole = size == 0 || script[size - 1] == b'\n';
-        let fault = fault_text(&rt, 41, line);
-        let wanted = Wanted {
-            replies: lines_before(FIRST_PAGE.replies, line),
-            faults: if is_whole { b"" } else { fault.as_bytes() },
-            status: u8::from(!is_whole),
-        };
-        found.assert_is(&rt, wanted, "a script that is cut", size);
+    for size in 0..FIRST_SCRIPT.len() {
+        assert_cut(&rt, &FIRST_SCRIPT[..size]);
     }
 }
 
-/// Runs a script whose writer has room for a few bytes.
-fn played_into<H: Threads + Wait + Abort + AllocGlobal + Sync>(
-    rt: &H,
-    script: &str,
-    writer: Limited,
-) -> Outcome {
-    let mut replies = Sink::new(writer);
-    let mut faults = Sink::new(Vec::new(rt.alloc()));
-    let status = program(
-        rt,
-        rt.alloc(),
-        Ok(words_of(rt, &[])),
-        &mut Text::new(script.as_bytes()),
-        &mut replies,
-        &mut faults,
+/// Runs the first script with a writer that has room for a part of the replies, and then fails or takes nothing.
+fn assert_stuck<H: Threads + Wait + Abort + AllocGlobal + Sync>(rt: &H, writer: Limited) {
+    let room = writer.room;
+    let fault = fault_text(rt, 47, line_of_byte(FIRST_REPLIES, room));
+    let replies = FIRST_REPLIES.get(..room).unwrap_or(b"");
+    let case = Case::stopped(
+        "a writer that fails",
+        FIRST_SCRIPT,
+        replies,
+        fault.as_bytes(),
     );
-    Outcome {
-        replies: replies.into_inner().bytes,
-        faults: faults.into_inner(),
-        status,
-    }
+    assert_played(rt, &case, &mut Text::new(FIRST_SCRIPT), writer, room);
 }
 
 #[test]
 fn ends_where_a_write_fails(rt: HostRuntime) {
-    let replies = FIRST_PAGE.replies.as_bytes();
-    for full in [Full::Fails, Full::TakesNothing] {
-        for room in 0..replies.len() {
-            for size in [1, 3, 4096] {
-                let writer = Limited {
-                    bytes: room_for(&rt, 4096),
-                    room,
-                    size,
-                    full,
-                };
-                let found = played_into(&rt, FIRST_PAGE.script, writer);
-                let line = line_of_byte(replies, room);
-                let fault = fault_text(&rt, 47, line);
-                let wanted = Wanted {
-                    replies: &replies[..room],
-                    faults: fault.as_bytes(),
-                    status: 1,
-                };
-                found.assert_is(&rt, wanted, "a writer that fails", room);
+    for room in 0..FIRST_REPLIES.len() {
+        for size in [1, 3, 4096] {
+            for full in [Full::Fails, Full::TakesNothing] {
+                let bytes = Vec::new(rt.alloc());
+                assert_stuck(
+                    &rt,
+                    Limited {
+                        bytes,
+                        room,
+                        size,
+                        full,
+                    },
+                );
             }
         }
     }
@@ -198,54 +184,38 @@ fn ends_where_a_write_fails(rt: HostRuntime) {
 
 #[test]
 fn names_the_line_of_during_for_a_round_that_is_not_taken(rt: HostRuntime) {
-    let script = "zone 0 1\nmap 0 0 0\nduring 0\nload 0 0 0 0\nend\ninfo 0\n";
+    let script = b"zone 0 1\nmap 0 0 0\nduring 0\nload 0 0 0 0\nend\ninfo 0\n";
     for (room, line) in [(2, 1), (3, 2), (6, 4), (13, 4), (14, 3), (50, 3)] {
-        let writer = Limited {
-            bytes: room_for(&rt, 4096),
-            room,
-            size: 4096,
-            full: Full::Fails,
-        };
-        let found = played_into(&rt, script, writer);
+        let writer = Limited::with_room(rt.alloc(), room);
+        let found = played(&rt, &[], &mut Text::new(script), writer);
         let fault = fault_text(&rt, 47, line);
+        let is_named = found.faults.as_slice() == fault.as_bytes();
         assert!(rt;
-            found.faults.as_slice() == fault.as_bytes(),
+            is_named && found.replies.len() == room,
             "room for {room} bytes"
         );
-        assert!(rt; found.replies.len() == room, "room for {room} bytes");
     }
 }
 
 /// Arguments, a script and the status that they end with.
-const ENDINGS: [(&[&str], &str, u8); 4] = [
-    (&[], "", 0),
-    (&[], "map", 1),
-    (&["--copiers", "5"], "", 2),
-    (&["--help"], "", 0),
+const ENDINGS: [(&[&str], &[u8], u8); 4] = [
+    (&[], b"", 0),
+    (&[], b"map", 1),
+    (&["--copiers", "5"], b"", 2),
+    (&["--help"], b"", 0),
 ];
 
 #[test]
 fn keeps_its_status_where_a_fault_is_not_written(rt: HostRuntime) {
-    for (arguments, script, status) in ENDINGS.iter() {
-        let mut writer = no_room(&rt);
-        let mut faults = no_room(&rt);
+    for (arguments, script, status) in ENDINGS {
         let found = program(
             &rt,
             rt.alloc(),
             Ok(words_of(&rt, arguments)),
-            &mut Text::new(script.as_bytes()),
-            &mut writer,
-            &mut faults,
+            &mut Text::new(script),
+            &mut Sink::new(Limited::with_room(rt.alloc(), 0)),
+            &mut Sink::new(Limited::with_room(rt.alloc(), 0)),
         );
-        assert_eq!(rt; found, *status, "{arguments:?}");
+        assert!(rt; found == status, "{arguments:?}");
     }
-}
-
-fn no_room(rt: &(impl Abort + AllocGlobal)) -> Sink<Limited> {
-    Sink::new(Limited {
-        bytes: room_for(rt, 0),
-        room: 0,
-        size: 1,
-        full: Full::Fails,
-    })
 }

@@ -1,25 +1,38 @@
 //! What the program makes of the words that it is started with.
 
-use super::cases::FIRST_PAGE;
-use super::{played, words_of};
-use script_core::{Options, given_options};
+use super::cases::{Case, FIRST_SCRIPT, NOTHING};
+use super::fakes::Limited;
+use super::{Outcome, assert_read, played, words_of};
+use script_core::{Options, Text, given_options};
+use std::process::Abort;
+use std::sync::Wait;
+use std::thread::Threads;
+
+/// Runs the program with these arguments over the first script.
+fn started<H: Threads + Wait + Abort + AllocGlobal + Sync>(rt: &H, arguments: &[&str]) -> Outcome {
+    let writer = Limited::with_room(rt.alloc(), usize::MAX);
+    played(rt, arguments, &mut Text::new(FIRST_SCRIPT), writer)
+}
+
+/// Arguments that are refused.
+const REFUSED: [&[&str]; 8] = [
+    &["--copiers", "5"],
+    &["--copiers", "0"],
+    &["--capacity", "65"],
+    &["--journal", "65537"],
+    &["--journal"],
+    &["--copiers", "1", "--copiers", "2"],
+    &["script"],
+    &["--other"],
+];
 
 #[test]
 fn refuses_arguments(rt: HostRuntime) {
-    for arguments in [
-        &["--copiers", "5"][..],
-        &["--copiers", "0"][..],
-        &["--capacity", "65"][..],
-        &["--journal", "65537"][..],
-        &["--journal"][..],
-        &["--copiers", "1", "--copiers", "2"][..],
-        &["script"][..],
-        &["--other"][..],
-    ] {
-        let found = played(&rt, arguments, FIRST_PAGE.script.as_bytes());
-        assert!(rt; found.replies.is_empty(), "{arguments:?}");
-        assert!(rt; found.faults.starts_with(b"error: "), "{arguments:?}");
-        assert!(rt; found.status == 2, "{arguments:?}");
+    for arguments in REFUSED {
+        let found = started(&rt, arguments);
+        let is_silent = found.replies.is_empty();
+        let is_told = found.faults.starts_with(b"error: ");
+        assert!(rt; is_silent && is_told && found.status == 2, "{arguments:?}");
     }
 }
 
@@ -33,12 +46,12 @@ const GIVEN: [(&[&str], usize, usize, u32); 4] = [
 
 #[test]
 fn reads_each_option_for_itself(rt: HostRuntime) {
-    for (arguments, copiers, capacity, journal) in GIVEN.iter() {
+    for (arguments, copiers, capacity, journal) in GIVEN {
         let found = given_options(rt.alloc(), Ok(words_of(&rt, arguments)));
         let wanted = Options {
-            copiers: *copiers,
-            capacity: *capacity,
-            journal: *journal,
+            copiers,
+            capacity,
+            journal,
         };
         assert!(rt; found.ok() == Some(wanted));
     }
@@ -56,19 +69,22 @@ const HELP: [&str; 6] = [
 
 #[test]
 fn shows_help(rt: HostRuntime) {
-    let found = played(&rt, &["--help"], FIRST_PAGE.script.as_bytes());
+    let found = started(&rt, &["--help"]);
+    assert!(rt; found.faults.is_empty() && found.status == 0);
     let text = std::str::from_utf8(found.replies.as_slice()).expect(&rt, "text");
-    for part in HELP.iter() {
+    for part in HELP {
         assert!(rt; text.contains(part), "{part}");
     }
-    assert!(rt; found.faults.is_empty());
-    assert!(rt; found.status == 0);
 }
 
 #[test]
 fn shows_its_version(rt: HostRuntime) {
-    let found = played(&rt, &["--version"], FIRST_PAGE.script.as_bytes());
-    assert!(rt; found.replies.as_slice() == b"compactd 0.1.0\n".as_slice());
-    assert!(rt; found.faults.is_empty());
-    assert!(rt; found.status == 0);
+    let case = Case {
+        name: "the version",
+        arguments: &["--version"],
+        script: FIRST_SCRIPT,
+        replies: b"compactd 0.1.0\n",
+        ..NOTHING
+    };
+    assert_read(&rt, &case, case.script.len());
 }
