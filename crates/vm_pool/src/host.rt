@@ -78,21 +78,8 @@ pub fn serve<
     let number = ZoneNo::new(0)?;
     let opened = Zone::<I, M, B>::open_told::<N>(alloc, number, BLOCKS, blanks);
     let (zone, scan, ends) = opened.ok()?;
-    let mut host = Host::<K, I, N, M, B> {
-        shared: SharedZone::new(zone),
-        seats: Seats { scan, ends },
-        collector: Collector {
-            copiers: 2,
-            cap: 16,
-            rounds,
-            order: Order::of_pageblock(),
-        },
-        pages: SmallPages::new(),
-        guests: ArrayVec::new(),
-        draws: Pcg32::new(2, 7),
-        turns: 0,
-        tally: Tally::default(),
-    };
+    let shared = SharedZone::<K, I, M, B>::new(zone);
+    let mut host = Host::new(shared, Seats { scan, ends }, rounds);
     Some(host.pass_days(rt, alloc))
 }
 
@@ -103,6 +90,28 @@ impl<
     M: Ledger + Send + Sync,
     B: Ledger + Send + Sync,
 > Host<K, I, N, M, B> {
+    /// A host without guests, whose collector may run so many rounds for each that comes.
+    fn new(shared: SharedZone<K, I, M, B>, seats: Seats<I, N, M, B>, rounds: u32) -> Self
+        requires { rounds ≤ 16 }
+    {
+        let collector = Collector {
+            copiers: 2,
+            cap: 16,
+            rounds,
+            order: Order::of_pageblock(),
+        };
+        Host {
+            shared,
+            seats,
+            collector,
+            pages: SmallPages::new(),
+            guests: ArrayVec::new(),
+            draws: Pcg32::new(2, 7),
+            turns: 0,
+            tally: Tally::default(),
+        }
+    }
+
     /// Passes all days. At the end no guest is left.
     fn pass_days<R: Threads + Wait + Sync>(&mut self, rt: &R, alloc: Global) -> Tally {
         for _day in 0..DAYS {

@@ -32,20 +32,34 @@ fn show<R: Print>(rt: &R, how: &str, tally: Option<Tally>) -> io::Result<()> {
     let Some(tally) = tally else {
         return println!(rt; "{how}: no memory");
     };
+    show_guests(rt, how, &tally)?;
+    show_pages(rt, how, &tally)
+}
+
+/// What became of the guests.
+fn show_guests<R: Print>(rt: &R, how: &str, tally: &Tally) -> io::Result<()> {
     let Tally {
         guests,
         served,
         rounds,
         written,
         right,
-        calls,
-        pages,
-        kept,
+        ..
     } = tally;
     println!(rt; "{how}: {served} of {guests} guests got their huge pages, {rounds} rounds")?;
     println!(rt;
         "{how}: {right} of {written} words of huge pages were there when their guests left"
-    )?;
+    )
+}
+
+/// What became of the host's small pages.
+fn show_pages<R: Print>(rt: &R, how: &str, tally: &Tally) -> io::Result<()> {
+    let Tally {
+        calls,
+        pages,
+        kept,
+        ..
+    } = tally;
     println!(rt; "{how}: {calls} calls of the zone were made for small pages")?;
     println!(rt; "{how}: {kept} of {pages} small pages hold what was stored in them")
 }
