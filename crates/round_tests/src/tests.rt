@@ -8,6 +8,7 @@ mod copiers;
 mod gates;
 mod jobs;
 mod looking;
+mod names;
 mod opening;
 mod refusing;
 mod reserving;
@@ -20,7 +21,9 @@ mod told;
 use beside::Scene;
 use client_core::Client;
 use gates::Plan;
-use opening::Opening;
+use huge_core::Collector;
+use names::Names;
+use opening::{Opening, open_zone};
 use refusing::Table;
 use reserving::Case;
 use round_core::ZoneIdentity;
@@ -30,6 +33,11 @@ use std::sync::Wait;
 use std::sync::ledger::Ledger;
 use std::thread::Threads;
 use zone_core::Blanks;
+
+/// What runs a test: it starts threads, waits, and ends a test that fails.
+pub trait Runtime: Threads + Wait + Abort + AllocGlobal + Sync {}
+
+impl<R: Threads + Wait + Abort + AllocGlobal + Sync> Runtime for R {}
 
 /// What is tried with a zone that was just opened.
 #[derive(Clone, Copy)]
@@ -42,7 +50,7 @@ enum Trial<'a> {
     KeepsCopiersBack(usize),
     /// With so many copiers, and room for so many pages.
     LooksAtEachPoint(usize, usize),
-    Plays(Scene<'a>),
+    Plays(&'a Scene),
     /// The calls of a client, of which so many are accepted.
     Refuses(&'a [Table], usize),
     Settles,
@@ -50,22 +58,12 @@ enum Trial<'a> {
     IsToldAlone,
     Reserves(&'a Case),
     GivesBack,
-    /// With so many copiers, and room for so many pages. So many pages are isolated when the gate lets the first thread go.
-    Collects(usize, usize, Plan, u64),
+    /// So many pages are isolated when the gate lets the first thread go.
+    Collects(&'a Collector, Plan, u64),
 }
 
-impl<
-    K: ZoneIdentity + Send + Sync,
-    I: Ledger + Send + Sync,
-    N: Ledger + Send,
-    M: Ledger + Send + Sync,
-    B: Ledger + Send + Sync,
-> Opening<K, I, N, M, B> {
-    fn undergoes<R: Threads + Wait + Abort + AllocGlobal + Sync>(
-        &mut self,
-        rt: &R,
-        trial: Trial<'_>,
-    ) {
+impl<Z: Names> Opening<Z> {
+    fn undergoes<R: Runtime>(&mut self, rt: &R, trial: Trial<'_>) {
         match trial {
             Trial::MovesTheLowerHalf(copiers) => self.moves_the_lower_half(rt, copiers),
             Trial::IsBroken => self.is_broken(rt),
@@ -79,9 +77,7 @@ impl<
             Trial::IsToldAlone => self.is_told_alone(rt),
             Trial::Reserves(case) => self.reserves(rt, case),
             Trial::GivesBack => self.gives_back(rt),
-            Trial::Collects(copiers, room, plan, ahead) => {
-                self.collects(rt, copiers, room, plan, ahead)
-            }
+            Trial::Collects(collector, plan, ahead) => self.collects(rt, collector, plan, ahead),
         }
     }
 }
@@ -91,25 +87,20 @@ impl<
 fn tries_in<
     K: ZoneIdentity + Send + Sync,
     I: Ledger + Send + Sync,
-    N: Ledger + Send,
+    N: Ledger + Send + Sync,
     M: Ledger + Send + Sync,
     B: Ledger + Send + Sync,
-    R: Threads + Wait + Abort + AllocGlobal + Sync,
+    R: Runtime,
 >(rt: &R, blocks: u32, places: Option<u32>, trial: Trial<'_>, blanks: Blanks) -> Client
     requires identity { (K.number ≡ 1) × (K.blocks ≡ blocks) }
     requires blanks { AreFor blanks I.name I.parts N.name N.parts M.name M.parts B.name B.parts }
 {
-    let mut opening = Opening::<K, I, N, M, B>::of(rt, blocks, places, blanks);
+    let mut opening = open_zone::<K, I, N, M, B, R>(rt, blocks, places, blanks);
     opening.undergoes(rt, trial);
     opening.keeper
 }
 
 /// Tries something with a zone 1 that is opened for it under a name of its own.
-fn tries<R: Threads + Wait + Abort + AllocGlobal + Sync>(
-    rt: &R,
-    blocks: u32,
-    places: Option<u32>,
-    trial: Trial<'_>,
-) -> Client {
+fn tries<R: Runtime>(rt: &R, blocks: u32, places: Option<u32>, trial: Trial<'_>) -> Client {
     tries_in::<Brand, Brand, Brand, Brand, Brand, R>(rt, blocks, places, trial, Blanks::new())
 }

@@ -1,144 +1,121 @@
+use super::Runtime;
 use super::calls::{Answer, Call, client_of};
-use super::gates::{CLIENT_TURNS, Plan, Until, Watch};
-use super::jobs::{Job, work};
-use super::opening::{Opening, counts_of, tried_round};
+use super::gates::{Plan, Until, Watch};
+use super::jobs::Job;
+use super::names::{Names, SeatsOf, Shared};
+use super::opening::{Counts, Opening, counts_of};
 use client_core::Client;
-use round_core::{SharedZone, ZoneIdentity};
 use std::process::Abort;
-use std::sync::Wait;
-use std::sync::ledger::Ledger;
-use std::thread::{Threads, join};
-use zone_core::Seats;
+use std::slice::from_ref;
+use std::thread::{for_each_mut, join};
 
 /// Rounds beside four clients, and what comes of them.
 #[derive(Clone, Copy)]
-pub struct Scene<'a> {
+pub struct Scene {
     /// So many pages can move.
     pub pages: u32,
     /// Calls that are made before.
-    pub before: &'a [(Call, Answer)],
+    pub before: &'static [(Call, Answer)],
     pub plan: Plan,
     pub copiers: usize,
     pub rounds: u32,
-    pub jobs: [Job; 4],
+    /// The jobs of the first clients; the others idle.
+    pub jobs: &'static [Job],
     /// How often the clients speak.
     pub spoken: u64,
     /// How many pages the rounds isolate, move and put back in all.
-    pub counts: (u32, u32, u32),
+    pub counts: Counts,
 }
 
-/// Two clients at once.
-fn two_work<
-    K: ZoneIdentity + Send + Sync,
-    I: Ledger + Send + Sync,
-    M: Ledger + Send + Sync,
-    B: Ledger + Send + Sync,
-    R: Threads + Wait + Abort + Sync,
->(
+fn four_clients<R: Abort + AllocGlobal>(rt: &R) -> [Client; 4] {
+    [
+        client_of(rt, 1),
+        client_of(rt, 2),
+        client_of(rt, 3),
+        client_of(rt, 4),
+    ]
+}
+
+/// Four clients do their jobs, each on a thread of its own.
+fn work_all<Z: Names, R: Runtime>(
     rt: &R,
-    shared: &SharedZone<K, I, M, B>,
+    shared: &Shared<Z>,
     watch: &Watch,
-    first: (Client, Job),
-    second: (Client, Job),
-) -> (Client, Client) {
-    join(
+    jobs: &[Job],
+    clients: &mut [Client; 4],
+) {
+    for_each_mut(
         rt,
-        move || -> Client { work(rt, shared, watch, first.0, first.1) },
-        move || -> Client { work(rt, shared, watch, second.0, second.1) },
-    )
+        clients,
+        4,
+        &|i: usize, client: &mut Client| {
+            if let Some(job) = jobs.get(i) {
+                shared.work(rt, watch, client, *job);
+            }
+        },
+    );
 }
 
-/// Rounds, one after the other. How many pages they isolated, moved and put back in all. After them clients have spoken so often.
-fn run_rounds<
-    K: ZoneIdentity + Send + Sync,
-    I: Ledger + Send + Sync,
-    N: Ledger,
-    M: Ledger + Send + Sync,
-    B: Ledger + Send + Sync,
-    R: Threads + Wait + Abort + AllocGlobal + Sync,
->(
+/// The rounds of a scene, one after the other. How many pages they isolated, moved and put back in all. After them the clients have
+/// spoken as often as they do.
+fn run_rounds<Z: Names, R: Runtime>(
     rt: &R,
-    shared: &SharedZone<K, I, M, B>,
-    seats: &mut Seats<I, N, M, B>,
+    shared: &Shared<Z>,
+    seats: &mut SeatsOf<Z>,
     watch: &Watch,
-    copiers: usize,
-    rounds: u32,
-    spoken: u64,
-) -> (u32, u32, u32) {
-    let mut sum = (0u32, 0u32, 0u32);
-    for _round in 0..rounds {
-        let round = tried_round(rt, shared, seats, copiers, 8, watch);
-        let (count, moved, back) = counts_of(rt, &round);
-        sum = (
-            sum.0.saturating_add(count),
-            sum.1.saturating_add(moved),
-            sum.2.saturating_add(back),
-        );
+    scene: &Scene,
+) -> Counts {
+    let mut sum = (0, 0, 0);
+    for _round in 0..scene.rounds {
+        let round = shared.round(rt, seats, scene.copiers, 8, watch);
+        sum = added(sum, counts_of(&round));
     }
-    assert!(rt;
-        watch.comes_to(Until::spoken(spoken), CLIENT_TURNS),
-        "a client still waits"
-    );
+    watch.assert_comes_to(rt, Until::spoken(scene.spoken));
     sum
 }
 
-/// Rounds run while four clients do their jobs, each on a thread of its own.
-fn run_beside<
-    K: ZoneIdentity + Send + Sync,
-    I: Ledger + Send + Sync,
-    N: Ledger + Send,
-    M: Ledger + Send + Sync,
-    B: Ledger + Send + Sync,
-    R: Threads + Wait + Abort + AllocGlobal + Sync,
->(
-    rt: &R,
-    shared: &SharedZone<K, I, M, B>,
-    seats: &mut Seats<I, N, M, B>,
-    watch: &Watch,
-    scene: Scene<'_>,
-) -> ([Client; 4], (u32, u32, u32)) {
-    let (copiers, rounds, spoken) = (scene.copiers, scene.rounds, scene.spoken);
-    let first = (client_of(rt, 1), scene.jobs[0]);
-    let second = (client_of(rt, 2), scene.jobs[1]);
-    let third = (client_of(rt, 3), scene.jobs[2]);
-    let fourth = (client_of(rt, 4), scene.jobs[3]);
-    let ((low, high), counts) = join(
-        rt,
-        move || -> ((Client, Client), (Client, Client)) {
-            join(
-                rt,
-                move || -> (Client, Client) { two_work(rt, shared, watch, first, second) },
-                move || -> (Client, Client) { two_work(rt, shared, watch, third, fourth) },
-            )
-        },
-        move || -> (u32, u32, u32) {
-            run_rounds(rt, shared, seats, watch, copiers, rounds, spoken)
-        },
-    );
-    ([low.0, low.1, high.0, high.1], counts)
+fn added(sum: Counts, more: Counts) -> Counts {
+    (
+        sum.0.saturating_add(more.0),
+        sum.1.saturating_add(more.1),
+        sum.2.saturating_add(more.2),
+    )
 }
 
-impl<
-    K: ZoneIdentity + Send + Sync,
-    I: Ledger + Send + Sync,
-    N: Ledger + Send,
-    M: Ledger + Send + Sync,
-    B: Ledger + Send + Sync,
-> Opening<K, I, N, M, B> {
-    /// The rounds of a scene isolate, move and put back so many pages, and the receipts of all clients stand in the journal.
-    pub fn plays<R: Threads + Wait + Abort + AllocGlobal + Sync>(
+impl<Z: Names> Opening<Z> {
+    /// Rounds run while four clients do their jobs.
+    fn run_beside<R: Runtime>(
         &mut self,
         rt: &R,
-        scene: Scene<'_>,
-    ) {
+        watch: &Watch,
+        scene: &Scene,
+        clients: &mut [Client; 4],
+    ) -> Counts {
+        let (shared, seats) = (&self.shared, &mut self.seats);
+        let (counts, ()) = join(
+            rt,
+            move || -> Counts { run_rounds(rt, shared, seats, watch, scene) },
+            move || work_all(rt, shared, watch, scene.jobs, clients),
+        );
+        counts
+    }
+
+    /// The four clients of a scene, once they have done their jobs. Its rounds isolate, move and put back so many pages.
+    pub fn played<R: Runtime>(&mut self, rt: &R, scene: &Scene) -> [Client; 4] {
         self.fill(rt, scene.pages);
         self.keeps(rt, scene.before);
         let watch = Watch::by(scene.plan);
-        let (clients, counts) = run_beside(rt, &self.shared, &mut self.seats, &watch, scene);
+        let mut clients = four_clients(rt);
+        let counts = self.run_beside(rt, &watch, scene, &mut clients);
         assert!(rt; counts == scene.counts);
         watch.assert_let_go(rt);
-        let keeper = [self.keeper.try_clone().expect(rt, "memory")];
-        assert!(rt; self.settled(rt, &clients) == Ok(()));
-        assert!(rt; self.settled(rt, &keeper) == Ok(()));
+        clients
+    }
+
+    /// After a scene the receipts of all clients stand in the journal.
+    pub fn plays<R: Runtime>(&mut self, rt: &R, scene: &Scene) {
+        let clients = self.played(rt, scene);
+        self.assert_settled(rt, &clients);
+        self.assert_settled(rt, from_ref(&self.keeper));
     }
 }

@@ -1,12 +1,11 @@
 //! Calls of a client with plain numbers, and their answers, for tables of tests.
 
+use super::names::{Names, Shared};
 use bitflags::Flags;
 use client_core::{Client, ClientError, Receipts, Untold};
 use frame_core::{Address, ClientNo, FrameNo, PageFlags, SpaceNo, VPage, WordNo};
-use round_core::{SharedZone, ZoneIdentity};
 use std::process::Abort;
 use std::sync::Wait;
-use std::sync::ledger::Ledger;
 use zone_core::ZoneError;
 
 /// A call of a client. Addresses are virtual pages of one space.
@@ -71,61 +70,77 @@ fn done(made: Result<(), ClientError>) -> Answer {
     }
 }
 
-/// Makes a call.
-pub fn made<K: ZoneIdentity, I: Ledger, M: Ledger, B: Ledger, T: Receipts, R: Wait + Abort>(
-    rt: &R,
-    shared: &SharedZone<K, I, M, B>,
-    client: &mut Client<Untold, T>,
-    call: Call,
-) -> Answer {
-    match call {
-        Call::MapUnmovable(at) => {
-            match client.map(rt, shared, address(rt, at), PageFlags::UNMOVABLE) {
-                Ok(frame) => Answer::Frame(frame.get()),
-                Err(error) => refusal(error),
-            }
-        }
-        Call::MapAt(at, number) => {
-            let frame = FrameNo::new(number).expect(rt, "a frame");
-            done(client.map_at(rt, shared, address(rt, at), PageFlags::empty(), frame))
-        }
-        Call::Share(at, alias) => {
-            done(client.share(rt, shared, address(rt, at), address(rt, alias)))
-        }
-        Call::Unmap(at) => done(client.unmap(rt, shared, address(rt, at))),
-        Call::Load(at, number) => {
-            match client.load(rt, shared, address(rt, at), word(rt, number)) {
-                Ok(value) => Answer::Value(value),
-                Err(error) => refusal(error),
-            }
-        }
-        Call::Store(at, number, value) => {
-            done(client.store(rt, shared, address(rt, at), word(rt, number), value))
-        }
-        Call::Read(at, from) => {
-            let mut words = [9; 8];
-            match client.read(rt, shared, address(rt, at), word(rt, from), &mut words) {
-                Ok(()) => Answer::Values(words),
-                Err(error) => refusal(error),
-            }
-        }
-        Call::Write(at, from, value) => {
-            done(client.write(rt, shared, address(rt, at), word(rt, from), &[value; 8]))
-        }
-        Call::Pin(at) => done(client.pin(rt, shared, address(rt, at))),
-        Call::Unpin(at) => done(client.unpin(rt, shared, address(rt, at))),
+fn mapped(made: Result<FrameNo, ClientError>) -> Answer {
+    match made {
+        Ok(frame) => Answer::Frame(frame.get()),
+        Err(error) => refusal(error),
     }
 }
 
-/// Makes calls, one after the other, and compares their answers.
-pub fn play<K: ZoneIdentity, I: Ledger, M: Ledger, B: Ledger, T: Receipts, R: Wait + Abort>(
-    rt: &R,
-    shared: &SharedZone<K, I, M, B>,
-    client: &mut Client<Untold, T>,
-    table: &[(Call, Answer)],
-) {
-    for (call, wanted) in table {
-        let answer = made(rt, shared, client, *call);
-        assert_eq!(rt; answer, *wanted, "{call:?}");
+fn loaded(made: Result<u64, ClientError>) -> Answer {
+    match made {
+        Ok(value) => Answer::Value(value),
+        Err(error) => refusal(error),
+    }
+}
+
+fn read(made: Result<(), ClientError>, words: [u64; 8]) -> Answer {
+    match made {
+        Ok(()) => Answer::Values(words),
+        Err(error) => refusal(error),
+    }
+}
+
+impl<Z: Names> Shared<Z> {
+    /// Makes a call.
+    pub fn made<T: Receipts, R: Wait + Abort>(
+        &self,
+        rt: &R,
+        client: &mut Client<Untold, T>,
+        call: Call,
+    ) -> Answer {
+        let zone = &self.zone;
+        match call {
+            Call::MapUnmovable(at) => {
+                mapped(client.map(rt, zone, address(rt, at), PageFlags::UNMOVABLE))
+            }
+            Call::MapAt(at, number) => {
+                let frame = FrameNo::new(number).expect(rt, "a frame");
+                done(client.map_at(rt, zone, address(rt, at), PageFlags::empty(), frame))
+            }
+            Call::Share(at, alias) => {
+                done(client.share(rt, zone, address(rt, at), address(rt, alias)))
+            }
+            Call::Unmap(at) => done(client.unmap(rt, zone, address(rt, at))),
+            Call::Load(at, number) => {
+                loaded(client.load(rt, zone, address(rt, at), word(rt, number)))
+            }
+            Call::Store(at, number, value) => {
+                done(client.store(rt, zone, address(rt, at), word(rt, number), value))
+            }
+            Call::Read(at, from) => {
+                let mut words = [9; 8];
+                let made = client.read(rt, zone, address(rt, at), word(rt, from), &mut words);
+                read(made, words)
+            }
+            Call::Write(at, from, value) => {
+                done(client.write(rt, zone, address(rt, at), word(rt, from), &[value; 8]))
+            }
+            Call::Pin(at) => done(client.pin(rt, zone, address(rt, at))),
+            Call::Unpin(at) => done(client.unpin(rt, zone, address(rt, at))),
+        }
+    }
+
+    /// Makes calls, one after the other, and compares their answers.
+    pub fn play<T: Receipts, R: Wait + Abort>(
+        &self,
+        rt: &R,
+        client: &mut Client<Untold, T>,
+        table: &[(Call, Answer)],
+    ) {
+        for (call, wanted) in table {
+            let answer = self.made(rt, client, *call);
+            assert_eq!(rt; answer, *wanted, "{call:?}");
+        }
     }
 }

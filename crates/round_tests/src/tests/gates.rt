@@ -1,4 +1,4 @@
-use super::tally::{ByCopier, Tally};
+use super::tally::Tally;
 use round_core::{Gate, Point};
 use std::process::Abort;
 use std::sync::atomic::{AtomicU64, Ordering};
@@ -8,7 +8,7 @@ use std::thread::yield_now;
 const GATE_TURNS: u32 = 1_000_000;
 
 /// A client, or a round that waits for clients, is more patient: threads are started meanwhile.
-pub const CLIENT_TURNS: u32 = 20_000_000;
+const CLIENT_TURNS: u32 = 20_000_000;
 
 /// Lets other threads run for so many turns.
 pub fn linger(turns: u32) {
@@ -17,36 +17,37 @@ pub fn linger(turns: u32) {
     }
 }
 
-/// At least so many pages are isolated, copied and ended, and clients have spoken so often.
+/// At least so many pages came to a point, and clients have spoken so often.
 #[derive(Clone, Copy)]
 pub struct Until {
-    pub isolated: u64,
-    pub copied: u64,
-    pub ended: u64,
+    pub pages: u64,
+    pub point: Point,
     pub spoken: u64,
 }
 
 impl Until {
-    pub const NOTHING: Until = Until {
-        isolated: 0,
-        copied: 0,
-        ended: 0,
+    /// A copy is made.
+    pub const COPIED: Until = Until {
+        pages: 1,
+        point: Point::Copied,
         spoken: 0,
     };
 
-    /// So many pages have ended.
-    pub fn ended(ended: u64) -> Until {
+    /// So many pages came to a point.
+    pub fn pages(pages: u64, point: Point) -> Until {
         Until {
-            ended,
-            ..Until::NOTHING
+            pages,
+            point,
+            spoken: 0,
         }
     }
 
     /// Clients have spoken so often.
     pub fn spoken(spoken: u64) -> Until {
         Until {
+            pages: 0,
+            point: Point::Isolated,
             spoken,
-            ..Until::NOTHING
         }
     }
 }
@@ -71,9 +72,9 @@ pub struct Watch {
     /// How many pages came to each point, as the thread told whose step it is.
     pub told: Tally,
     /// How many pages each copier took.
-    pub taken: ByCopier,
+    pub taken: Tally,
     /// As which of the threads that are held each copier came, from 1 on.
-    pub turns: ByCopier,
+    pub turns: Tally,
     /// How many threads came to be held.
     came: AtomicU64,
     spoken: AtomicU64,
@@ -86,9 +87,9 @@ impl Watch {
     pub fn by(plan: Plan) -> Watch {
         Watch {
             plan,
-            told: Tally::none(),
-            taken: ByCopier::none(),
-            turns: ByCopier::none(),
+            told: Tally::zeros(),
+            taken: Tally::zeros(),
+            turns: Tally::zeros(),
             came: AtomicU64::new(0),
             spoken: AtomicU64::new(0),
             ahead: AtomicU64::new(0),
@@ -101,19 +102,25 @@ impl Watch {
         self.spoken.fetch_add(1, Ordering::SeqCst);
     }
 
+    fn has_come_to(&self, until: Until) -> bool {
+        self.told.of(until.point) >= until.pages
+            && self.spoken.load(Ordering::SeqCst) >= until.spoken
+    }
+
     /// Waits so many turns at most. Whether it came to what was waited for.
-    pub fn comes_to(&self, until: Until, turns: u32) -> bool {
+    fn comes_to(&self, until: Until, turns: u32) -> bool {
         for _turn in 0..turns {
-            if self.told.count(Point::Isolated) >= until.isolated
-                && self.told.count(Point::Copied) >= until.copied
-                && self.told.count(Point::Ended) >= until.ended
-                && self.spoken.load(Ordering::SeqCst) >= until.spoken
-            {
+            if self.has_come_to(until) {
                 return true;
             }
             yield_now();
         }
         false
+    }
+
+    /// Waits as a client does.
+    pub fn assert_comes_to(&self, rt: &impl Abort, until: Until) {
+        assert!(rt; self.comes_to(until, CLIENT_TURNS), "waited in vain");
     }
 
     fn hold(&self, until: Until) {
@@ -132,8 +139,8 @@ impl Watch {
     fn hold_first(&self, until: Until) {
         self.come();
         self.hold(until);
-        let isolated = self.told.count(Point::Isolated);
-        self.ahead.store(isolated, Ordering::SeqCst);
+        self.ahead
+            .store(self.told.of(Point::Isolated), Ordering::SeqCst);
     }
 
     /// Holds a copier with its first page.
@@ -145,7 +152,7 @@ impl Watch {
         } else {
             0
         };
-        self.hold(Until::ended(ended));
+        self.hold(Until::pages(ended, Point::Ended));
     }
 
     /// How many pages were isolated when the first thread was let go.
@@ -158,11 +165,28 @@ impl Watch {
         let wanted = match self.plan {
             Plan::HoldsNone => 0,
             Plan::HoldsFirst(..) => 1,
-            Plan::HoldsFirstCopier(_) => self.taken.numbers()[0],
+            Plan::HoldsFirstCopier(_) => self.taken.number(1),
             Plan::HoldsAllButTheLast(copiers, _) => copiers,
         };
         assert!(rt; self.came.load(Ordering::SeqCst) == wanted);
         assert!(rt; self.held_in_vain.load(Ordering::SeqCst) == 0);
+    }
+
+    /// Holds a thread that made a step, if the plan says so. So many pages came to that point before, and the copier took so many.
+    fn hold_by_plan(&self, point: Point, who: usize, before: u64, taken: u64) {
+        match self.plan {
+            Plan::HoldsFirst(held, until) if point == held && before == 0 => {
+                self.hold_first(until)
+            }
+            Plan::HoldsFirstCopier(until) if point == Point::Taken && who == 1 => {
+                self.come();
+                self.hold(until);
+            }
+            Plan::HoldsAllButTheLast(copiers, pages) if point == Point::Taken && taken == 0 => {
+                self.hold_in_turn(who, copiers, pages)
+            }
+            _ => {}
+        }
     }
 }
 
@@ -180,24 +204,8 @@ impl Gate for Watch {
         if !makes(who, point) {
             return;
         }
-        let before = self.told.add(point);
-        let taken = if point == Point::Taken {
-            self.taken.add(who, 1)
-        } else {
-            1
-        };
-        match self.plan {
-            Plan::HoldsFirst(held, until) if point == held && before == 0 => {
-                self.hold_first(until)
-            }
-            Plan::HoldsFirstCopier(until) if point == Point::Taken && who == 1 => {
-                self.come();
-                self.hold(until);
-            }
-            Plan::HoldsAllButTheLast(copiers, pages) if taken == 0 => {
-                self.hold_in_turn(who, copiers, pages)
-            }
-            _ => {}
-        }
+        let before = self.told.add(point as usize, 1);
+        let taken = self.taken.add(who, u64::from(point == Point::Taken));
+        self.hold_by_plan(point, who, before, taken);
     }
 }

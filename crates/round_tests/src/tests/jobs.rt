@@ -1,15 +1,14 @@
-use super::calls::{Answer, Call, made, play};
-use super::gates::{CLIENT_TURNS, Until, Watch};
+use super::calls::{Answer, Call};
+use super::gates::{Until, Watch};
+use super::names::{Names, Shared};
 use client_core::Client;
-use round_core::{SharedZone, ZoneIdentity};
+use round_core::Point;
 use std::process::Abort;
 use std::sync::Wait;
-use std::sync::ledger::Ledger;
 
 /// What a client does on a thread of its own, beside rounds.
 #[derive(Clone, Copy)]
 pub enum Job {
-    Idle,
     /// Makes a call once a copy is made, and speaks when it is answered.
     Calls(Call, Answer),
     /// Does so, but speaks before too.
@@ -22,123 +21,94 @@ pub enum Job {
     UsesWords(u32, u32),
     /// Writes all words of page 0 and reads them, 100 times. What is written is this number or up to 99 more.
     WritesAndReads(u64),
+    /// Uses all words of so many pages, with receipts that are told.
+    UsesPagesTold(u32),
 }
 
-/// Waits until no page is moving. It speaks while it has the lock, which it lets go only as it sleeps.
-fn wait_by_hand<K: ZoneIdentity, I: Ledger, M: Ledger, B: Ledger, R: Wait>(
-    rt: &R,
-    shared: &SharedZone<K, I, M, B>,
-    watch: &Watch,
-) {
-    let mut room = shared.lock(rt);
-    watch.speak();
-    for _ in rt.forever() {
-        if room.zone().info().moving == 0 {
-            return;
+/// A store or a load of one of two words of one of 64 pages, drawn from a seed. A load answers what was stored there last.
+fn drawn(seed: u32, first: u32, second: u32, last: &mut [u64; 128]) -> (Call, Answer) {
+    let choice = seed / 1024 % 256;
+    let place = choice / 2;
+    let at = place / 2;
+    let word = if place % 2 == 0 { first } else { second };
+    if choice % 2 == 0 {
+        last[place as usize] = u64::from(seed);
+        (Call::Store(at, word, u64::from(seed)), Answer::Done)
+    } else {
+        (Call::Load(at, word), Answer::Value(last[place as usize]))
+    }
+}
+
+impl<Z: Names> Shared<Z> {
+    /// Waits until no page is moving. It speaks while it has the lock, which it lets go only as it sleeps.
+    fn wait_by_hand<R: Wait>(&self, rt: &R, watch: &Watch) {
+        let mut room = self.zone.lock(rt);
+        watch.speak();
+        for _ in rt.forever() {
+            if room.zone().info().moving == 0 {
+                return;
+            }
+            room = room.wait_for_end(rt);
         }
-        room = room.wait_for_end(rt);
+        unreachable!()
     }
-    unreachable!()
-}
 
-/// Stores or loads one of two words of one of 64 pages, drawn from a seed. A load answers what was stored there last.
-fn use_words<K: ZoneIdentity, I: Ledger, M: Ledger, B: Ledger, R: Wait + Abort>(
-    rt: &R,
-    shared: &SharedZone<K, I, M, B>,
-    client: &mut Client,
-    first: u32,
-    second: u32,
-) {
-    let mut last = [0; 128];
-    let mut seed = second;
-    for _ in 0..5000 {
-        seed = seed.wrapping_mul(1664525).wrapping_add(1013904223);
-        let choice = seed / 1024 % 256;
-        let place = choice / 2;
-        let at = place / 2;
-        let word = if place % 2 == 0 { first } else { second };
-        let calling = if choice % 2 == 0 {
-            last[place as usize] = u64::from(seed);
-            (Call::Store(at, word, u64::from(seed)), Answer::Done)
-        } else {
-            (Call::Load(at, word), Answer::Value(last[place as usize]))
-        };
-        play(rt, shared, client, &[calling]);
-    }
-}
-
-/// Writes all words of page 0 and reads them, 100 times. A read finds the words of one write.
-fn write_and_read<K: ZoneIdentity, I: Ledger, M: Ledger, B: Ledger, R: Wait + Abort>(
-    rt: &R,
-    shared: &SharedZone<K, I, M, B>,
-    client: &mut Client,
-    own: u64,
-) {
-    for turn in 0..100 {
-        let value = own.saturating_add(turn);
-        play(
-            rt,
-            shared,
-            client,
-            &[(Call::Write(0, 0, value), Answer::Done)],
-        );
-        let Answer::Values(words) = made(rt, shared, client, Call::Read(0, 0)) else {
-            panic!(rt; "the words can be read");
-        };
-        assert!(rt; words == [words[0]; 8]);
-    }
-}
-
-/// Stores to a word of a page and loads it, 200 times.
-fn store_and_load<K: ZoneIdentity, I: Ledger, M: Ledger, B: Ledger, R: Wait + Abort>(
-    rt: &R,
-    shared: &SharedZone<K, I, M, B>,
-    client: &mut Client,
-    at: u32,
-    word: u32,
-) {
-    for value in 0..200 {
-        let table = [
-            (Call::Store(at, word, value), Answer::Done),
-            (Call::Load(at, word), Answer::Value(value)),
-        ];
-        play(rt, shared, client, &table);
-    }
-}
-
-/// A client does its job.
-pub fn work<K: ZoneIdentity, I: Ledger, M: Ledger, B: Ledger, R: Wait + Abort>(
-    rt: &R,
-    shared: &SharedZone<K, I, M, B>,
-    watch: &Watch,
-    mut client: Client,
-    job: Job,
-) -> Client {
-    let copied = Until {
-        copied: 1,
-        ..Until::NOTHING
-    };
-    match job {
-        Job::Idle => {}
-        Job::Calls(call, answer) => {
-            assert!(rt; watch.comes_to(copied, CLIENT_TURNS));
-            play(rt, shared, &mut client, &[(call, answer)]);
-            watch.speak();
+    /// Makes calls that are drawn, one after the other.
+    fn use_words<R: Wait + Abort>(&self, rt: &R, client: &mut Client, first: u32, second: u32) {
+        let mut last = [0; 128];
+        let mut seed = second;
+        for _ in 0..5000 {
+            seed = seed.wrapping_mul(1664525).wrapping_add(1013904223);
+            self.play(rt, client, &[drawn(seed, first, second, &mut last)]);
         }
-        Job::SpeaksAndCalls(call, answer) => {
-            assert!(rt; watch.comes_to(copied, CLIENT_TURNS));
-            watch.speak();
-            play(rt, shared, &mut client, &[(call, answer)]);
-            watch.speak();
-        }
-        Job::WaitsByHand => {
-            assert!(rt; watch.comes_to(copied, CLIENT_TURNS));
-            wait_by_hand(rt, shared, watch);
-            watch.speak();
-        }
-        Job::StoresAndLoads(at, word) => store_and_load(rt, shared, &mut client, at, word),
-        Job::UsesWords(first, second) => use_words(rt, shared, &mut client, first, second),
-        Job::WritesAndReads(own) => write_and_read(rt, shared, &mut client, own),
     }
-    client
+
+    /// Writes all words of page 0 and reads them. A read finds the words of one write.
+    fn write_and_read<R: Wait + Abort>(&self, rt: &R, client: &mut Client, own: u64) {
+        for turn in 0..100 {
+            let write = Call::Write(0, 0, own.saturating_add(turn));
+            self.play(rt, client, &[(write, Answer::Done)]);
+            let Answer::Values(words) = self.made(rt, client, Call::Read(0, 0)) else {
+                panic!(rt; "the words can be read");
+            };
+            assert!(rt; words == [words[0]; 8]);
+        }
+    }
+
+    /// Stores to a word of a page and loads it.
+    fn store_and_load<R: Wait + Abort>(&self, rt: &R, client: &mut Client, at: u32, word: u32) {
+        for value in 0..200 {
+            let table = [
+                (Call::Store(at, word, value), Answer::Done),
+                (Call::Load(at, word), Answer::Value(value)),
+            ];
+            self.play(rt, client, &table);
+        }
+    }
+
+    /// A client does its job.
+    pub fn work<R: Wait + Abort>(&self, rt: &R, watch: &Watch, client: &mut Client, job: Job) {
+        match job {
+            Job::Calls(call, answer) => {
+                watch.assert_comes_to(rt, Until::COPIED);
+                self.play(rt, client, &[(call, answer)]);
+                watch.speak();
+            }
+            Job::SpeaksAndCalls(call, answer) => {
+                watch.assert_comes_to(rt, Until::COPIED);
+                watch.speak();
+                self.play(rt, client, &[(call, answer)]);
+                watch.speak();
+            }
+            Job::WaitsByHand => {
+                watch.assert_comes_to(rt, Until::COPIED);
+                self.wait_by_hand(rt, watch);
+                watch.speak();
+            }
+            Job::StoresAndLoads(at, word) => self.store_and_load(rt, client, at, word),
+            Job::UsesWords(first, second) => self.use_words(rt, client, first, second),
+            Job::WritesAndReads(own) => self.write_and_read(rt, client, own),
+            Job::UsesPagesTold(pages) => self.use_pages_told(rt, pages),
+        }
+    }
 }

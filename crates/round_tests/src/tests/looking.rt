@@ -1,15 +1,18 @@
 use super::gates::linger;
-use super::opening::{Opening, counts_of, tried_round};
+use super::names::Names;
+use super::opening::{Opening, counts_of};
 use super::tally::Tally;
-use super::{Trial, tries};
+use super::{Runtime, Trial, tries};
 use frame_core::Record;
 use round_core::{Gate, Keeping, Open, Point, SharedZone, ZoneIdentity};
 use std::process::Abort;
 use std::sync::Wait;
 use std::sync::ledger::Ledger;
-use std::thread::Threads;
 
 const PAGES: u32 = 16;
+
+/// What a page is at each point.
+const STEPS: [&str; 4] = ["isolated", "taken", "copied", "ended"];
 
 /// How many isolations and how many ends these records are of.
 fn recorded(records: &[Record]) -> (u64, u64) {
@@ -38,103 +41,69 @@ where
     let_go: Tally,
 }
 
-impl<'a, K: ZoneIdentity, I: Ledger, M: Ledger, B: Ledger, R: Wait + Abort> Looks<
-    'a,
-    K,
-    I,
-    M,
-    B,
-    R,
-> {
-    fn at_each(rt: &'a R, shared: &'a SharedZone<K, I, M, B>) -> Self {
-        Looks {
-            rt,
-            shared,
-            told: Tally::none(),
-            let_go: Tally::none(),
-        }
-    }
-
+impl<K: ZoneIdentity, I: Ledger, M: Ledger, B: Ledger, R: Wait + Abort> Looks<'_, K, I, M, B, R> {
     /// What the journal says, once the lock was free.
     fn look(&self) -> (u64, u64) {
         let room = self.shared.lock(self.rt);
-        recorded(
-            room.zone()
-                .journal()
-                .kept()
-                .expect(self.rt, "a kept journal"),
-        )
+        let records = room.zone().journal().kept();
+        recorded(records.expect(self.rt, "a kept journal"))
+    }
+
+    /// So many pages have come this far, of those that may have.
+    fn assert_few(&self, step: &str, pages: u64, most: u64) {
+        assert!(self.rt; pages <= most, "{step}: {pages}, of {most}");
     }
 
     /// Each step that it was told of has been made, and no page has ended before it was let go with its copy.
     fn assert_made(&self) {
-        let isolated = self.told.count(Point::Isolated);
-        let ended = self.told.count(Point::Ended);
-        let recorded = self.look();
-        assert!(self.rt;
-            isolated <= recorded.0,
-            "isolated {isolated}, of {}",
-            recorded.0
-        );
-        assert!(self.rt; ended <= recorded.1, "ended {ended}, of {}", recorded.1);
-        let copied = self.let_go.count(Point::Copied);
-        assert!(self.rt;
-            recorded.1 <= copied,
-            "{} have ended, of {copied}",
-            recorded.1
-        );
+        let isolated = self.told.of(Point::Isolated);
+        let ended = self.told.of(Point::Ended);
+        let (isolations, ends) = self.look();
+        self.assert_few("told as isolated", isolated, isolations);
+        self.assert_few("told as ended", ended, ends);
+        self.assert_few("ended", ends, self.let_go.of(Point::Copied));
     }
 
     /// No page has made a step before it was let go at the point before it.
-    fn assert_in_turn(&self, before: Point, after: Point) {
-        let told = self.told.count(after);
-        let let_go = self.let_go.count(before);
-        assert!(self.rt;
-            told <= let_go,
-            "{after:?} {told} times, {before:?} {let_go} times"
-        );
+    fn assert_in_turn(&self) {
+        for before in 0..3usize {
+            let told = self.told.number(before + 1);
+            self.assert_few(STEPS[before + 1], told, self.let_go.number(before));
+        }
     }
 }
 
 impl<
-    'a,
     K: ZoneIdentity + Send + Sync,
     I: Ledger + Send + Sync,
     M: Ledger + Send + Sync,
     B: Ledger + Send + Sync,
     R: Wait + Abort + Sync,
-> Gate for Looks<'a, K, I, M, B, R> {
+> Gate for Looks<'_, K, I, M, B, R> {
     fn at(&self, point: Point, _who: usize) {
-        self.told.add(point);
+        self.told.add(point as usize, 1);
         linger(10);
         self.assert_made();
-        self.assert_in_turn(Point::Isolated, Point::Taken);
-        self.assert_in_turn(Point::Taken, Point::Copied);
-        self.assert_in_turn(Point::Copied, Point::Ended);
-        self.let_go.add(point);
+        self.assert_in_turn();
+        self.let_go.add(point as usize, 1);
     }
 }
 
-impl<
-    K: ZoneIdentity + Send + Sync,
-    I: Ledger + Send + Sync,
-    N: Ledger,
-    M: Ledger + Send + Sync,
-    B: Ledger + Send + Sync,
-> Opening<K, I, N, M, B> {
+impl<Z: Names> Opening<Z> {
     /// Each page comes by each point.
-    pub fn looks_at_each_point<R: Threads + Wait + Abort + AllocGlobal + Sync>(
-        &mut self,
-        rt: &R,
-        copiers: usize,
-        room: usize,
-    ) {
+    pub fn looks_at_each_point<R: Runtime>(&mut self, rt: &R, copiers: usize, room: usize) {
         self.fill(rt, PAGES);
-        let gate = Looks::at_each(rt, &self.shared);
-        let round = tried_round(rt, &self.shared, &mut self.seats, copiers, room, &gate);
-        assert!(rt; counts_of(rt, &round) == (PAGES, PAGES, 0));
-        for point in [Point::Isolated, Point::Taken, Point::Copied, Point::Ended] {
-            assert!(rt; gate.let_go.count(point) == u64::from(PAGES), "{point:?}");
+        let (shared, seats) = (&self.shared, &mut self.seats);
+        let gate = Looks {
+            rt,
+            shared: &shared.zone,
+            told: Tally::zeros(),
+            let_go: Tally::zeros(),
+        };
+        let round = shared.round(rt, seats, copiers, room, &gate);
+        assert!(rt; counts_of(&round) == (PAGES, PAGES, 0));
+        for point in 0..4 {
+            assert!(rt; gate.let_go.number(point) == u64::from(PAGES), "{point}");
         }
     }
 }

@@ -2,25 +2,26 @@ ghost use Rattle.std.specs.Prelude.{◌≡◌, IfOk};
 ghost use Rattle.zone_core.specs.Books.{AreFor};
 ghost use Rattle.zone_core.specs.ZoneIdentity.{HasIdentity};
 
-use super::calls::{Answer, Call, client_number, client_of, play};
-use client_core::{Client, Mismatch, Unsettled, settle_clients};
+use super::Runtime;
+use super::calls::{Answer, Call, client_of};
+use super::names::{Names, SeatsOf, Shared};
+use client_core::{Client, Unsettled, settle_clients};
 use frame_core::ZoneNo;
 use round_core::{Gate, Keeping, Open, Round, RoundError, SharedZone, ZoneIdentity, compact};
 use std::alloc::Global;
 use std::process::Abort;
 use std::sync::Wait;
 use std::sync::ledger::Ledger;
-use std::thread::Threads;
 use zone_core::{Blanks, EndSeat, Info, ScanSeat, Seats, Zone, ZoneError};
 
 /// A shared zone with its seats, and the client that maps its pages.
 #[derive(Drop)]
-pub struct Opening<K: ZoneIdentity, I: Ledger, N: Ledger, M: Ledger, B: Ledger>
+pub struct Opening<Z: Names>
 where
-    Open<K>: Keeping,
+    Open<Z::K>: Keeping,
 {
-    pub shared: SharedZone<K, I, M, B>,
-    pub seats: Seats<I, N, M, B>,
+    pub shared: Shared<Z>,
+    pub seats: SeatsOf<Z>,
     pub keeper: Client,
 }
 
@@ -41,84 +42,98 @@ fn opened<I: Ledger, N: Ledger, M: Ledger, B: Ledger>(
     }
 }
 
-impl<K: ZoneIdentity, I: Ledger, N: Ledger, M: Ledger, B: Ledger> Opening<K, I, N, M, B> {
-    /// Zone 1, of so many pageblocks. Its journal has so many places, or is told.
-    pub fn of<R: Abort + AllocGlobal>(
+/// Opens zone 1, of so many pageblocks. Its journal has so many places, or is told.
+pub fn open_zone<
+    K: ZoneIdentity + Send + Sync,
+    I: Ledger + Send + Sync,
+    N: Ledger + Send + Sync,
+    M: Ledger + Send + Sync,
+    B: Ledger + Send + Sync,
+    R: Abort + AllocGlobal,
+>(rt: &R, blocks: u32, places: Option<u32>, blanks: Blanks) -> Opening<(K, I, N, M, B)>
+    requires identity { (K.number ≡ 1) × (K.blocks ≡ blocks) }
+    requires blanks { AreFor blanks I.name I.parts N.name N.parts M.name M.parts B.name B.parts }
+{
+    let number = ZoneNo::new(1).expect(rt, "a zone");
+    let opened = opened::<I, N, M, B>(rt.alloc(), number, blocks, places, blanks);
+    let (zone, scan, ends) = opened.expect(rt, "a zone");
+    Opening {
+        shared: Shared {
+            zone: SharedZone::new(zone),
+        },
+        seats: Seats { scan, ends },
+        keeper: client_of(rt, 0),
+    }
+}
+
+/// How many pages a round isolates, moves and puts back.
+pub type Counts = (u32, u32, u32);
+
+impl<Z: Names> Shared<Z> {
+    /// A round with so many copiers and so much room, or why it is refused.
+    pub fn try_round<G: Gate, R: Runtime>(
+        &self,
         rt: &R,
-        blocks: u32,
-        places: Option<u32>,
-        blanks: Blanks,
-    ) -> Self
-        requires identity { (K.number ≡ 1) × (K.blocks ≡ blocks) }
-        requires blanks { AreFor blanks I.name I.parts N.name N.parts M.name M.parts B.name B.parts }
-    {
-        let number = ZoneNo::new(1).expect(rt, "a zone");
-        let opened = opened::<I, N, M, B>(rt.alloc(), number, blocks, places, blanks);
-        let (zone, scan, ends) = opened.expect(rt, "a zone");
-        Opening {
-            shared: SharedZone::new(zone),
-            seats: Seats { scan, ends },
-            keeper: client_of(rt, 0),
-        }
+        seats: &mut SeatsOf<Z>,
+        copiers: usize,
+        room: usize,
+        gate: &G,
+    ) -> Result<Round, RoundError> {
+        assert!(rt; 0 < copiers && copiers <= 4 && 0 < room && room <= 64);
+        compact(rt, rt.alloc(), &self.zone, seats, copiers, room, gate)
     }
 
+    /// A round that isn't refused.
+    pub fn round<G: Gate, R: Runtime>(
+        &self,
+        rt: &R,
+        seats: &mut SeatsOf<Z>,
+        copiers: usize,
+        room: usize,
+        gate: &G,
+    ) -> Round {
+        match self.try_round(rt, seats, copiers, room, gate) {
+            Ok(round) => round,
+            Err(error) => panic!(rt; "the round is refused: {error}"),
+        }
+    }
+}
+
+pub fn counts_of(round: &Round) -> Counts {
+    (round.count, round.moved, round.back)
+}
+
+impl<Z: Names> Opening<Z> {
     /// Makes calls of the client that maps the pages.
     pub fn keeps<R: Wait + Abort>(&mut self, rt: &R, table: &[(Call, Answer)]) {
-        play(rt, &self.shared, &mut self.keeper, table);
+        self.shared.play(rt, &mut self.keeper, table);
+    }
+
+    /// The virtual page of this number names a page in the frame of this number.
+    pub fn map<R: Wait + Abort>(&mut self, rt: &R, number: u32) {
+        self.keeps(rt, &[(Call::MapAt(number, number), Answer::Done)]);
     }
 
     /// Virtual pages 0, 1, .. name pages in the frames 0, 1, ..
     pub fn fill<R: Wait + Abort>(&mut self, rt: &R, pages: u32) {
         for number in 0..pages {
-            self.keeps(rt, &[(Call::MapAt(number, number), Answer::Done)]);
+            self.map(rt, number);
         }
     }
 
     /// What is told of the zone: its counts, and the length of its journal.
     pub fn told<R: Wait>(&self, rt: &R) -> (Info, u64) {
-        let room = self.shared.lock(rt);
+        let room = self.shared.zone.lock(rt);
         (room.zone().info(), room.zone().journal().len())
     }
 
     /// What settling these clients with the zone answers.
     pub fn settled<R: Wait>(&self, rt: &R, clients: &[Client]) -> Result<(), Unsettled> {
-        settle_clients(self.shared.lock(rt).zone(), clients)
+        settle_clients(self.shared.zone.lock(rt).zone(), clients)
     }
-}
 
-/// A round, known by its answer alone.
-pub fn tried_round<
-    K: ZoneIdentity + Send + Sync,
-    I: Ledger + Send + Sync,
-    N: Ledger,
-    M: Ledger + Send + Sync,
-    B: Ledger + Send + Sync,
-    G: Gate,
-    R: Threads + Wait + Abort + AllocGlobal + Sync,
->(
-    rt: &R,
-    shared: &SharedZone<K, I, M, B>,
-    seats: &mut Seats<I, N, M, B>,
-    copiers: usize,
-    room: usize,
-    gate: &G,
-) -> Result<Round, RoundError> {
-    assert!(rt; 0 < copiers && copiers <= 4 && 0 < room && room <= 64);
-    compact(rt, rt.alloc(), shared, seats, copiers, room, gate)
-}
-
-/// How many pages a round isolated, moved and put back.
-pub fn counts_of(rt: &impl Abort, round: &Result<Round, RoundError>) -> (u32, u32, u32) {
-    match round {
-        Ok(round) => (round.count, round.moved, round.back),
-        Err(error) => panic!(rt; "the round is refused: {error}"),
+    /// The receipts of these clients stand in the journal.
+    pub fn assert_settled<R: Wait + Abort>(&self, rt: &R, clients: &[Client]) {
+        assert!(rt; self.settled(rt, clients) == Ok(()));
     }
-}
-
-/// The first client that differs from the journal, and the first of its receipts that does.
-pub fn mismatch(rt: &impl Abort, number: u32, index: usize) -> Result<(), Unsettled> {
-    Err(Unsettled::Mismatch(Mismatch {
-        client: client_number(rt, number),
-        index,
-    }))
 }

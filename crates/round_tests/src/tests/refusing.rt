@@ -1,10 +1,11 @@
-use super::calls::{Answer, Call, client_of, play};
+use super::calls::{Answer, Call, client_of};
+use super::names::{Names, Shared};
 use super::opening::Opening;
 use super::{Trial, tries};
-use round_core::ZoneIdentity;
+use client_core::Client;
 use std::process::Abort;
+use std::slice::from_ref;
 use std::sync::Wait;
-use std::sync::ledger::Ledger;
 use zone_core::ZoneError;
 
 /// Calls with their answers, that are made so many times.
@@ -94,7 +95,15 @@ const WITHOUT_ROOM: Table = Table {
     ],
 };
 
-impl<K: ZoneIdentity, I: Ledger, N: Ledger, M: Ledger, B: Ledger> Opening<K, I, N, M, B> {
+impl<Z: Names> Shared<Z> {
+    fn play_table<R: Wait + Abort>(&self, rt: &R, client: &mut Client, table: &Table) {
+        for _ in 0..table.times {
+            self.play(rt, client, table.calls);
+        }
+    }
+}
+
+impl<Z: Names> Opening<Z> {
     /// Makes the calls of tables. The client has a receipt for each that is accepted, which so many are, and each stands in the journal.
     pub fn refuses<R: Wait + Abort + AllocGlobal>(
         &mut self,
@@ -104,13 +113,10 @@ impl<K: ZoneIdentity, I: Ledger, N: Ledger, M: Ledger, B: Ledger> Opening<K, I, 
     ) {
         let mut client = client_of(rt, 5);
         for table in tables {
-            for _ in 0..table.times {
-                play(rt, &self.shared, &mut client, table.calls);
-            }
+            self.shared.play_table(rt, &mut client, table);
         }
-        assert!(rt; client.number().get() == 5);
-        assert!(rt; client.receipts().len() == accepted);
-        assert!(rt; self.settled(rt, &[client]) == Ok(()));
+        assert!(rt; client.number().get() == 5 && client.receipts().len() == accepted);
+        self.assert_settled(rt, from_ref(&client));
     }
 }
 

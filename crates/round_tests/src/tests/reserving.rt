@@ -1,12 +1,10 @@
-use super::calls::{Answer, Call};
+use super::collecting::collector;
+use super::names::Names;
 use super::opening::Opening;
-use super::{Trial, tries};
-use huge_core::{Report, Stop};
-use round_core::{NoGate, RoundError, ZoneIdentity};
+use super::{Runtime, Trial, tries};
+use huge_core::{Huge, Report, Stop};
+use round_core::{NoGate, RoundError};
 use std::process::Abort;
-use std::sync::Wait;
-use std::sync::ledger::Ledger;
-use std::thread::Threads;
 
 /// A zone with a page in each of these frames, what is asked of a collector, and what it reports.
 pub struct Case {
@@ -106,45 +104,47 @@ const CASES: [Case; 9] = [
 ];
 
 impl Case {
+    /// Whether these are the blocks of the case.
+    fn has_got(&self, got: &[Option<Huge>]) -> bool {
+        for (block, frame) in got.iter().zip(self.got) {
+            match block {
+                Some(huge) if huge.frame().get() == *frame => {}
+                _ => return false,
+            }
+        }
+        got.len() == self.got.len()
+    }
+
     /// The report has the blocks of the case, and tells as many rounds and the same reason.
     fn assert_reported(&self, rt: &impl Abort, report: &Report) {
-        assert!(rt; report.got.len() == self.got.len(), "{}", self.name);
-        for (block, frame) in report.got.iter().zip(self.got) {
-            assert!(rt;
-                matches!(block, Some(huge) if huge.frame().get() == *frame),
-                "{}",
-                self.name
-            );
-        }
-        assert!(rt; report.rounds == self.ran, "{}", self.name);
-        assert!(rt; report.stop == self.stop, "{}", self.name);
+        assert!(rt; self.has_got(&report.got), "{}", self.name);
+        assert!(rt;
+            report.rounds == self.ran && report.stop == self.stop,
+            "{}",
+            self.name
+        );
     }
 }
 
-impl<
-    K: ZoneIdentity + Send + Sync,
-    I: Ledger + Send + Sync,
-    N: Ledger,
-    M: Ledger + Send + Sync,
-    B: Ledger + Send + Sync,
-> Opening<K, I, N, M, B> {
+impl<Z: Names> Opening<Z> {
     /// A collector reports what the case says. Where the end seat isn't whole, a part of it is kept back meanwhile.
-    pub fn reserves<R: Threads + Wait + Abort + AllocGlobal + Sync>(
-        &mut self,
-        rt: &R,
-        case: &Case,
-    ) {
+    pub fn reserves<R: Runtime>(&mut self, rt: &R, case: &Case) {
         for frame in case.pages.iter() {
-            self.keeps(rt, &[(Call::MapAt(*frame, *frame), Answer::Done)]);
+            self.map(rt, *frame);
         }
         let part = if case.is_whole {
             None
         } else {
             self.seats.ends.split()
         };
-        let report = self.reserved(rt, 2, 8, case.rounds, case.order, case.n, &NoGate);
-        case.assert_reported(rt, &report);
+        self.assert_reserves(rt, case);
         assert!(rt; part.is_none() == case.is_whole);
+    }
+
+    fn assert_reserves<R: Runtime>(&mut self, rt: &R, case: &Case) {
+        let collector = collector(rt, 2, 8, case.rounds, case.order);
+        let report = self.reserved(rt, &collector, case.n, &NoGate);
+        case.assert_reported(rt, &report);
     }
 }
 

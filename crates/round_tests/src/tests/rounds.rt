@@ -1,21 +1,21 @@
 use super::calls::{Answer, Call};
-use super::opening::{Opening, counts_of, tried_round};
-use super::{Trial, tries};
+use super::names::Names;
+use super::opening::{Opening, counts_of};
+use super::{Runtime, Trial, tries};
 use frame_core::Isolated;
-use round_core::{NoGate, RoundError, Stop, ZoneIdentity};
+use round_core::{NoGate, RoundError, Stop};
 use std::process::Abort;
 use std::sync::Wait;
-use std::sync::ledger::Ledger;
-use std::thread::Threads;
-use zone_core::Next;
+use zone_core::{Next, ZoneError};
 
-impl<
-    K: ZoneIdentity + Send + Sync,
-    I: Ledger + Send + Sync,
-    N: Ledger,
-    M: Ledger + Send + Sync,
-    B: Ledger + Send + Sync,
-> Opening<K, I, N, M, B> {
+fn page_of(rt: &impl Abort, next: Result<Next, ZoneError>) -> Isolated {
+    let Ok(Next::Page(page)) = next else {
+        panic!(rt; "no page is isolated");
+    };
+    page
+}
+
+impl<Z: Names> Opening<Z> {
     /// Stores its number to a word of each page of the lower half.
     fn stores_each<R: Wait + Abort>(&mut self, rt: &R) {
         for number in 0..512 {
@@ -32,51 +32,56 @@ impl<
         }
     }
 
+    /// The scanners of a round meet, and it moves so many pages.
+    fn assert_meets<R: Runtime>(&mut self, rt: &R, copiers: usize, moved: u32) {
+        let round = self.shared.round(rt, &mut self.seats, copiers, 3, &NoGate);
+        assert!(rt; counts_of(&round) == (moved, moved, 0) && round.stopped == Stop::Met);
+    }
+
     /// The pages of the lower half move up with their words, and a second round moves nothing.
-    pub fn moves_the_lower_half<R: Threads + Wait + Abort + AllocGlobal + Sync>(
-        &mut self,
-        rt: &R,
-        copiers: usize,
-    ) {
+    pub fn moves_the_lower_half<R: Runtime>(&mut self, rt: &R, copiers: usize) {
         self.fill(rt, 512);
         self.stores_each(rt);
-        let round = tried_round(rt, &self.shared, &mut self.seats, copiers, 3, &NoGate);
-        assert!(rt; counts_of(rt, &round) == (512, 512, 0));
-        assert!(rt; matches!(&round, Ok(round) if round.stopped == Stop::Met));
+        self.assert_meets(rt, copiers, 512);
         self.loads_each(rt);
-        let round = tried_round(rt, &self.shared, &mut self.seats, copiers, 3, &NoGate);
-        assert!(rt; counts_of(rt, &round) == (0, 0, 0));
+        self.assert_meets(rt, copiers, 0);
         let (info, _records) = self.told(rt);
         assert!(rt; (info.pages, info.moving, info.whole) == (512, 0, 1));
     }
 
-    /// Isolates a page by hand.
+    /// Begins a round by hand, and isolates its first page.
     fn isolated<R: Wait + Abort>(&mut self, rt: &R) -> Isolated {
-        let mut room = self.shared.lock(rt);
-        room.zone.begin_round(&mut self.seats.scan);
-        let Ok(Next::Page(page)) = room.zone.isolate_next(&mut self.seats.scan) else {
-            panic!(rt; "no page is isolated");
-        };
-        page
+        self.shared
+            .zone
+            .lock(rt)
+            .zone
+            .begin_round(&mut self.seats.scan);
+        let next = self
+            .shared
+            .zone
+            .lock(rt)
+            .zone
+            .isolate_next(&mut self.seats.scan);
+        page_of(rt, next)
     }
 
     /// Puts a page back by hand.
     fn put_back<R: Wait + Abort>(&mut self, rt: &R, page: Isolated) {
-        let mut room = self.shared.lock(rt);
+        let mut room = self.shared.zone.lock(rt);
         let ended = room.zone.put_back(&mut self.seats.ends, page);
         assert!(rt; ended.is_ok());
     }
 
     /// A round isn't begun, and the zone is as before.
-    fn assert_broken<R: Threads + Wait + Abort + AllocGlobal + Sync>(&mut self, rt: &R) {
+    fn assert_broken<R: Runtime>(&mut self, rt: &R) {
         let before = self.told(rt);
-        let refused = tried_round(rt, &self.shared, &mut self.seats, 2, 8, &NoGate);
+        let refused = self.shared.try_round(rt, &mut self.seats, 2, 8, &NoGate);
         assert!(rt; matches!(refused, Err(RoundError::Broken)));
         assert!(rt; self.told(rt) == before);
     }
 
     /// A round isn't begun while a page that was isolated by hand is out, or while a part of the end seat is missing.
-    pub fn is_broken<R: Threads + Wait + Abort + AllocGlobal + Sync>(&mut self, rt: &R) {
+    pub fn is_broken<R: Runtime>(&mut self, rt: &R) {
         self.fill(rt, 2);
         let page = self.isolated(rt);
         self.assert_broken(rt);
@@ -84,8 +89,8 @@ impl<
         let part = self.seats.ends.split().expect(rt, "a part");
         self.assert_broken(rt);
         self.seats.ends.join(part);
-        let round = tried_round(rt, &self.shared, &mut self.seats, 2, 8, &NoGate);
-        assert!(rt; counts_of(rt, &round) == (2, 2, 0));
+        let round = self.shared.round(rt, &mut self.seats, 2, 8, &NoGate);
+        assert!(rt; counts_of(&round) == (2, 2, 0));
     }
 }
 

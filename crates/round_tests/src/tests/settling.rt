@@ -1,13 +1,12 @@
-use super::calls::{Answer, Call, client_of, play};
-use super::opening::{Opening, mismatch};
+use super::calls::{Answer, Call, client_number, client_of};
+use super::names::Names;
+use super::opening::Opening;
 use super::{Trial, tries};
-use client_core::Client;
-use round_core::ZoneIdentity;
+use client_core::{Client, Mismatch, Unsettled};
 use std::process::Abort;
 use std::sync::Wait;
-use std::sync::ledger::Ledger;
 
-impl<K: ZoneIdentity, I: Ledger, N: Ledger, M: Ledger, B: Ledger> Opening<K, I, N, M, B> {
+impl<Z: Names> Opening<Z> {
     /// Two clients that take turns.
     fn take_turns<R: Wait + Abort + AllocGlobal>(&mut self, rt: &R) -> [Client; 2] {
         let mut second = client_of(rt, 2);
@@ -17,34 +16,48 @@ impl<K: ZoneIdentity, I: Ledger, N: Ledger, M: Ledger, B: Ledger> Opening<K, I, 
             (Call::Pin(0), Answer::Done),
             (Call::Pin(0), Answer::Done),
         ];
-        play(rt, &self.shared, &mut second, &table);
+        self.shared.play(rt, &mut second, &table);
         self.keeps(rt, &[(Call::Load(0, 3), Answer::Value(8))]);
         [self.keeper.try_clone().expect(rt, "memory"), second]
     }
 
+    /// A client under the number of another, which unpins the page.
+    fn unpinned_by_a_second<R: Wait + Abort + AllocGlobal>(&mut self, rt: &R) -> Client {
+        let mut late = client_of(rt, 2);
+        self.shared
+            .play(rt, &mut late, &[(Call::Unpin(0), Answer::Done)]);
+        late
+    }
+
     /// The clients agree until another client makes a call under the number of one of them.
     pub fn settles<R: Wait + Abort + AllocGlobal>(&mut self, rt: &R) {
-        assert!(rt; self.settled(rt, &[]) == Ok(()));
+        self.assert_settled(rt, &[]);
         let clients = self.take_turns(rt);
-        assert!(rt; self.settled(rt, &clients) == Ok(()));
-        let idle = [client_of(rt, 3), client_of(rt, 0)];
-        assert!(rt; self.settled(rt, &idle) == mismatch(rt, 0, 0));
-        let mut late = client_of(rt, 2);
-        play(
-            rt,
-            &self.shared,
-            &mut late,
-            &[(Call::Unpin(0), Answer::Done)],
-        );
-        assert!(rt; self.settled(rt, &[late]) == mismatch(rt, 2, 0));
-        assert!(rt; self.settled(rt, &clients) == mismatch(rt, 2, 3));
+        self.assert_settled(rt, &clients);
+        self.assert_mismatch(rt, &[client_of(rt, 3), client_of(rt, 0)], 0, 0);
+        let late = self.unpinned_by_a_second(rt);
+        self.assert_mismatch(rt, &[late], 2, 0);
+        self.assert_mismatch(rt, &clients, 2, 3);
+    }
+
+    /// The first client that differs from the journal, and the first of its receipts that does.
+    fn assert_mismatch<R: Wait + Abort>(
+        &self,
+        rt: &R,
+        clients: &[Client],
+        number: u32,
+        index: usize,
+    ) {
+        let client = client_number(rt, number);
+        let mismatch = Unsettled::Mismatch(Mismatch { client, index });
+        assert!(rt; self.settled(rt, clients) == Err(mismatch));
     }
 
     /// Where the same calls were made as in another zone, but for the last, the receipts of the other zone are refused.
     pub fn refuses_receipts<R: Wait + Abort>(&mut self, rt: &R, others: &[Client]) {
-        assert!(rt; self.settled(rt, others) == mismatch(rt, 0, 0));
+        self.assert_mismatch(rt, others, 0, 0);
         self.keeps(rt, &[(Call::MapUnmovable(0), Answer::Frame(0))]);
-        assert!(rt; self.settled(rt, others) == mismatch(rt, 0, 1));
+        self.assert_mismatch(rt, others, 0, 1);
     }
 }
 

@@ -1,81 +1,43 @@
 use round_core::Point;
 use std::sync::atomic::{AtomicU64, Ordering};
 
-/// A number of pages for each point.
+/// Six numbers that threads add to: one for each point, or for each thread of a round.
 #[derive(Drop)]
 pub struct Tally {
-    isolated: AtomicU64,
-    taken: AtomicU64,
-    copied: AtomicU64,
-    ended: AtomicU64,
+    numbers: [AtomicU64; 6],
 }
 
 impl Tally {
-    pub fn none() -> Tally {
+    pub fn zeros() -> Tally {
         Tally {
-            isolated: AtomicU64::new(0),
-            taken: AtomicU64::new(0),
-            copied: AtomicU64::new(0),
-            ended: AtomicU64::new(0),
+            numbers: [
+                AtomicU64::new(0),
+                AtomicU64::new(0),
+                AtomicU64::new(0),
+                AtomicU64::new(0),
+                AtomicU64::new(0),
+                AtomicU64::new(0),
+            ],
         }
     }
 
-    fn of(&self, point: Point) -> &AtomicU64 {
-        match point {
-            Point::Isolated => &self.isolated,
-            Point::Taken => &self.taken,
-            Point::Copied => &self.copied,
-            Point::Ended => &self.ended,
+    /// Adds to a number, and tells what it was before.
+    pub fn add(&self, at: usize, more: u64) -> u64 {
+        match self.numbers.get(at) {
+            Some(number) => number.fetch_add(more, Ordering::SeqCst),
+            None => 0,
         }
     }
 
-    /// Counts one page more, and tells how many there were before.
-    pub fn add(&self, point: Point) -> u64 {
-        self.of(point).fetch_add(1, Ordering::SeqCst)
+    /// The number of a point.
+    pub fn of(&self, point: Point) -> u64 {
+        self.number(point as usize)
     }
 
-    pub fn count(&self, point: Point) -> u64 {
-        self.of(point).load(Ordering::SeqCst)
-    }
-}
-
-/// A number for each copier.
-#[derive(Drop)]
-pub struct ByCopier {
-    first: AtomicU64,
-    second: AtomicU64,
-    third: AtomicU64,
-    fourth: AtomicU64,
-}
-
-impl ByCopier {
-    pub fn none() -> ByCopier {
-        ByCopier {
-            first: AtomicU64::new(0),
-            second: AtomicU64::new(0),
-            third: AtomicU64::new(0),
-            fourth: AtomicU64::new(0),
+    pub fn number(&self, at: usize) -> u64 {
+        match self.numbers.get(at) {
+            Some(number) => number.load(Ordering::SeqCst),
+            None => 0,
         }
-    }
-
-    /// Adds to the number of a copier, and tells what it was before. Another thread has no number.
-    pub fn add(&self, who: usize, more: u64) -> u64 {
-        let number = match who {
-            1 => &self.first,
-            2 => &self.second,
-            3 => &self.third,
-            4 => &self.fourth,
-            _ => return 0,
-        };
-        number.fetch_add(more, Ordering::SeqCst)
-    }
-
-    pub fn numbers(&self) -> [u64; 4] {
-        [
-            self.first.load(Ordering::SeqCst),
-            self.second.load(Ordering::SeqCst),
-            self.third.load(Ordering::SeqCst),
-            self.fourth.load(Ordering::SeqCst),
-        ]
     }
 }

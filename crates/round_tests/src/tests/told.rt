@@ -1,75 +1,54 @@
-use super::calls::{Answer, Call, client_number, play};
-use super::opening::{Opening, counts_of, tried_round};
-use super::{Trial, tries};
-use client_core::{Client, ToldClient, Unsettled};
-use round_core::{NoGate, Round, RoundError, SharedZone, ZoneIdentity};
+use super::beside::Scene;
+use super::calls::{Answer, Call, client_number};
+use super::jobs::Job;
+use super::names::{Names, Shared};
+use super::opening::Opening;
+use super::scenes::TWO_PAGES;
+use super::{Runtime, Trial, tries};
+use client_core::{Client, Unsettled};
 use std::process::Abort;
 use std::sync::Wait;
-use std::sync::ledger::Ledger;
-use std::thread::{Threads, join};
-use zone_core::Seats;
 
-const PAGES: u32 = 16;
+/// A round moves 16 pages beside a client whose receipts are told.
+const TOLD: Scene = Scene {
+    pages: 16,
+    jobs: &[Job::UsesPagesTold(16)],
+    counts: (16, 16, 0),
+    ..TWO_PAGES
+};
 
-/// Stores to each page and loads what was stored, and does so with all words of the page, 50 times.
-fn use_pages<K: ZoneIdentity, I: Ledger, M: Ledger, B: Ledger, R: Wait + Abort>(
-    rt: &R,
-    shared: &SharedZone<K, I, M, B>,
-    mut client: ToldClient,
-) -> ToldClient {
-    for value in 0..50 {
-        for at in 0..PAGES {
-            let table = [
-                (Call::Store(at, 3, value), Answer::Done),
-                (Call::Load(at, 3), Answer::Value(value)),
-                (Call::Write(at, 0, value), Answer::Done),
-                (Call::Read(at, 0), Answer::Values([value; 8])),
-            ];
-            play(rt, shared, &mut client, &table);
+impl<Z: Names> Shared<Z> {
+    /// A client whose receipts are told stores to each of so many pages and loads what was stored, and does so with all words of the
+    /// page, 50 times.
+    pub fn use_pages_told<R: Wait + Abort>(&self, rt: &R, pages: u32) {
+        let mut client = Client::told(client_number(rt, 1));
+        for value in 0..50 {
+            for at in 0..pages {
+                let table = [
+                    (Call::Store(at, 3, value), Answer::Done),
+                    (Call::Load(at, 3), Answer::Value(value)),
+                    (Call::Write(at, 0, value), Answer::Done),
+                    (Call::Read(at, 0), Answer::Values([value; 8])),
+                ];
+                self.play(rt, &mut client, &table);
+            }
         }
     }
-    client
 }
 
-/// A round runs while a client whose receipts are told uses the pages.
-fn run_beside_told<
-    K: ZoneIdentity + Send + Sync,
-    I: Ledger + Send + Sync,
-    N: Ledger + Send,
-    M: Ledger + Send + Sync,
-    B: Ledger + Send + Sync,
-    R: Threads + Wait + Abort + AllocGlobal + Sync,
->(
-    rt: &R,
-    shared: &SharedZone<K, I, M, B>,
-    seats: &mut Seats<I, N, M, B>,
-) -> Result<Round, RoundError> {
-    let client = Client::told(client_number(rt, 1));
-    let (_client, round) = join(
-        rt,
-        move || -> ToldClient { use_pages(rt, shared, client) },
-        move || -> Result<Round, RoundError> { tried_round(rt, shared, seats, 2, 8, &NoGate) },
-    );
-    round
-}
-
-impl<
-    K: ZoneIdentity + Send + Sync,
-    I: Ledger + Send + Sync,
-    N: Ledger + Send,
-    M: Ledger + Send + Sync,
-    B: Ledger + Send + Sync,
-> Opening<K, I, N, M, B> {
+impl<Z: Names> Opening<Z> {
     /// A zone whose journal is told is used by a client whose receipts are told, while a round moves its pages. There is nothing to
     /// settle.
-    pub fn is_told_alone<R: Threads + Wait + Abort + AllocGlobal + Sync>(&mut self, rt: &R) {
-        self.fill(rt, PAGES);
-        let round = run_beside_told(rt, &self.shared, &mut self.seats);
-        assert!(rt; counts_of(rt, &round) == (PAGES, PAGES, 0));
+    pub fn is_told_alone<R: Runtime>(&mut self, rt: &R) {
+        self.played(rt, &TOLD);
         // Each page was mapped and moved, and each word of a call in bulk has its record.
         let (_info, records) = self.told(rt);
         assert!(rt; records == 16 * (1 + 2 + 50 * (1 + 1 + 8 + 8)));
-        assert!(rt; self.shared.lock(rt).zone().journal().kept().is_none());
+        self.assert_not_kept(rt);
+    }
+
+    fn assert_not_kept<R: Wait + Abort>(&self, rt: &R) {
+        assert!(rt; self.shared.zone.lock(rt).zone().journal().kept().is_none());
         assert!(rt; self.settled(rt, &[]) == Err(Unsettled::NotKept));
     }
 }
