@@ -322,16 +322,17 @@ fn answer_all<I: Ledger, N: Ledger, M: Ledger, B: Ledger>(
     match calls {
         Calls::Zone(call) => make(world, &call, reply),
         Calls::One(call) => answer(world, call, reply),
-        Calls::Series(series) => *reply = answer_series(world, series),
+        Calls::Series(series) => answer_series(world, series, reply),
     }
 }
 
-/// Makes the calls of a series one after the other, up to the first one that is refused.
+/// Makes the calls of a series one after the other, up to the first one that is refused, and writes how many were made.
 fn answer_series<I: Ledger, N: Ledger, M: Ledger, B: Ledger>(
     world: &mut World<I, N, M, B>,
     series: Series,
-) -> Reply
-    ensures { record { reply = result; world = world.new } ≡ series_step world.old series }
+    reply: &mut Reply,
+)
+    ensures { record { reply = reply.new; world = world.new } ≡ series_step world.old series }
 {
     let Series {
         call,
@@ -344,12 +345,13 @@ fn answer_series<I: Ledger, N: Ledger, M: Ledger, B: Ledger>(
     let mut page = first;
     for done in 0..count {
         if let Err(refusal) = answer_at(world, call, address(space, page)) {
-            return Reply::DoneUntil { done, refusal };
+            *reply = Reply::DoneUntil { done, refusal };
+            return;
         }
         // A number that doesn't fit stands for one beyond the pages of any space, at which the next call is refused.
         page = page.saturating_add(step);
     }
-    Reply::AllDone(count)
+    *reply = Reply::AllDone(count);
 }
 
 /// Makes the call of a series for a page, or answers the number of its refusal. It is refused where the space has no such page.
