@@ -89,9 +89,9 @@ pub fn push_reply<const N: usize>(text: &mut ArrayString<N>, reply: &Reply)
     match reply {
         Reply::Done => return text.push_str("ok\n"),
         Reply::Value(value) => push_field(text, "value=", *value),
-        Reply::Info(info) => push_counts(text, *info),
+        Reply::Info(info) => push_counts(text, info),
         Reply::InfoWithHeld(info) => {
-            push_counts(text, *info);
+            push_counts(text, info);
             push_field(text, " held=", u64::from(info.held));
         }
         Reply::Serial(serial) => push_field(text, "serial=", u64::from(*serial)),
@@ -131,9 +131,9 @@ pub fn push_reply<const N: usize>(text: &mut ArrayString<N>, reply: &Reply)
 }
 
 /// Appends the counts of a zone.
-fn push_counts<const N: usize>(text: &mut ArrayString<N>, info: Info)
+fn push_counts<const N: usize>(text: &mut ArrayString<N>, info: &Info)
     requires { array_string_len text.old + 133 ≤ N }
-    ensures text { text.new.bytes ≡ text.old.bytes ++ counts_text info }
+    ensures text { text.new.bytes ≡ text.old.bytes ++ counts_text info.now }
     ensures len { array_string_len text.new ≤ array_string_len text.old + 133 }
 {
     push_field(text, "free=", u64::from(info.free));
