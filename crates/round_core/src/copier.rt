@@ -60,7 +60,7 @@ fn carry_next<G: Gate, R: Wait>(
     gate: &G,
     who: usize,
 ) -> bool
-    requires { IsUnderWay carried.old.taker carried.old.sender carried.old copies.old.items }
+    requires way { IsUnderWay carried.old.taker carried.old.sender carried.old copies.old.items }
     ensures more { result ≡ true → IsUnderWay carried.old.taker carried.old.sender carried.new copies.new.items }
     ensures over { result ≡ false → IsCarried carried.old.taker carried.old.sender carried.new }
 {
