@@ -1,4 +1,4 @@
-use Rattle.std.proofs.Common.{◌≡◌, ◌∙◌, ℕ, List, ap, arith}
+use Rattle.std.proofs.Common.{rules, ◌≡◌, ◌∙◌, ℕ, List, ap, arith}
 use Rattle.frame_core.specs.Below.{count_below}
 use Rattle.scan_core.specs.BlockCounts.{is_all_counted}
 use Rattle.scan_core.proofs.blocks.BlockCounts.whole.Goals as goal
@@ -10,3 +10,6 @@ returns c =
       count = c.loop-block.invariant.so_far ∙ ap (count_below (is_all_counted c.self.inside.counts)) all
           ∙ ap (λ (counts : List ℕ). count_below (is_all_counted counts) 8) c.self.view_is;
     }
+
+pub loop-block-preserved : goal.loop-block-preserved
+loop-block-preserved c = search rules

@@ -1,4 +1,4 @@
-use Rattle.std.proofs.Common.{◌∙◌, ℕ, ap, subst, sym, arith}
+use Rattle.std.proofs.Common.{rules, ◌∙◌, ℕ, ap, subst, sym, arith}
 use Rattle.std.specs.Prelude.{Some}
 use Rattle.std.specs.FinMap as map
 use Rattle.frame_core.specs.History.{page_at}
@@ -42,3 +42,9 @@ returns-clause-pair g c =
 
 pub returns-in_default-clause-packed : goal.returns-in_default-clause-packed
 returns-in_default-clause-packed g c met quiet none = packed_quiet c.args.self.now (subst IsValidZone c.self.view_is c.self.invariant) quiet none (subst HaveMet (c.deref-2.ensures ∙ c.self.view_is) c.in_default.ensures.none)
+
+pub returns-in_default-clause-refused : goal.returns-in_default-clause-refused
+returns-in_default-clause-refused g c = search rules
+
+pub isolate-page-requires : goal.isolate-page-requires
+isolate-page-requires g c = search rules

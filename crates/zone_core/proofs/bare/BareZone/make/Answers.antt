@@ -25,3 +25,9 @@ returns-in-GiveOrder-clause-made g c = made_as c.give_order.result c.done-in-Giv
 
 pub returns-in-Mark-clause-made : goal.returns-in-Mark-clause-made
 returns-in-Mark-clause-made g c = made_as c.mark.result c.done-in-Mark.result c.in-Mark.is refl c.done-in-Mark.ensures.refused c.mark.ensures.made
+
+pub returns-in-TakeOrder-clause-answer : goal.returns-in-TakeOrder-clause-answer
+returns-in-TakeOrder-clause-answer g c = search rules
+
+pub returns-in-Unmark-clause-made : goal.returns-in-Unmark-clause-made
+returns-in-Unmark-clause-made g c = search rules

@@ -1,4 +1,4 @@
-use Rattle.std.proofs.Common.{◌∙◌, ap, sym}
+use Rattle.std.proofs.Common.{rules, ◌∙◌, ap, sym}
 use Rattle.std.specs.FinMap as map
 use Rattle.frame_core.specs.declared.record.Cause.TheVariants.{NotCopied}
 use Rattle.frame_core.specs.declared.record.Record.TheVariants.{Back}
@@ -20,3 +20,9 @@ returns-clause-settled g c =
     let placed = ap (λ (v : ZoneState). map.get v.placement c.in-Some.way.page) (c.deref_mut.ensures.value ∙ sym c.deref.ensures) ∙ c.in-Some.ensures.placed in
     ended_in z c.args.self.now c.go_back.new.self c.args.isolated c.in-Some.way.page c.in-Some.way.serial c.in-Some.way.source c.in-Some.way.target _ _ (c.deref_mut.ensures.value ∙ c.self.view_is)
     (ap (λ (p : Page). p.number) (sym c.page.ensures) ∙ sym c.in-Some.ensures.named.0) (sym c.serial.ensures ∙ sym c.in-Some.ensures.named.1) placed c.go_back.ensures.settled
+
+pub go_back-requires : goal.go_back-requires
+go_back-requires g c = search rules
+
+pub returns-clause-ok : goal.returns-clause-ok
+returns-clause-ok g c = search rules
