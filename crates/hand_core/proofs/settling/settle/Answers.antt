@@ -1,9 +1,10 @@
-use Rattle.std.proofs.Common.{◌≡◌, length, ap, sym, ◌∙◌, subst}
+use Rattle.std.proofs.Common.{◌≡◌, length, ap, sym, ◌∙◌, subst, refl, arith}
 use Rattle.std.specs.List.{range_with_len}
 use Rattle.std.specs.List.Sorted.{IsPermutation}
 use Rattle.std.proofs.lemmas.List.Sorted.{IsPermutation-map}
+use Rattle.std.proofs.lemmas.List.Sums.{AllPass-from_list_all}
 use Rattle.frame_core.specs.Page.{IsolatedPage}
-use Rattle.hand_core.specs.PageEnds.{Giver, taken_by}
+use Rattle.hand_core.specs.PageEnds.{Giver, Taker, taken_by}
 use Rattle.frame_core.specs.Serials.{serials_of, HasSerialsFrom}
 use Rattle.hand_core.proofs.settling.settle.Goals as goal
 
@@ -17,3 +18,16 @@ returns-clause-serials c =
     ap (λ b. range_with_len b (length giver.given)) (sym count.0) ∙ ap (λ n. range_with_len settled.base n) (sym count.1) in
     subst (λ l. IsPermutation (serials_of (taken_by c.args.takers.items)) l) (serials ∙ numbers)
     (IsPermutation-map (λ (p : IsolatedPage). p.serial) (taken_by c.args.takers.items) giver.given c.take_back.ensures.pages)
+
+pub take_back-requires-clause-ended : goal.take_back-requires-clause-ended
+take_back-requires-clause-ended c = AllPass-from_list_all (λ (t : Taker). t.ended) c.args.takers.items cc
+
+pub take_back-requires-clause-marks : goal.take_back-requires-clause-marks
+take_back-requires-clause-marks c =
+    let marks = ap (λ (g : Giver). g.marks) c.giver.view_is in
+    let takers = ap (λ (g : Giver). g.takers) c.giver.view_is in (omega arith, omega arith)
+
+pub returns-clause-exact : goal.returns-clause-exact
+returns-clause-exact c =
+    let marks = ap (λ (g : Giver). g.marks) c.giver.view_is in
+    let takers = ap (λ (g : Giver). g.takers) c.giver.view_is in (λ _. (omega arith, omega arith, cc), λ _. refl)
