@@ -1,8 +1,11 @@
-use Rattle.std.proofs.Common.{◌+◌, ◌≤◌, ◌<◌, length, ap, sym, ◌∙◌, subst, length-append, arith}
+use Rattle.std.proofs.Common.{◌≡◌, ◌+◌, ◌++◌, ◌≤◌, ◌<◌, length, ap, sym, ◌∙◌, subst, length-append, arith}
 use Rattle.std.proofs.Math.Nat.{max-le}
 use Rattle.crossbeam_channel.specs.Claims.{view}
 use Rattle.hand_core.specs.declared.page_queue.Known.{Known}
+use Rattle.hand_core.specs.declared.page_queue.Note.TheVariants.{Pages}
+use Rattle.hand_core.specs.Batches.{Batch}
 use Rattle.hand_core.specs.PageEnds.{Giver}
+use Rattle.hand_core.specs.contracts.giver.Giver.{the_view}
 use Rattle.frame_core.specs.Serials.{HasSerialsFrom}
 use Rattle.hand_core.proofs.Serials.{serials-append}
 use Rattle.hand_core.proofs.Hands.{fits}
@@ -51,3 +54,14 @@ invariant_of-self g c =
       fresh = k.fresh;
       took_nothing = (ap (λ (v : Known). v.off) e ∙ k.took_nothing.0, ap (λ (v : Known). v.ended) e ∙ k.took_nothing.1);
     }
+
+pub returns-in_default-clause-ok : goal.returns-in_default-clause-ok
+returns-in_default-clause-ok g c =
+    ap (λ (v : Known). record (the_view c.self.inside) { given = v.given; marks = v.marks }) c.in_default.ensures.rule
+    ∙ ap (λ (v : Giver). record v { given = v.given ++ c.args.pages.items }) c.self.view_is
+
+same_pages : (a b : Batch) → Pages a ≡ Pages b → a ≡ b
+same_pages a b is = cc
+
+pub returns-clause-back : goal.returns-clause-back
+returns-clause-back g c = same_pages c.in-Pages.pages c.args.pages (sym c.in-Pages.is ∙ c.in-Err.ensures.rule.0)

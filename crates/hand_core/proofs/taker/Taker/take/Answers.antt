@@ -1,6 +1,6 @@
-use Rattle.std.proofs.Common.{rules, ◌≡◌, ◌≢◌, ◌∷◌, [], true, List, ap, sym, refl, ◌∙◌}
+use Rattle.std.proofs.Common.{rules, ◌≡◌, ◌≢◌, ◌∷◌, ◌++◌, [], true, List, ap, sym, refl, ◌∙◌}
 use Rattle.frame_core.specs.Page.{IsolatedPage}
-use Rattle.hand_core.specs.PageEnds.{Taker}
+use Rattle.hand_core.specs.PageEnds.{Taker, off}
 use Rattle.hand_core.proofs.taker.Taker.take.Goals as goal
 
 -- a hand that had pages before the loop still has them
@@ -35,3 +35,11 @@ returns-then-self-clause-took g c =
     let before = same_before c.args.self.now c.loop.self old.same old.held none.1 in
     let ended : c.receive.new.self.ended ≡ true = sym (ap (λ (t : Taker). t.ended) c.self.view_is) ∙ c.if-self.true in
     (c.receive.ensures.mark ended ∙ ap (λ (t : Taker). record t { ended = true }) (none.0 ∙ before.0), before.1)
+
+pub returns-in-Some-next_in_hand-clause-took : goal.returns-in-Some-next_in_hand-clause-took
+returns-in-Some-next_in_hand-clause-took g c =
+    let old = c.loop.invariant in
+    let page = c.in-Some-next_in_hand.page in (
+      c.in-Some-next_in_hand.ensures.some ∙ ap (λ (t : Taker). record t { taken = t.taken ++ page ∷ []; in_hand = c.next_in_hand.new.self.in_hand }) old.same,
+      λ other. c.next_in_hand.ensures.off ∙ ap off (old.held other),
+    )
