@@ -1,0 +1,5 @@
+use Rattle.std.proofs.Common.{refl}
+use Rattle.zone_tables.proofs.note.PageNote.unused.Goals as goal
+
+pub returns : goal.returns
+returns c = refl
