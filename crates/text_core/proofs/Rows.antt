@@ -1,11 +1,12 @@
--- The row of `during`, which begins a block, and all others.
-use Rattle.std.proofs.Common.{◌≡◌, ◌∙◌, ℕ, List, ◌∷◌, ap, refl, Option, Some, None}
+-- The row of `during`, which begins a block, and all others; and which tokens are numbers.
+use Rattle.std.proofs.Common.{◌≡◌, ◌∙◌, ℕ, List, [], ◌∷◌, ap, refl, Option, Some, None}
 use Rattle.std.specs.Option.{option_or}
 use Rattle.text_core.specs.declared.command.Command.{Command}
 use Rattle.text_core.specs.declared.profile.Profile.{Profile}
 use Rattle.text_core.specs.declared.profile.Profile.TheVariants.{Untold, One, Two}
 use Rattle.text_core.specs.declared.token.Token.{Token}
 use Rattle.text_core.specs.declared.token.Token.TheVariants.{During, Number}
+use Rattle.text_core.specs.Arguments.{four_of, two_of}
 use Rattle.text_core.specs.Grammar.{command_of, during_row, row_in, zone_of}
 
 row_in-During : (profile : Profile) (z : Option ℕ) (arguments : List Token) → row_in profile During z arguments ≡ None
@@ -31,3 +32,13 @@ pub command_of-other : (profile : Profile) (keyword : Token) (zone : ℕ) (argum
 command_of-other profile keyword zone arguments other =
     ap (λ (row : Option Command). option_or (row_in profile keyword (zone_of zone) arguments) row) (during_row-other keyword zone arguments other)
     ∙ option_or-None (row_in profile keyword (zone_of zone) arguments)
+
+pub two_are : (line : List Token) (a b : ℕ) → Some (a, b) ≡ two_of line → line ≡ Number a ∷ Number b ∷ []
+two_are (Number c ∷ Number d ∷ []) a b e = let same : (c, d) ≡ (a, b) = cc in ap (λ (p : ℕ × ℕ). Number p.0 ∷ Number p.1 ∷ []) same
+two_are _ a b e = absurd cc
+
+pub four_are : (line : List Token) (a b c d : ℕ) → Some (a, b, c, d) ≡ four_of line → line ≡ Number a ∷ Number b ∷ Number c ∷ Number d ∷ []
+four_are (Number e ∷ Number f ∷ Number g ∷ Number h ∷ []) a b c d is =
+    let same : (e, f, g, h) ≡ (a, b, c, d) = cc in
+    ap (λ (p : ℕ × ℕ × ℕ × ℕ). Number p.0 ∷ Number p.1 ∷ Number p.2 ∷ Number p.3 ∷ []) same
+four_are _ a b c d is = absurd cc

@@ -1,4 +1,4 @@
-ghost use Rattle.std.specs.Prelude.{◌≡◌, ◌≢◌, ℕ, ◌<◌, ◌≤◌, ◌↔◌, bytes_eq, nat_eq, false, codes, IfNone, IfSome, IsFalse, IsTrue, length, List, position, [], ◌∷◌, ◌+◌, ◌++◌, MatchOption, None, Some};
+ghost use Rattle.std.specs.Prelude.{◌≡◌, ◌⊎◌, ℕ, ◌<◌, ◌≤◌, ◌↔◌, bytes_eq, nat_eq, false, codes, IfNone, IfSome, IsFalse, IsTrue, length, List, position, [], ◌∷◌, ◌+◌, ◌++◌, MatchOption, None, Some};
 ghost use Rattle.std.specs.Char.{is_ascii_digit};
 ghost use Rattle.text_core.specs.Arguments.{number_first};
 ghost use Rattle.text_core.specs.declared.token.Token.TheVariants.{Number};
@@ -123,7 +123,7 @@ fn word_of_five(bytes: &[u8]) -> Token
 /// The keyword that fewer than three bytes or more than five are.
 #[inline(always)]
 fn long_word(bytes: &[u8]) -> Token
-    requires { (length bytes.now ≢ 3) × (length bytes.now ≢ 4) × (length bytes.now ≢ 5) }
+    requires { (length bytes.now < 3) ⊎ (5 < length bytes.now) }
     ensures { result ≡ keyword_of bytes.now }
 {
     match bytes {

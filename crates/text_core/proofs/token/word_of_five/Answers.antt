@@ -9,16 +9,16 @@ five (a ∷ b ∷ c ∷ d ∷ e ∷ []) few = refl
 five _ few = absurd (omega arith)
 
 pub returns-in-store : goal.returns-in-store
-returns-in-store c = by_word c.args.bytes.now (codes "store") Store (five c.args.bytes.now (omega arith) ∙ cc) refl
+returns-in-store c = by_word c.args.bytes.now (codes "store") Store (five c.args.bytes.now c.requires ∙ cc) refl
 
 pub returns-in-share : goal.returns-in-share
-returns-in-share c = by_word c.args.bytes.now (codes "share") Share (five c.args.bytes.now (omega arith) ∙ cc) refl
+returns-in-share c = by_word c.args.bytes.now (codes "share") Share (five c.args.bytes.now c.requires ∙ cc) refl
 
 pub returns-in-unmap : goal.returns-in-unmap
-returns-in-unmap c = by_word c.args.bytes.now (codes "unmap") Unmap (five c.args.bytes.now (omega arith) ∙ cc) refl
+returns-in-unmap c = by_word c.args.bytes.now (codes "unmap") Unmap (five c.args.bytes.now c.requires ∙ cc) refl
 
 pub returns-in-unpin : goal.returns-in-unpin
-returns-in-unpin c = by_word c.args.bytes.now (codes "unpin") Unpin (five c.args.bytes.now (omega arith) ∙ cc) refl
+returns-in-unpin c = by_word c.args.bytes.now (codes "unpin") Unpin (five c.args.bytes.now c.requires ∙ cc) refl
 
 pub returns-in-mapat : goal.returns-in-mapat
-returns-in-mapat c = by_word c.args.bytes.now (codes "mapat") MapAt (five c.args.bytes.now (omega arith) ∙ cc) refl
+returns-in-mapat c = by_word c.args.bytes.now (codes "mapat") MapAt (five c.args.bytes.now c.requires ∙ cc) refl
