@@ -6,6 +6,7 @@ pub mod Holding
 pub mod MovesEnded
 pub mod Orderly
 pub mod Pooling
+pub mod Refusing
 pub mod SeriesOfCalls
 pub mod SingleRuns
 pub mod Standing

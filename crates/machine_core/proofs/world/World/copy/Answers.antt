@@ -7,6 +7,7 @@ use Rattle.machine_core.specs.declared.hands.Held.TheVariants.{Copy}
 use Rattle.machine_core.specs.Carried.{InHand, world_of}
 use Rattle.machine_core.specs.World.{WorldState, copy_step}
 use Rattle.machine_core.proofs.Holding.{where_none, step_copied, carried_copied}
+use Rattle.machine_core.proofs.Refusing.{copy_refused}
 use Rattle.machine_core.proofs.world.World.copy.Given.{Over}
 use Rattle.machine_core.proofs.world.World.copy.Goals as goal
 use Rattle.machine_core.proofs.world.World.copy.Goals.{After-put}
@@ -39,3 +40,9 @@ returns-in_default-clause-err g c = rw (where_none c.page_from.result _ c.in_def
 
 pub returns-in_default-clause-orderly : goal.returns-in_default-clause-orderly
 returns-in_default-clause-orderly g c = rw (where_none c.page_from.result _ c.in_default.not-Some c.page_from.ensures.none) c.self.invariant.orderly
+
+pub returns-in_default-clause-refused : goal.returns-in_default-clause-refused
+returns-in_default-clause-refused g c =
+    let z = c.self.inside in
+    ap (λ (w : WorldState). copy_step w c.args.hand) (sym c.self.view_is)
+    ∙ copy_refused z.zone z.scan z.ends z.is_open z.waiting.items z.hands.held c.args.hand c.page_from.result c.in_default.not-Some c.page_from.ensures.page

@@ -6,6 +6,7 @@ use Rattle.machine_core.specs.World.{WorldState, finish_step, finished_as}
 use Rattle.zone_core.specs.Seats.{seat_ended}
 use Rattle.machine_core.specs.declared.finished.Finished.{Finished}
 use Rattle.machine_core.proofs.Holding.{where_none, own_in_hand, step_finished, carried_finished}
+use Rattle.machine_core.proofs.Refusing.{finish_refused}
 use Rattle.machine_core.proofs.world.World.finish.Given.{Over}
 use Rattle.machine_core.proofs.world.World.finish.Goals as goal
 use Rattle.machine_core.proofs.world.World.finish.Goals.{After-finish_in}
@@ -39,3 +40,9 @@ returns-in_default-clause-err g c = rw (where_none c.copy_from.result _ c.in_def
 
 pub returns-in_default-clause-orderly : goal.returns-in_default-clause-orderly
 returns-in_default-clause-orderly g c = rw (where_none c.copy_from.result _ c.in_default.not-Some c.copy_from.ensures.none) c.self.invariant.orderly
+
+pub returns-in_default-clause-refused : goal.returns-in_default-clause-refused
+returns-in_default-clause-refused g c =
+    let z = c.self.inside in
+    ap (λ (w : WorldState). finish_step w c.args.hand) (sym c.self.view_is)
+    ∙ finish_refused z.zone z.scan z.ends z.is_open z.waiting.items z.hands.held c.args.hand c.copy_from.result c.in_default.not-Some c.copy_from.ensures.copy

@@ -7,6 +7,7 @@ use Rattle.state_core.specs.Pairs.{next_pair}
 use Rattle.zone_core.specs.Seats.{seat_noted}
 use Rattle.machine_core.specs.World.{WorldState, isolated_by}
 use Rattle.machine_core.proofs.Carrying.{IsTaken, is_taken, met_same, carried_noted, carried_scanned, place_left, world_is}
+use Rattle.machine_core.proofs.Refusing.{full_if}
 use Rattle.machine_core.proofs.world.World.scan_next.Goals as goal
 
 pub push_back_reserved-requires : goal.push_back_reserved-requires
@@ -67,3 +68,8 @@ returns-in-Ok-Met-clause-orderly g c = (invariant_of-self-in-Ok-Met g c).orderly
 
 pub returns-in-Err-clause-orderly : goal.returns-in-Err-clause-orderly
 returns-in-Err-clause-orderly g c = (invariant_of-self-in-Err g c).orderly
+
+pub returns-in-Err-clause-refused : goal.returns-in-Err-clause-refused
+returns-in-Err-clause-refused g c =
+    let z = c.self.inside in
+    ap (λ (w : WorldState). isolate_refusal w.zone) (sym c.self.view_is) ∙ full_if z.zone c.in-Err.error c.in-Err.ensures.refused

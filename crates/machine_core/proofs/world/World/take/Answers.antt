@@ -7,6 +7,7 @@ use Rattle.machine_core.specs.Hands.{is_nothing, held_at}
 use Rattle.machine_core.specs.World.{WorldState, IsOrderly, take_step}
 use Rattle.machine_core.proofs.HandsTaking.{least_taken}
 use Rattle.machine_core.proofs.Holding.{none_left, step_taken, carried_taken}
+use Rattle.machine_core.proofs.Refusing.{empty_if, take_refused, take_refused-none}
 use Rattle.machine_core.proofs.world.World.take.Given.{Over}
 use Rattle.machine_core.proofs.world.World.take.Goals as goal
 use Rattle.machine_core.proofs.world.World.take.Goals.{After-put}
@@ -47,3 +48,15 @@ returns-in_default-clause-orderly g c = rw (← none_left c.pop_front.result _ _
 
 pub returns-clause-least : goal.returns-clause-least
 returns-clause-least g c = least_taken c.args.self.now c.args.hand c.serial-serial.result _ c.is_empty.ensures.number.0 c.is_empty.ensures.number.1 (subst IsOrderly c.self.view_is c.self.invariant.orderly) (returns-clause-ok g c)
+
+pub returns-then-not-is_empty-clause-refused : goal.returns-then-not-is_empty-clause-refused
+returns-then-not-is_empty-clause-refused g c =
+    let z = c.self.inside in
+    ap (λ (w : WorldState). take_step w c.args.hand) (sym c.self.view_is)
+    ∙ take_refused z.zone z.scan z.ends z.is_open z.waiting.items z.hands.held c.args.hand (sym c.is_empty.ensures.nothing ∙ c.if-not-is_empty.true)
+
+pub returns-in_default-clause-refused : goal.returns-in_default-clause-refused
+returns-in_default-clause-refused g c =
+    let z = c.self.inside in
+    ap (λ (w : WorldState). take_step w c.args.hand) (sym c.self.view_is)
+    ∙ take_refused-none z.zone z.scan z.ends z.is_open z.waiting.items z.hands.held c.args.hand (empty_if z.waiting.items (c.in_default.ensures.items ∙ c.in_default.ensures.rest))
