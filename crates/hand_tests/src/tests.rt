@@ -1,9 +1,10 @@
-ghost use Rattle.std.specs.Prelude.{◌≡◌, IfSome};
+ghost use Rattle.std.specs.Prelude.{◌≡◌, true, IfSome};
 
 mod copying;
 mod handing;
 
 use frame_core::{Isolated, Page, PageNo, Serial, WordNo, ZoneNo};
+use std::process::Abort;
 
 const LAST_WORD: u32 = 7;
 
@@ -22,4 +23,11 @@ fn is_page(page: &Page, number: u32) -> bool {
         return false;
     };
     page.number().get() == number && page.word(last) == u64::from(number) + 1
+}
+
+// Stops the test, unless this holds, with what is wrong and the serial of which it is.
+fn assert_of<R: Abort>(rt: &R, serial: Serial, holds: bool, wrong: &str)
+    ensures { holds ≡ true }
+{
+    assert!(rt; holds, "{wrong} {serial}");
 }

@@ -1,7 +1,7 @@
-ghost use Rattle.std.specs.Prelude.{◌≡◌, ◌<◌, true, false, All};
+ghost use Rattle.std.specs.Prelude.{◌≡◌, ◌<◌, ℕ, true, false, All, IfSome, IfNone};
 ghost use Rattle.hand_core.specs.CopyEnds.{has_ended};
 
-use super::{is_page, isolated};
+use super::{assert_of, is_page, isolated};
 use frame_core::Copied;
 use hand_core::{Batch, Came, DoneSender, DoneTaker, done_open, done_open_in_batches, done_settle};
 use std::alloc::Global;
@@ -26,6 +26,20 @@ fn assert_is_copy<R: Abort>(rt: &R, copy: Copied, serial: u32, number: u32) {
     assert!(rt; is_page(&copy.into_page(), number));
 }
 
+fn assert_sends<R: Wait + Abort>(rt: &R, sender: &mut DoneSender, copy: Copied)
+    requires { sender.old.closed ≡ false }
+    ensures { (sender.new.closed ≡ false) × (sender.new.queue ≡ sender.old.queue) }
+{
+    assert!(rt; sender.send(rt, copy).is_ok());
+}
+
+fn assert_closes<R: Wait + Abort>(rt: &R, sender: &mut DoneSender)
+    requires { sender.old.closed ≡ false }
+    ensures { sender.new.queue ≡ sender.old.queue }
+{
+    assert!(rt; sender.close(rt).is_ok());
+}
+
 // Sends copies of the pages 0 to 149, and closes.
 fn send_all<R: Wait + Abort>(rt: &R, mut sender: DoneSender, number: u32) -> DoneSender
     requires open { sender.closed ≡ false }
@@ -33,9 +47,9 @@ fn send_all<R: Wait + Abort>(rt: &R, mut sender: DoneSender, number: u32) -> Don
     ensures { result.queue ≡ sender.queue }
 {
     for page in 0..COPIES {
-        assert!(rt; sender.send(rt, copy_of(rt, number, page)).is_ok());
+        assert_sends(rt, &mut sender, copy_of(rt, number, page));
     }
-    assert!(rt; sender.close(rt).is_ok());
+    assert_closes(rt, &mut sender);
     sender
 }
 
@@ -59,6 +73,20 @@ fn send_by_all<R: Threads + Wait + Abort + Sync>(
     .expect(rt, "memory")
 }
 
+// The next copy, or none at the end.
+fn copy_or_end<R: Wait + Abort>(rt: &R, taker: &mut DoneTaker) -> Option<Copied>
+    requires { has_ended taker.old ≡ false }
+    ensures same { taker.new.queue ≡ taker.old.queue }
+    ensures some { IfSome result (λ _. has_ended taker.new ≡ false) }
+    ensures none { IfNone result (has_ended taker.new ≡ true) }
+{
+    match taker.take(rt) {
+        Came::Copy(copy) => Some(copy),
+        Came::End => None,
+        Came::Gone => panic!(rt; "the senders are gone"),
+    }
+}
+
 // Takes copies up to the end. Those of each sender come whole and in its order.
 fn take_all<R: Wait + Abort>(rt: &R, mut taker: DoneTaker) -> DoneTaker
     requires { has_ended taker ≡ false }
@@ -67,14 +95,11 @@ fn take_all<R: Wait + Abort>(rt: &R, mut taker: DoneTaker) -> DoneTaker
 {
     let mut next = [0; 4];
     for _ in rt.forever() {
-        match taker.take(rt) {
-            Came::Copy(copy) => assert_next(rt, copy, &mut next),
-            Came::End => {
-                assert!(rt; next == [COPIES; 4], "a copy is missing");
-                return taker;
-            }
-            Came::Gone => panic!(rt; "the senders are gone"),
-        }
+        let Some(copy) = copy_or_end(rt, &mut taker) else {
+            assert!(rt; next == [COPIES; 4], "a copy is missing");
+            return taker;
+        };
+        assert_next(rt, copy, &mut next);
     }
     unreachable!()
 }
@@ -95,6 +120,7 @@ fn opened<R: Wait + Abort>(
 fn last_sender<R: Abort>(rt: &R, senders: &mut Vec<DoneSender>) -> DoneSender
     requires { All (λ s. s.closed ≡ false) senders.old.items }
     ensures last { result.closed ≡ false }
+    ensures most { (most : ℕ) → All (λ s. s.most ≡ most) senders.old.items → result.most ≡ most }
     ensures others { All (λ s. s.closed ≡ false) senders.new.items }
 {
     senders.pop().expect(rt, "a sender")
@@ -103,18 +129,26 @@ fn last_sender<R: Abort>(rt: &R, senders: &mut Vec<DoneSender>) -> DoneSender
 // The copy is the next of its sender.
 fn assert_next<R: Abort>(rt: &R, copy: Copied, next: &mut [u32; 4]) {
     let serial = copy.serial();
-    let Some(number) = next.get_mut((serial / 1000) as usize) else {
-        panic!(rt; "no sender has {serial}");
-    };
+    let number = number_of(rt, serial, next);
+    let is_the_copy = is_page(&copy.into_page(), number);
+    assert_of(rt, serial, is_the_copy, "another copy came under");
+}
+
+// The number of the copy with this serial, which has to be the next of its sender. It's counted.
+fn number_of<R: Abort>(rt: &R, serial: u32, next: &mut [u32; 4]) -> u32 {
+    let sender = (serial / 1000) as usize;
+    assert_of(rt, serial, sender < 4, "no sender has");
+    let number = next[sender];
+    assert_in_place(rt, serial, number);
+    next[sender] = number.saturating_add(1);
+    number
+}
+
+fn assert_in_place<R: Abort>(rt: &R, serial: u32, number: u32) {
     assert!(rt;
-        serial % 1000 == *number,
+        serial % 1000 == number,
         "{serial} came in the place of {number}"
     );
-    assert!(rt;
-        is_page(&copy.into_page(), *number),
-        "another copy came under {serial}"
-    );
-    *number = number.saturating_add(1);
 }
 
 fn from_four_senders<R: Threads + Wait + Abort + Sync>(rt: &R, alloc: Global, cap: usize) {
@@ -144,10 +178,9 @@ fn copy_back<R: Wait + Abort>(rt: &R, sender: &mut DoneSender, copy: Copied) -> 
     requires { sender.old.closed ≡ false }
     ensures { sender.new.closed ≡ false }
 {
-    let Err(copy) = sender.send(rt, copy) else {
-        panic!(rt; "sent a copy to nobody");
-    };
-    copy
+    sender
+        .send(rt, copy)
+        .expect_err(rt, "sent a copy to nobody")
 }
 
 #[test]
@@ -160,31 +193,20 @@ fn hands_the_copy_back_where_the_taker_is_gone(rt: HostRuntime) {
     assert!(rt; one.close(&rt).is_err());
 }
 
-fn opened_for_two<R: Wait + Abort>(rt: &R, alloc: Global) -> ((DoneSender, DoneSender), DoneTaker)
-    ensures senders { (result.0.0.closed ≡ false) × (result.0.1.closed ≡ false) }
-    ensures taker { has_ended result.1 ≡ false }
-{
-    let (mut senders, taker) = opened(rt, alloc, 2, 4);
-    let two = last_sender(rt, &mut senders);
-    let one = last_sender(rt, &mut senders);
-    ((one, two), taker)
-}
-
 fn taken_copy<R: Wait + Abort>(rt: &R, taker: &mut DoneTaker) -> Copied
     requires { has_ended taker.old ≡ false }
     ensures { has_ended taker.new ≡ false }
 {
-    let Came::Copy(copy) = taker.take(rt) else {
-        panic!(rt; "the copy is lost");
-    };
-    copy
+    copy_or_end(rt, taker).expect(rt, "the copy is lost")
 }
 
 #[test]
 fn answers_gone_after_the_copies_where_the_senders_are_gone(rt: HostRuntime) {
-    let ((mut one, two), mut taker) = opened_for_two(&rt, rt.alloc());
-    assert!(rt; one.send(&rt, copy_of(&rt, 0, 1)).is_ok());
-    drop((one, two));
+    let (mut senders, mut taker) = opened(&rt, rt.alloc(), 2, 4);
+    let mut one = last_sender(&rt, &mut senders);
+    assert_sends(&rt, &mut one, copy_of(&rt, 0, 1));
+    drop(one);
+    drop(senders);
     assert!(rt; taken_copy(&rt, &mut taker).page_no().get() == 1);
     assert!(rt; matches!(taker.take(&rt), Came::Gone));
 }
@@ -207,29 +229,27 @@ fn assert_finds_nothing<R: Wait + Abort>(rt: &R, taker: &mut DoneTaker)
     assert!(rt; taker.try_take(rt).is_none());
 }
 
-// Tries before each mark and each copy, and after them.
-fn assert_tries<R: Wait + Abort>(
-    rt: &R,
-    taker: &mut DoneTaker,
-    one: &mut DoneSender,
-    two: &mut DoneSender,
-)
-    requires open { (one.old.closed ≡ false) × (two.old.closed ≡ false) }
-    requires going { has_ended taker.old ≡ false }
+// A copy is there, and then nothing.
+fn assert_finds_one<R: Wait + Abort>(rt: &R, taker: &mut DoneTaker, serial: u32, number: u32)
+    requires { has_ended taker.old ≡ false }
+    ensures { has_ended taker.new ≡ false }
 {
+    assert_is_copy(rt, tried_copy(rt, taker), serial, number);
     assert_finds_nothing(rt, taker);
-    assert!(rt; one.close(rt).is_ok());
-    assert!(rt; two.send(rt, copy_of(rt, 1, 3)).is_ok());
-    assert_is_copy(rt, tried_copy(rt, taker), 1003, 3);
-    assert_finds_nothing(rt, taker);
-    assert!(rt; two.close(rt).is_ok());
-    assert!(rt; matches!(taker.try_take(rt), Some(Came::End)));
 }
 
+// Tries before each mark and each copy, and after them.
 #[test]
 fn takes_without_waiting(rt: HostRuntime) {
-    let ((mut one, mut two), mut taker) = opened_for_two(&rt, rt.alloc());
-    assert_tries(&rt, &mut taker, &mut one, &mut two);
+    let (mut senders, mut taker) = opened(&rt, rt.alloc(), 2, 4);
+    let mut two = last_sender(&rt, &mut senders);
+    let mut one = last_sender(&rt, &mut senders);
+    assert_finds_nothing(&rt, &mut taker);
+    assert_closes(&rt, &mut one);
+    assert_sends(&rt, &mut two, copy_of(&rt, 1, 3));
+    assert_finds_one(&rt, &mut taker, 1003, 3);
+    assert_closes(&rt, &mut two);
+    assert!(rt; matches!(taker.try_take(&rt), Some(Came::End)));
 }
 
 #[test]
@@ -240,31 +260,22 @@ fn is_told_without_waiting_that_the_senders_are_gone(rt: HostRuntime) {
 }
 
 // A queue with room for two batches of two copies.
-fn opened_in_pairs<R: Wait + Abort>(rt: &R, alloc: Global) -> (Vec<DoneSender>, DoneTaker)
-    ensures senders { All (λ s. (s.closed ≡ false) × (s.most ≡ 2)) result.0.items }
-    ensures taker { has_ended result.1 ≡ false }
-{
-    done_open_in_batches(rt, alloc, 1, 4, 2).expect(rt, "a queue")
-}
-
-fn opened_for_pairs<R: Wait + Abort>(rt: &R, alloc: Global) -> (DoneSender, DoneTaker)
+fn opened_in_pairs<R: Wait + Abort>(rt: &R, alloc: Global) -> (DoneSender, DoneTaker)
     ensures sender { (result.0.closed ≡ false) × (result.0.most ≡ 2) }
     ensures taker { has_ended result.1 ≡ false }
 {
-    let (mut senders, taker) = opened_in_pairs(rt, alloc);
-    let one = senders.pop().expect(rt, "a sender");
-    (one, taker)
+    let (mut senders, taker) = done_open_in_batches(rt, alloc, 1, 4, 2).expect(rt, "a queue");
+    (last_sender(rt, &mut senders), taker)
 }
 
 #[test]
 fn takes_the_copies_of_a_batch_one_by_one(rt: HostRuntime) {
-    let (mut one, mut taker) = opened_for_pairs(&rt, rt.alloc());
+    let (mut one, mut taker) = opened_in_pairs(&rt, rt.alloc());
     assert!(rt; one.most() == 2);
     let mut copies = Batch::new();
     copies.push(copy_of(&rt, 0, 7));
     copies.push(copy_of(&rt, 0, 8));
     assert!(rt; one.send_all(&rt, copies).is_ok());
     assert_is_copy(&rt, taken_copy(&rt, &mut taker), 7, 7);
-    assert_is_copy(&rt, tried_copy(&rt, &mut taker), 8, 8);
-    assert_finds_nothing(&rt, &mut taker);
+    assert_finds_one(&rt, &mut taker, 8, 8);
 }

@@ -1,7 +1,6 @@
-ghost use Rattle.std.specs.Prelude.{◌≡◌, ◌+◌, ◌<◌, ◌^◌, [], false, length, All};
-ghost use Rattle.frame_core.specs.Serials.{HasSerialsFrom};
+ghost use Rattle.std.specs.Prelude.{◌≡◌, ◌+◌, ◌<◌, ◌++◌, ◌∷◌, [], false, length, All, IfSome};
 
-use super::{is_page, isolated};
+use super::{assert_of, is_page, isolated};
 use frame_core::Isolated;
 use hand_core::{Batch, Giver, Taker, Takers, Took, open, open_in_batches, settle};
 use std::alloc::Global;
@@ -20,6 +19,29 @@ fn page_of<R: Abort>(rt: &R, serial: u32, number: u32) -> Isolated
     isolated(serial, number).expect(rt, "in range")
 }
 
+fn assert_gives<R: Wait + Abort>(rt: &R, giver: &mut Giver, page: Isolated)
+    requires open { giver.old.closed ≡ false }
+    requires next { page.serial ≡ giver.old.base + length giver.old.given }
+    ensures { giver.new ≡ record giver.old { given = giver.old.given ++ page ∷ [] } }
+{
+    assert!(rt; giver.give(rt, page).is_ok());
+}
+
+fn assert_closes<R: Wait + Abort>(rt: &R, giver: &mut Giver)
+    requires { giver.old.closed ≡ false }
+    ensures { giver.new.hand_over ≡ giver.old.hand_over }
+{
+    assert!(rt; giver.close(rt).is_ok());
+}
+
+// The page has this number, and the serial of it.
+fn assert_is_numbered<R: Abort>(rt: &R, page: Isolated, number: u32)
+    requires { number < PAGES }
+{
+    assert!(rt; page.serial() == BASE + number);
+    assert!(rt; is_page(&page.into_page(), number));
+}
+
 // Gives all pages, and closes.
 fn give_all<R: Wait + Abort>(rt: &R, mut giver: Giver) -> Giver
     requires open { giver.closed ≡ false }
@@ -27,11 +49,23 @@ fn give_all<R: Wait + Abort>(rt: &R, mut giver: Giver) -> Giver
     ensures { result.hand_over ≡ giver.hand_over }
 {
     for number in 0..PAGES {
-        let page = page_of(rt, BASE + number, number);
-        assert!(rt; giver.give(rt, page).is_ok());
+        assert_gives(rt, &mut giver, page_of(rt, BASE + number, number));
     }
-    assert!(rt; giver.close(rt).is_ok());
+    assert_closes(rt, &mut giver);
     giver
+}
+
+// The next page, or none at the end mark.
+fn page_or_end<R: Wait + Abort>(rt: &R, taker: &mut Taker) -> Option<Isolated>
+    requires { taker.old.ended ≡ false }
+    ensures same { taker.new.hand_over ≡ taker.old.hand_over }
+    ensures some { IfSome result (λ _. taker.new.ended ≡ false) }
+{
+    match taker.take(rt) {
+        Took::Page(page) => Some(page),
+        Took::End => None,
+        Took::Gone => panic!(rt; "the giver is gone"),
+    }
 }
 
 // Takes pages up to the end mark, each of a higher serial than the one before it, and counts each.
@@ -41,11 +75,10 @@ fn take_all<R: Wait + Abort>(rt: &R, mut taker: Taker, seen: &[AtomicU32]) -> Ta
 {
     let mut next = BASE;
     for _ in rt.forever() {
-        match taker.take(rt) {
-            Took::Page(page) => next = note_page(rt, page, next, seen),
-            Took::End => return taker,
-            Took::Gone => panic!(rt; "the giver is gone"),
-        }
+        let Some(page) = page_or_end(rt, &mut taker) else {
+            return taker;
+        };
+        next = note_page(rt, page, next, seen);
     }
     unreachable!()
 }
@@ -53,23 +86,33 @@ fn take_all<R: Wait + Abort>(rt: &R, mut taker: Taker, seen: &[AtomicU32]) -> Ta
 // Counts the page, whose serial is at least `next`, and returns the serial after it.
 fn note_page<R: Abort>(rt: &R, page: Isolated, next: u32, seen: &[AtomicU32]) -> u32 {
     let serial = page.serial();
-    assert!(rt;
-        BASE <= serial && next <= serial && serial < BASE + PAGES,
-        "the list doesn't rise at {serial}"
+    let number = number_of(rt, serial, next);
+    let is_the_page = is_page(&page.into_page(), number);
+    assert_of(rt, serial, is_the_page, "another page came under");
+    assert_of(
+        rt,
+        serial,
+        is_first(rt, seen, number),
+        "a page came again under",
     );
-    let number = serial - BASE;
-    assert!(rt;
-        is_page(&page.into_page(), number),
-        "another page came under {serial}"
-    );
+    serial + 1
+}
+
+// The number of the page with this serial, which is at least `next`.
+fn number_of<R: Abort>(rt: &R, serial: u32, next: u32) -> u32
+    ensures { (BASE + result ≡ serial) × (result < PAGES) }
+{
+    let rises = BASE <= serial && next <= serial && serial < BASE + PAGES;
+    assert_of(rt, serial, rises, "the list doesn't rise at");
+    serial - BASE
+}
+
+// Counts the page of this number, and tells whether it's the first.
+fn is_first<R: Abort>(rt: &R, seen: &[AtomicU32], number: u32) -> bool {
     let times = seen
         .get(number as usize)
         .expect(rt, "a page of the hand-over");
-    assert!(rt;
-        times.fetch_add(1, Ordering::SeqCst) == 0,
-        "{serial} came twice"
-    );
-    serial + 1
+    times.fetch_add(1, Ordering::SeqCst) == 0
 }
 
 // All takers take pages, each on a thread of its own.
@@ -120,24 +163,30 @@ fn opened<R: Wait + Abort>(
     open(rt, alloc, base, takers, cap).expect(rt, "a hand-over")
 }
 
+fn last_taker<R: Abort>(rt: &R, mut takers: Takers) -> Taker
+    requires { All (λ t. t.ended ≡ false) takers.items }
+    ensures going { result.ended ≡ false }
+    ensures hand_over { (h : _) → All (λ t. t.hand_over ≡ h) takers.items → result.hand_over ≡ h }
+{
+    takers.pop().expect(rt, "a taker")
+}
+
 fn opened_for_one<R: Wait + Abort>(rt: &R, alloc: Global, base: u32, cap: usize) -> (Giver, Taker)
     ensures giver { (result.0.closed ≡ false) × (result.0.given ≡ []) × (result.0.base ≡ base) }
     ensures taker { (result.1.hand_over ≡ result.0.hand_over) × (result.1.ended ≡ false) }
 {
-    let (giver, mut takers) = opened(rt, alloc, base, 1, cap);
-    let one = takers.pop().expect(rt, "a taker");
-    (giver, one)
+    let (giver, takers) = opened(rt, alloc, base, 1, cap);
+    (giver, last_taker(rt, takers))
 }
 
 // The giver and all its takers settle: so many pages were handed over from `base` on.
 fn assert_settles<R: Abort>(rt: &R, giver: Giver, takers: Vec<Taker>, base: u32, count: u32)
     requires { All (λ t. t.hand_over ≡ giver.hand_over) takers.items }
 {
-    let Ok(settled) = settle(giver, takers) else {
-        panic!(rt; "the hand-over isn't settled");
-    };
-    assert!(rt; settled.base == base);
-    assert!(rt; settled.count == u64::from(count));
+    let settled = settle(giver, takers)
+        .ok()
+        .expect(rt, "a hand-over that is settled");
+    assert!(rt; settled.base == base && settled.count == u64::from(count));
 }
 
 fn assert_settles_with_one<R: Abort>(
@@ -179,9 +228,10 @@ fn assert_settles_with_all<R: Abort>(rt: &R, giver: Giver, mut takers: Takers)
     requires { All (λ t. t.hand_over ≡ giver.hand_over) takers.items }
 {
     let last = takers.pop().expect(rt, "a taker");
-    let Err((giver, mut takers)) = settle(giver, takers) else {
-        panic!(rt; "settled without the last taker");
-    };
+    let (giver, mut takers) = settle(giver, takers).expect_err(
+        rt,
+        "settled without the last taker",
+    );
     takers.push(last).expect(rt, "memory");
     assert_settles(rt, giver, takers, BASE, PAGES);
 }
@@ -198,8 +248,8 @@ fn hands_600_pages_to_one_two_and_four_takers(rt: HostRuntime) {
 #[test]
 fn settles_with_no_page(rt: HostRuntime) {
     let (mut giver, mut one) = opened_for_one(&rt, rt.alloc(), 0, 1);
-    assert!(rt; giver.close(&rt).is_ok());
-    assert!(rt; matches!(one.take(&rt), Took::End));
+    assert_closes(&rt, &mut giver);
+    assert!(rt; page_or_end(&rt, &mut one).is_none());
     assert_settles_with_one(&rt, rt.alloc(), giver, one, 0, 0);
 }
 
@@ -207,10 +257,7 @@ fn taken_page<R: Wait + Abort>(rt: &R, taker: &mut Taker) -> Isolated
     requires { taker.old.ended ≡ false }
     ensures { (taker.new.ended ≡ false) × (taker.new.hand_over ≡ taker.old.hand_over) }
 {
-    let Took::Page(page) = taker.take(rt) else {
-        panic!(rt; "the page is lost");
-    };
-    page
+    page_or_end(rt, taker).expect(rt, "the page is lost")
 }
 
 fn page_back<R: Wait + Abort>(rt: &R, giver: &mut Giver, page: Isolated) -> Isolated
@@ -218,10 +265,7 @@ fn page_back<R: Wait + Abort>(rt: &R, giver: &mut Giver, page: Isolated) -> Isol
     requires next { page.serial ≡ giver.old.base + length giver.old.given }
     ensures { giver.new.closed ≡ false }
 {
-    let Err(page) = giver.give(rt, page) else {
-        panic!(rt; "gave a page to nobody");
-    };
-    page
+    giver.give(rt, page).expect_err(rt, "gave a page to nobody")
 }
 
 #[test]
@@ -229,19 +273,25 @@ fn hands_the_page_back_where_no_taker_is_left(rt: HostRuntime) {
     let (mut giver, takers) = opened(&rt, rt.alloc(), BASE, 2, 1);
     drop(takers);
     let page = page_back(&rt, &mut giver, page_of(&rt, BASE, 0));
-    assert!(rt; page.serial() == BASE);
-    assert!(rt; is_page(&page.into_page(), 0));
+    assert_is_numbered(&rt, page, 0);
     assert!(rt; giver.close(&rt).is_err());
+}
+
+fn assert_gone<R: Wait + Abort>(rt: &R, taker: &mut Taker)
+    requires { taker.old.ended ≡ false }
+    ensures { taker.new.ended ≡ false }
+{
+    assert!(rt; matches!(taker.take(rt), Took::Gone));
 }
 
 #[test]
 fn answers_gone_after_the_pages_where_the_giver_is_gone(rt: HostRuntime) {
     let (mut giver, mut one) = opened_for_one(&rt, rt.alloc(), BASE, 2);
-    assert!(rt; giver.give(&rt, page_of(&rt, BASE, 0)).is_ok());
+    assert_gives(&rt, &mut giver, page_of(&rt, BASE, 0));
     drop(giver);
     assert!(rt; taken_page(&rt, &mut one).serial() == BASE);
-    assert!(rt; matches!(one.take(&rt), Took::Gone));
-    assert!(rt; matches!(one.take(&rt), Took::Gone));
+    assert_gone(&rt, &mut one);
+    assert_gone(&rt, &mut one);
 }
 
 // A hand-over with room for two batches of three pages.
@@ -249,20 +299,21 @@ fn opened_for_threes<R: Wait + Abort>(rt: &R, alloc: Global) -> (Giver, Taker)
     ensures giver { (result.0.closed ≡ false) × (result.0.given ≡ []) × (result.0.base ≡ BASE) × (result.0.most ≡ 3) }
     ensures taker { (result.1.hand_over ≡ result.0.hand_over) × (result.1.ended ≡ false) }
 {
-    let (giver, mut takers) = open_in_batches(rt, alloc, BASE, 1, 6, 3).expect(rt, "a hand-over");
-    let one = takers.pop().expect(rt, "a taker");
-    (giver, one)
+    let (giver, takers) = open_in_batches(rt, alloc, BASE, 1, 6, 3).expect(rt, "a hand-over");
+    (giver, last_taker(rt, takers))
 }
 
-fn three_pages<R: Abort>(rt: &R) -> Batch<Isolated>
-    ensures serials { HasSerialsFrom BASE result.items }
-    ensures few { length result.items ≡ 3 }
+// Gives the pages 0 to 2 together.
+fn assert_gives_three<R: Wait + Abort>(rt: &R, giver: &mut Giver)
+    requires open { giver.old.closed ≡ false }
+    requires fresh { (giver.old.given ≡ []) × (giver.old.base ≡ BASE) × (giver.old.most ≡ 3) }
+    ensures { (giver.new.closed ≡ false) × (giver.new.hand_over ≡ giver.old.hand_over) }
 {
     let mut pages = Batch::new();
     pages.push(page_of(rt, BASE, 0));
     pages.push(page_of(rt, BASE + 1, 1));
     pages.push(page_of(rt, BASE + 2, 2));
-    pages
+    assert!(rt; giver.give_all(rt, pages).is_ok());
 }
 
 // Takes the page with this number, and tells whether more came with it.
@@ -271,20 +322,18 @@ fn assert_takes<R: Wait + Abort>(rt: &R, taker: &mut Taker, number: u32, has_mor
     requires number { number < 3 }
     ensures { (taker.new.ended ≡ false) × (taker.new.hand_over ≡ taker.old.hand_over) }
 {
-    let page = taken_page(rt, taker);
-    assert!(rt; page.serial() == BASE + number);
-    assert!(rt; is_page(&page.into_page(), number));
+    assert_is_numbered(rt, taken_page(rt, taker), number);
     assert!(rt; taker.has_more() == has_more);
 }
 
 #[test]
 fn takes_the_pages_of_a_batch_one_by_one(rt: HostRuntime) {
     let (mut giver, mut one) = opened_for_threes(&rt, rt.alloc());
-    assert!(rt; giver.give_all(&rt, three_pages(&rt)).is_ok());
-    assert!(rt; giver.close(&rt).is_ok());
+    assert_gives_three(&rt, &mut giver);
+    assert_closes(&rt, &mut giver);
     assert_takes(&rt, &mut one, 0, true);
     assert_takes(&rt, &mut one, 1, true);
     assert_takes(&rt, &mut one, 2, false);
-    assert!(rt; matches!(one.take(&rt), Took::End));
+    assert!(rt; page_or_end(&rt, &mut one).is_none());
     assert_settles_with_one(&rt, rt.alloc(), giver, one, BASE, 3);
 }
