@@ -33,3 +33,9 @@ invariant_of-room-2 g c =
       g.K.Keeping.calls zone zone_new client pair c.requires.allows inv.0 call inv.2,
       told_by call g.K.Keeping.told (g.K.Keeping.tells zone zone_new client pair c.requires.allows call inv.2) c.room.inside.stub inv.3 c.receipt_of-receipt.result (sym receipt) ∙ sym c.write_both.ensures.stub,
     )
+
+pub returns-clause-ok : goal.returns-clause-ok
+returns-clause-ok g c =
+    c.in_ok-answer.ensures.ok
+    ∙ ap (λ (k : ZoneCall 8). after k c.args.client c.room.inside.zone) c.get.ensures.value
+    ∙ ap (after c.args.call c.args.client) c.room.view_is

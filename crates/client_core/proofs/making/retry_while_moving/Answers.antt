@@ -14,3 +14,6 @@ returns-in_default-clause-refused g c =
     let kept = c.make_kept in
     let is = refused (refusal_of c.args.call) c.deref_mut.result.now kept.ensures.valid kept.result kept.ensures.refused in
     search (rules, is)
+
+pub returns-in_default-clause-there : goal.returns-in_default-clause-there
+returns-in_default-clause-there g c = search rules
