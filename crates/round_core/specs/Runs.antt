@@ -74,3 +74,7 @@ pub record IsRunOrNot (stops_at : ℕ → Stop → Type 0) (unpinned : Type 0) (
   pub ran : IfSome result (IsRunOver stops_at unpinned scan scan_new ends ends_new)
   pub none : IfNone result (scan_new ≡ scan)
   pub counts : CountsOn ends ends_new
+
+-- the borrow that was lent comes back, by the names of the two
+pub record IsLentBack (lent back : ℕ) : Type 0 where
+  pub same : back ≡ lent

@@ -1,7 +1,7 @@
 ghost use Rattle.std.specs.Prelude.{◌≡◌, ◌+◌, ◌*◌, ◌<◌, ◌≤◌, ◌↔◌, true, map, Some, IsOk, IfOk, IfErr, OnOk, length};
 ghost use Rattle.round_core.specs.Counts.{AreCounted};
 ghost use Rattle.round_core.specs.Rounds.{AreShared, IsRound, IsRefusedEarly, IsAfter, IsWant};
-ghost use Rattle.round_core.specs.Runs.{CanRun, AreJoined, HasRun, IsRunOrNot};
+ghost use Rattle.round_core.specs.Runs.{CanRun, AreJoined, HasRun, IsLentBack, IsRunOrNot};
 
 use crate::crew::{RoundRun, run};
 use crate::error::RoundError;
@@ -124,7 +124,7 @@ fn in_scope<
         rt,
         move |scope| -> (&mut Seats<I, N, M, B>, Option<RoundRun>)
             requires { CanRun K.begins_at lent.now.scan lent.now.ends memory }
-            ensures { (result.0.ghost_name ≡ lent.entry.ghost_name) × IsRunOrNot K.stops_at K.unpinned lent.entry.now.scan result.0.now.scan lent.entry.now.ends result.0.now.ends result.1 }
+            ensures { IsLentBack lent.entry.ghost_name result.0.ghost_name × IsRunOrNot K.stops_at K.unpinned lent.entry.now.scan result.0.now.scan lent.entry.now.ends result.0.now.ends result.1 }
         {
             let ran = run(scope, rt, shared, lent, memory, gate);
             (lent, ran)

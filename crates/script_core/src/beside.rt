@@ -5,6 +5,7 @@ ghost use Rattle.client_core.specs.Receipts.{AreSince, IsToldBeside};
 ghost use Rattle.hand_core.specs.Told.{pair_of};
 ghost use Rattle.round_core.specs.Calls.{IsAddedBeside};
 ghost use Rattle.round_core.specs.Kept.{LockInvariant};
+ghost use Rattle.round_core.specs.Runs.{IsLentBack};
 ghost use Rattle.zone_core.specs.ZoneIdentity.{HasIdentity};
 ghost use Rattle.script_core.specs.Clients.{AreClientAnswers, HasRoomForAnswers, IsClientReply, MayPlay, RunsBeside};
 
@@ -175,7 +176,7 @@ fn in_scope<
             requires begins { K.begins_at lent.now.scan.count }
             requires plays { MayPlay K.allows J.pair turn }
             ensures ran { RunsBeside turn lent.entry.now result.0.now result.1 }
-            ensures lent { result.0.ghost_name ≡ lent.entry.ghost_name }
+            ensures lent { IsLentBack lent.entry.ghost_name result.0.ghost_name }
         {
             let both = run_both(scope, rt, alloc, shared, lent, options, turn);
             (lent, both)

@@ -1,4 +1,4 @@
-use Rattle.std.proofs.Common.{◌≡◌, refl, sym, subst, ◌∙◌}
+use Rattle.std.proofs.Common.{rules, ◌≡◌, refl, sym, subst, ◌∙◌}
 use Rattle.std.specs.Prelude.{None}
 use Rattle.state_core.specs.Isolating.{isolate_refusal, next_state}
 use Rattle.state_core.specs.Pairs.{next_pair}
@@ -28,3 +28,12 @@ invariant_of-room g c =
           (let made = w.in-Err.ensures in
           leaves g.K.Keeping.told g.K.Keeping.keeps zone zone zone_new made.err made.valid made.identity inv.2 refl inv.1 inv.3)
     ]
+
+pub returns-clause-serial : goal.returns-clause-serial
+returns-clause-serial g c = search rules
+
+pub returns-clause-count : goal.returns-clause-count
+returns-clause-count g c = search rules
+
+pub returns-clause-same : goal.returns-clause-same
+returns-clause-same g c = search rules
