@@ -21,7 +21,11 @@ pub fn show_calls<R: Print>(rt: &R, alloc: Global, values: u32) -> io::Result<()
 }
 
 fn show_same<R: Print>(rt: &R, user: &mut User<8>, values: u32) -> io::Result<()> {
-    println!(rt; "true {} of 1", user.use_all(1))?;
+    show_true(rt, user, 1)?;
+    show_true(rt, user, values)
+}
+
+fn show_true<R: Print>(rt: &R, user: &mut User<8>, values: u32) -> io::Result<()> {
     println!(rt; "true {} of {values}", user.use_all(values))
 }
 
@@ -76,6 +80,10 @@ fn show_both<R: Print + Clock>(
         told = told.and(time(rt, alloc, Journal::Told, stores)?);
         kept = kept.and(time(rt, alloc, Journal::Kept, stores)?);
     }
+    show_each(rt, name, told, kept)
+}
+
+fn show_each<R: Print>(rt: &R, name: &str, told: Timed, kept: Timed) -> io::Result<()> {
     let (told_each, kept_each) = (told.each(), kept.each());
     println!(rt; "{name} {} told {told_each} kept {kept_each}", told.words)
 }

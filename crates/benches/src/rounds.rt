@@ -20,11 +20,15 @@ pub fn show_moves<R: Threads + Wait + Print + Clock + Sync>(
     alloc: Global,
 ) -> io::Result<()> {
     for setting in SETTINGS {
-        let Setting { threads, capacity } = setting;
         let moved = best(rt, alloc, Work::Rounds(setting), 1)?.pages;
-        println!(rt; "copiers {threads} room {capacity} moved {moved}")?;
+        show_moved(rt, setting, moved)?;
     }
     Ok(())
+}
+
+fn show_moved<R: Print>(rt: &R, setting: Setting, moved: u32) -> io::Result<()> {
+    let Setting { threads, capacity } = setting;
+    println!(rt; "copiers {threads} room {capacity} moved {moved}")
 }
 
 /// Microseconds a round, nanoseconds a page, and how many hundredths of the zone's work alone that is.

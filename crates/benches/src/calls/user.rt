@@ -39,8 +39,8 @@ impl<const W: usize> User<W> {
             zone: journal.open(alloc, blocks)?,
         };
         let unmovable = false;
-        let _mapped = user.zone.map(user.client, user.address, unmovable).ok()?;
-        Some(user)
+        let mapped = user.zone.map(user.client, user.address, unmovable);
+        mapped.is_ok().then_some(user)
     }
 
     /// Stores as many values as a kept journal has places for, one after the other. How many were accepted.

@@ -3,7 +3,7 @@
 use super::crowd::{CALLS, PAGES};
 use crate::times::{nanos_since, thousands};
 use std::sync::{Mutex, Wait};
-use std::thread::{Threads, for_each_mut, join};
+use std::thread::{Threads, for_each_mut};
 use std::time::{Clock, Instant};
 
 /// Eight words for each page.
@@ -20,19 +20,9 @@ pub fn rate_of_array<R: Threads + Wait + Clock + Sync>(rt: &R, count: usize) -> 
     Some(thousands(count.saturating_mul(CALLS as usize), nanos))
 }
 
-/// Lets a thread use each of these words of the pages, one half of them beside the other.
+/// Lets a thread use each of these words of the pages, of which there are at most four.
 fn use_all<R: Threads + Wait + Sync>(rt: &R, array: &Array, words: &mut [u32]) {
-    let (low, high) = words.split_at_mut(words.len() / 2);
-    join(
-        rt,
-        move || use_two(rt, array, low),
-        move || use_two(rt, array, high),
-    );
-}
-
-/// Lets a thread use each of at most two words.
-fn use_two<R: Threads + Wait + Sync>(rt: &R, array: &Array, words: &mut [u32]) {
-    for_each_mut(rt, words, 2, &|_, word| use_pages(rt, array, *word));
+    for_each_mut(rt, words, 4, &|_, word| use_pages(rt, array, *word));
 }
 
 /// Stores to a word of each page and loads it, by turns.

@@ -8,7 +8,7 @@ use round_core::{SharedZone, ZoneIdentity};
 use std::alloc::Global;
 use std::sync::Wait;
 use std::sync::ledger::Ledger;
-use std::thread::{Threads, for_each_mut, join};
+use std::thread::{Threads, for_each_mut};
 use std::time::{Clock, Instant};
 
 /// The pages that clients use.
@@ -38,7 +38,7 @@ pub fn time_calls<
     nanos_since(rt, &start).ok()
 }
 
-/// Lets each client make its calls, one half of them beside the other.
+/// Lets each of at most four clients make its calls, on a thread of its own.
 fn use_all<
     K: ZoneIdentity + Send + Sync,
     I: Ledger + Send + Sync,
@@ -46,23 +46,7 @@ fn use_all<
     B: Ledger + Send + Sync,
     R: Threads + Wait + Sync,
 >(rt: &R, shared: &SharedZone<K, I, M, B>, clients: &mut [Client]) {
-    let (low, high) = clients.split_at_mut(clients.len() / 2);
-    join(
-        rt,
-        move || use_two(rt, shared, low),
-        move || use_two(rt, shared, high),
-    );
-}
-
-/// Lets at most two clients make their calls.
-fn use_two<
-    K: ZoneIdentity + Send + Sync,
-    I: Ledger + Send + Sync,
-    M: Ledger + Send + Sync,
-    B: Ledger + Send + Sync,
-    R: Threads + Wait + Sync,
->(rt: &R, shared: &SharedZone<K, I, M, B>, clients: &mut [Client]) {
-    for_each_mut(rt, clients, 2, &|_, client| use_pages(rt, shared, client));
+    for_each_mut(rt, clients, 4, &|_, client| use_pages(rt, shared, client));
 }
 
 /// Stores to the client's word of each page and loads it, by turns, until a call is refused.
