@@ -1,5 +1,5 @@
 -- The clients before an index agree with the journal, and the one at it agrees or is the first that doesn't.
-use Rattle.std.proofs.Common.{◌≡◌, List, length, reverse, sym, ap, subst, ◌∙◌, refl, arith}
+use Rattle.std.proofs.Common.{rules, ◌≡◌, List, length, reverse, sym, ap, subst, ◌∙◌, refl, arith}
 use Rattle.std.specs.Prelude.{All, Some, slice_get}
 use Rattle.std.specs.List.{filter}
 use Rattle.std.proofs.lemmas.List.{take_all}
@@ -56,3 +56,6 @@ returns-clause-ok g c =
       λ ok. (kept, subst (All (Agrees c.args.zone.now.records)) (take_all c.loop-client.client-index c.args.clients.now c.loop-client-test.false) c.loop-client.invariant),
       λ all. refl,
     )
+
+pub returns-in_default-clause-ok : goal.returns-in_default-clause-ok
+returns-in_default-clause-ok g c = search rules
