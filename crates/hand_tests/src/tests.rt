@@ -25,7 +25,7 @@ fn is_page(page: &Page, number: u32) -> bool {
     page.number().get() == number && page.word(last) == u64::from(number) + 1
 }
 
-// Stops the test, unless this holds, with what is wrong and the serial of which it is.
+// Stops the test where this doesn't hold. What is wrong is told with the serial of the page or copy.
 fn assert_of<R: Abort>(rt: &R, serial: Serial, holds: bool, wrong: &str)
     ensures { holds ≡ true }
 {
