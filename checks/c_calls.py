@@ -17,7 +17,7 @@ from machine import Refused
 
 POOLS = 40
 CALLS_OF_A_POOL = 25_000
-TOLD_PLACES = 2**53
+UNRECORDED_PLACES = 2**53
 UNTOUCHED = 0xA5  # in each byte where a call may write
 # What random calls can't come to.
 APART = {"MEMORY", "OPEN", "CLOSED"}
@@ -211,7 +211,7 @@ class Beside:
 
     def __init__(self, library, page_words, blocks, places):
         self.library, self.handle = library, Handle()
-        self.machine = ByMachine(Zone(page_words, blocks, places or TOLD_PLACES))
+        self.machine = ByMachine(Zone(page_words, blocks, places or UNRECORDED_PLACES))
         opening = ("open_journal", page_words, blocks, places) if places else ("open", page_words, blocks)
         if answer := self.call(*opening):
             raise runs.Failed(f"{opening} is refused {answer}")

@@ -1,7 +1,7 @@
-"""A zone whose journal is told makes 100,000,000 calls, and the program has no more memory after them than after the first two. Nine times
-as many calls make no more requests for memory. Two examples that make 10,000,000 calls each, on one thread and with rounds on threads, have
-at most a MiB more in the end than in the first quarter of their time. Beside a zone whose journal is kept, in one run, a store of a told one
-takes at most 0.9 of the time, and a word that is written in bulk at most half: nothing is done there for the record of each."""
+"""A zone whose journal is unrecorded makes 100,000,000 calls, and the program has no more memory after them than after the first two. Nine
+times as many calls make no more requests for memory. Two examples that make 10,000,000 calls each, on one thread and with rounds on threads,
+have at most a MiB more in the end than in the first quarter of their time. Beside a zone whose journal is kept, in one run, a store of an
+unrecorded one takes at most 0.9 of the time, and a word that is written in bulk at most half: nothing is done there for the record of each."""
 
 import os
 import pathlib
@@ -29,8 +29,8 @@ def peaks(process):
 
 
 def call_all():
-    """The most memory up to the first two calls of a told zone, and up to the last, in kB."""
-    process = subprocess.Popen([runs.built("benches"), "calls", "told", str(VALUES)], stdout=subprocess.PIPE, text=True)
+    """The most memory up to the first two calls of an unrecorded zone, and up to the last, in kB."""
+    process = subprocess.Popen([runs.built("benches"), "calls", "unrecorded", str(VALUES)], stdout=subprocess.PIPE, text=True)
     if process.stdout.readline() != "true 1 of 1\n":
         raise runs.Failed("a first store wasn't loaded again")
     first, *more = peaks(process)
@@ -41,23 +41,23 @@ def call_all():
 
 
 def requests(values, folder):
-    """How many requests for memory the program makes that uses a told zone so."""
+    """How many requests for memory the program makes that uses an unrecorded zone so."""
     counted = pathlib.Path(folder) / "requests"
     counted.unlink(missing_ok=True)
     variables = {"LD_PRELOAD": str(pathlib.Path(folder) / "refuse_memory.so"), "REQUESTS": str(counted)}
-    command = [runs.built("benches"), "calls", "told", str(values)]
+    command = [runs.built("benches"), "calls", "unrecorded", str(values)]
     subprocess.run(command, env={**os.environ, **variables}, stdout=subprocess.DEVNULL, check=True)
     return int(counted.read_text())
 
 
 def count_requests():
-    """Looks that the calls of a told zone make none."""
+    """Looks that the calls of an unrecorded zone make none."""
     with tempfile.TemporaryDirectory() as folder:
         runs.preload("refuse_memory", folder)
         few, many = requests(FEW, folder), requests(MANY, folder)
-    print(f"requests for memory: {few} with {2 * FEW} calls of a told zone, and {many} with {2 * MANY}")
+    print(f"requests for memory: {few} with {2 * FEW} calls of an unrecorded zone, and {many} with {2 * MANY}")
     if not 0 < few == many:
-        raise runs.Failed("calls of a told zone make requests for memory, or none is counted")
+        raise runs.Failed("calls of an unrecorded zone make requests for memory, or none is counted")
 
 
 def peaks_of(example):
@@ -70,10 +70,10 @@ def peaks_of(example):
 
 
 def shares():
-    """The share of the time of a kept journal that a store and a word written in bulk take where it is told, in one run."""
+    """The share of the time of a kept journal that a store and a word written in bulk take where it is unrecorded, in one run."""
     said = subprocess.run([runs.built("benches"), "calls", str(TURNS)], capture_output=True, text=True, check=True).stdout
-    found = re.findall(r"(store|word)s \d+ told (\d+) kept (\d+)\n", said)
-    return {what: int(told) / int(kept) for what, told, kept in found}
+    found = re.findall(r"(store|word)s \d+ unrecorded (\d+) kept (\d+)\n", said)
+    return {what: int(unrecorded) / int(kept) for what, unrecorded, kept in found}
 
 
 def least_shares():
@@ -90,14 +90,14 @@ def compare(what, first, most, slack):
 
 
 def main():
-    compare(f"{2 * VALUES} calls of a told zone", *call_all(), SLACK)
+    compare(f"{2 * VALUES} calls of an unrecorded zone", *call_all(), SLACK)
     count_requests()
     for example in EXAMPLES:
         compare(example, *peaks_of(example), SLACK_OF_EXAMPLES)
     took = least_shares()
     if slow := [what for what, most in MOST.items() if took[what] > most]:
-        raise runs.Failed(f"where the journal is told, a {slow[0]} takes {took[slow[0]]:.2f} of the time that it takes where it is kept")
-    return "memory stays, and of the time of a kept zone " + " and ".join(f"a {what} of a told one takes {took[what]:.2f}" for what in MOST)
+        raise runs.Failed(f"where the journal is unrecorded, a {slow[0]} takes {took[slow[0]]:.2f} of the time that it takes where it is kept")
+    return "memory stays, and of the time of a kept zone " + " and ".join(f"a {what} of an unrecorded one takes {took[what]:.2f}" for what in MOST)
 
 
 if __name__ == "__main__":

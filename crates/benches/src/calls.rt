@@ -1,4 +1,5 @@
-//! Stores and loads of a zone whose journal is told, and stores, one by one and in bulk, beside those of zones whose journals are kept.
+//! Stores and loads of a zone whose journal is unrecorded, and stores, one by one and in bulk, beside those of zones whose journals are
+//! kept.
 
 ghost use Rattle.std.specs.Prelude.{◌≤◌};
 
@@ -11,10 +12,10 @@ use std::io;
 use std::time::{Clock, Instant};
 use user::{Journal, User};
 
-/// Stores and loads by turns, so many of each, of a zone whose journal is told, and writes how many loads gave what was stored. The
-/// first line is written after the first two calls: then the memory of the program can be looked at.
+/// Stores and loads by turns, so many of each, of a zone whose journal is unrecorded, and writes how many loads gave what was stored.
+/// The first line is written after the first two calls: then the memory of the program can be looked at.
 pub fn show_calls<R: Print>(rt: &R, alloc: Global, values: u32) -> io::Result<()> {
-    match User::open(alloc, Journal::Told, BLOCKS) {
+    match User::open(alloc, Journal::Unrecorded, BLOCKS) {
         Some(mut user) => show_same(rt, &mut user, values),
         None => Ok(()),
     }
@@ -61,8 +62,8 @@ impl Timed {
     }
 }
 
-/// Picoseconds that a store takes, and a word that is written in bulk, where the journal is told and where it is kept, by turns: a kept
-/// journal is full after each turn.
+/// Picoseconds that a store takes, and a word that is written in bulk, where the journal is unrecorded and where it is kept, by turns:
+/// a kept journal is full after each turn.
 pub fn show_times<R: Print + Clock>(rt: &R, alloc: Global, turns: u32) -> io::Result<()> {
     show_both(rt, alloc, "stores", Stores::Single, turns)?;
     show_both(rt, alloc, "words", Stores::Bulk, turns)
@@ -75,17 +76,20 @@ fn show_both<R: Print + Clock>(
     stores: Stores,
     turns: u32,
 ) -> io::Result<()> {
-    let (mut told, mut kept) = (Timed::NOTHING, Timed::NOTHING);
+    let (mut unrecorded, mut kept) = (Timed::NOTHING, Timed::NOTHING);
     for _turn in 0..turns {
-        told = told.and(time(rt, alloc, Journal::Told, stores)?);
+        unrecorded = unrecorded.and(time(rt, alloc, Journal::Unrecorded, stores)?);
         kept = kept.and(time(rt, alloc, Journal::Kept, stores)?);
     }
-    show_each(rt, name, told, kept)
+    show_each(rt, name, unrecorded, kept)
 }
 
-fn show_each<R: Print>(rt: &R, name: &str, told: Timed, kept: Timed) -> io::Result<()> {
-    let (told_each, kept_each) = (told.each(), kept.each());
-    println!(rt; "{name} {} told {told_each} kept {kept_each}", told.words)
+fn show_each<R: Print>(rt: &R, name: &str, unrecorded: Timed, kept: Timed) -> io::Result<()> {
+    let (unrecorded_each, kept_each) = (unrecorded.each(), kept.each());
+    println!(rt;
+        "{name} {} unrecorded {unrecorded_each} kept {kept_each}",
+        unrecorded.words
+    )
 }
 
 /// How long it takes to store as many words as a kept journal has places for.

@@ -1,8 +1,8 @@
-//! Measures rounds, clients beside rounds, the hand-over of pages, and calls of zones whose journals are told, each beside the same work
-//! done otherwise. The first word says which: `rounds`, `clients`, `hands` or `calls`. With no further word it prints what they did, which
-//! is the same in every run; with a number it prints how long they take. `rounds alone N` and `rounds filled N` do a part of the work N
-//! times, to be counted from outside. `calls told N` makes N stores and as many loads in a zone whose journal is told, and `calls`
-//! alone a thousand of each. Without any word it prints what all four did.
+//! Measures rounds, clients beside rounds, the hand-over of pages, and calls of zones whose journals are unrecorded, each beside
+//! the same work done otherwise. The first word says which: `rounds`, `clients`, `hands` or `calls`. With no further word it prints
+//! what they did, which is the same in every run; with a number it prints how long they take. `rounds alone N` and `rounds filled
+//! N` do a part of the work N times, to be counted from outside. `calls unrecorded N` makes N stores and as many loads in a zone
+//! whose journal is unrecorded, and `calls` alone a thousand of each. Without any word it prints what all four did.
 #![tactic(auto)]
 
 mod calls;
@@ -123,7 +123,7 @@ fn show_part<R: Threads + Wait + Print + Clock + Sync>(
 ) -> Result<()> {
     match (subject, part) {
         (Subject::Rounds, part) => rounds::show_part(rt, alloc, part, number_in(times)?),
-        (Subject::Calls, "told") => Ok(calls::show_calls(rt, alloc, number_in(times)?)?),
+        (Subject::Calls, "unrecorded") => Ok(calls::show_calls(rt, alloc, number_in(times)?)?),
         _ => Err(usage()),
     }
 }

@@ -19,14 +19,14 @@ pub struct Buffers {
 }
 
 impl Buffers {
-    /// No buffers, in a zone of 16 MiB whose journal is told.
+    /// No buffers, in a zone of 16 MiB whose journal is unrecorded.
     pub fn open(alloc: Global) -> Result<Self, Trouble> {
         let client = ClientNo::new(0).ok_or(Trouble::Range)?;
         let space = SpaceNo::new(0).ok_or(Trouble::Range)?;
         let first = WordOf::new(0).ok_or(Trouble::Range)?;
         let number = ZoneNo::new(0).ok_or(Trouble::Range)?;
         Ok(Buffers {
-            zone: BareZone::open_told(alloc, number, PAGEBLOCKS)?,
+            zone: BareZone::open_unrecorded(alloc, number, PAGEBLOCKS)?,
             client,
             space,
             first,

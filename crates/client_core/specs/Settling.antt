@@ -23,11 +23,11 @@ pub record IsFirstMismatch (journal : List Record) (clients : List Client) (mism
   pub before : All (Agrees journal) (take place clients)
   pub there : IsSomeAnd (slice_get clients place) (λ client. Differs journal client mismatch)
 
--- the journal of a zone is kept: it has at most 65,536 places. One that is told has more
+-- the journal of a zone is kept: it has at most 65,536 places. One that is unrecorded has more
 abbrev pub HasKeptJournal : ZoneState → Type 0
 HasKeptJournal zone = length zone.records + zone.room ≤ 65536
 
--- why clients aren't settled with a zone: its journal is told, or else they first differ from it where the mismatch says
+-- why clients aren't settled with a zone: its journal is unrecorded, or else they first differ from it where the mismatch says
 abbrev pub IsUnsettled : ZoneState → List Client → Unsettled → Type 0
 IsUnsettled zone clients unsettled.NotKept = ¬ HasKeptJournal zone
 IsUnsettled zone clients (unsettled.Mismatch mismatch) = HasKeptJournal zone × IsFirstMismatch zone.records clients mismatch

@@ -17,8 +17,8 @@ mod bulk;
 use crate::error::ClientError;
 use crate::making::{of_client, retry_while_moving};
 use crate::receipts::Receipts;
-use crate::telling::{Telling, Untold};
-use frame_core::{Address, ClientNo, FrameNo, PageFlags, Record, Told, WordNo};
+use crate::telling::{NoSlip, Telling};
+use frame_core::{Address, ClientNo, FrameNo, GhostList, PageFlags, Record, WordNo};
 use hand_core::Slip;
 use round_core::{Keeping, KeptZone};
 use std::alloc::{AllocError, Global};
@@ -30,8 +30,8 @@ use zone_core::{ClientCall, ZoneAnswer, ZoneCall, ZoneError};
 /// Makes calls of a shared zone under one number, and has a receipt for each call that was accepted, its record, or one for each word
 /// of a call that reads or writes several.
 ///
-/// `T` says where the receipts go. Those of a `Client` are kept in a list that grows with each call. Those of a `ToldClient` are
-/// told: contracts see the same list, and no memory has it, so such a client can make calls for ever.
+/// `T` says where the receipts go. Those of a `Client` are kept in a list that grows with each call. Those of an `UnrecordedClient`
+/// exist in the proofs alone, so such a client can make calls for ever.
 ///
 /// Each call takes the memory for its receipts first, so the error `Memory` comes before any refusal of the zone. Each call says
 /// what the zone may refuse it as. A call that isn't accepted leaves the client as it was. A call whose page is moving waits until
@@ -40,15 +40,15 @@ use zone_core::{ClientCall, ZoneAnswer, ZoneCall, ZoneError};
 /// Where `J` says so, the client has the slip of a pair, and each receipt is written on it together with the stub, which is under the
 /// lock of the zone. So what is on the stub are the client's receipts since it has the slip, and nobody else can write on it.
 #[derive(Drop)]
-pub struct Client<J: Telling = Untold, T: Receipts = Vec<Record>> {
+pub struct Client<J: Telling = NoSlip, T: Receipts = Vec<Record>> {
     number: ClientNo,
     receipts: T,
     slip: Option<Slip>,
     of: PhantomData<J>,
 }
 
-/// A client whose receipts are told.
-pub type ToldClient = Client<Untold, Told<Record>>;
+/// A client whose receipts are unrecorded: they exist in the proofs alone.
+pub type UnrecordedClient = Client<NoSlip, GhostList<Record>>;
 
 impl<J: Telling, T: Receipts> Model for Client<J, T> {
     ghost use Rattle.std.specs.Prelude.{◌≡◌};
@@ -88,21 +88,21 @@ impl Client {
     }
 }
 
-impl ToldClient {
-    /// A client that has made no call, and has no slip. Its receipts are told. No call takes memory.
-    pub fn told(number: ClientNo) -> ToldClient
+impl UnrecordedClient {
+    /// A client that has made no call, and has no slip. Its receipts are unrecorded. No call takes memory.
+    pub fn unrecorded(number: ClientNo) -> UnrecordedClient
         ensures { result ≡ record { number = number; receipts = [] } }
     {
         Client {
             number,
-            receipts: Told::nothing(),
+            receipts: GhostList::new(),
             slip: None,
             of: PhantomData,
         }
     }
 }
 
-impl<T: Receipts> Client<Untold, T> {
+impl<T: Receipts> Client<NoSlip, T> {
     /// Gives the client a slip with nothing on it.
     pub fn with_slip<J: Telling>(self, slip: Slip) -> Client<J, T>
         requires pair { J.pair ≡ Some slip.pair }
@@ -135,7 +135,7 @@ impl<J: Telling> Client<J> {
 
 impl<J: Telling, T: Receipts> Client<J, T> {
     /// Takes the slip from the client, if it has one. What is on it are the receipts since the client has had it.
-    pub fn into_parts(self) -> (Client<Untold, T>, Option<Slip>)
+    pub fn into_parts(self) -> (Client<NoSlip, T>, Option<Slip>)
         ensures client { result.0 ≡ self }
         ensures pair { pair_of result.1 ≡ J.pair }
         ensures since { AreSince J.before result.1 self.receipts }

@@ -1,7 +1,7 @@
 //! Clients of a shared zone, each with receipts of its calls that were accepted, and the comparison of receipts with a journal.
 //!
 //! A call whose page is moving waits until the move has ended. Contracts see a client as its number and its receipts. The receipts of
-//! a told client are seen by contracts alone, and take no memory.
+//! an unrecorded client exist in the proofs alone, and take no memory.
 #![tactic(auto)]
 
 mod client;
@@ -11,8 +11,8 @@ mod receipts;
 mod settling;
 mod telling;
 
-pub use client::{Client, ToldClient};
+pub use client::{Client, UnrecordedClient};
 pub use error::ClientError;
 pub use receipts::Receipts;
 pub use settling::{Mismatch, Unsettled, settle_clients};
-pub use telling::{Telling, Untold};
+pub use telling::{NoSlip, Telling};

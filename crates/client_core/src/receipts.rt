@@ -5,10 +5,11 @@ ghost use Rattle.frame_core.specs.declared.record.Record.{Record};
 ghost use Rattle.frame_core.specs.Access.{access_record};
 ghost use Rattle.client_core.specs.Bulk.{records_each};
 
-use frame_core::{Access, Record, Told};
+use frame_core::{Access, GhostList, Record};
 use std::alloc::AllocError;
 
-/// Where the receipts of a client go: into a list, or to contracts alone. Contracts see the same receipts in both.
+/// Where the receipts of a client go: into a list that is kept, or into one that exists in the proofs alone. Contracts see the same
+/// receipts in both.
 pub trait Receipts: Drop {
     /// The receipts, the oldest first.
     ghost items: { Self → List Record };
@@ -60,8 +61,8 @@ impl Receipts for Vec<Record> {
     }
 }
 
-// The receipts are told: no memory has them.
-impl Receipts for Told<Record> {
+// The receipts are unrecorded: no memory has them.
+impl Receipts for GhostList<Record> {
     ghost items = { λ receipts. reverse receipts };
 
     ghost has_room = { λ receipts more. ⊤ };

@@ -104,9 +104,9 @@ fn first_difference(records: &[Record], client: &Client) -> Option<usize>
 }
 
 /// Compares the receipts of each client with its records in the zone's journal: both have to be the same, in the same order. It
-/// takes no memory, and walks over the journal once for each client. A journal that is told can't be compared with anything.
+/// takes no memory, and walks over the journal once for each client. A journal that is unrecorded can't be compared with anything.
 ///
-/// Refused as NotKept where the journal is told, else as the first mismatch.
+/// Refused as NotKept where the journal is unrecorded, else as the first mismatch.
 pub fn settle_clients<I: Ledger, M: Ledger, B: Ledger>(
     zone: &Zone<I, M, B>,
     clients: &[Client],

@@ -12,9 +12,9 @@ pub trait Telling {
 }
 
 /// The client has no slip.
-pub struct Untold;
+pub struct NoSlip;
 
-impl Telling for Untold {
+impl Telling for NoSlip {
     ghost pair = { None };
 
     ghost before = { [] };

@@ -9,7 +9,7 @@ ghost use Rattle.state_core.specs.Access.{access_refusal, value_at, loaded, stor
 ghost use Rattle.state_core.specs.HandingOut.{lowest_run, take_order_refusal, give_order_refusal, block_taken, block_given};
 ghost use Rattle.state_core.specs.Mapping.{map_refusal, map_at_refusal, mapped};
 ghost use Rattle.state_core.specs.Marking.{mark_refusal, unmark_refusal, block_marked, block_unmarked};
-ghost use Rattle.state_core.specs.Opening.{IsOpenable, IsSize, opened_told, opened_with};
+ghost use Rattle.state_core.specs.Opening.{IsOpenable, IsSize, opened_unrecorded, opened_with};
 ghost use Rattle.state_core.specs.Pinning.{pin_refusal, pinned, unpin_refusal, unpinned};
 ghost use Rattle.state_core.specs.Sharing.{share_refusal, shared};
 ghost use Rattle.state_core.specs.Unmapping.{unmap_refusal, unmapped};
@@ -34,14 +34,18 @@ pub extern "C" fn compactd_open(alloc: Global, pool: &mut Pool, page_words: u32,
     ensures open { ¬ (pool.old.zone ≡ None) → result ≡ 52 }
     ensures range { pool.old.zone ≡ None → ¬ (IsPageSize page_words × IsSize blocks) → result ≡ 1 }
     ensures memory { pool.old.zone ≡ None → IsPageSize page_words × IsSize blocks → ¬ (result ≡ 0) → result ≡ 14 }
-    ensures zone { result ≡ 0 → pool.new.zone ≡ Some (opened_told page_words 0 blocks) }
+    ensures zone { result ≡ 0 → pool.new.zone ≡ Some (opened_unrecorded page_words 0 blocks) }
     ensures kept { ¬ (result ≡ 0) → pool.new.zone ≡ pool.old.zone }
 {
     if let Some(zone) = pool.take(alloc) {
         pool.put(alloc, zone);
         return OPEN;
     }
-    opened(pool, alloc, Zone::open_told(alloc, page_words, blocks))
+    opened(
+        pool,
+        alloc,
+        Zone::open_unrecorded(alloc, page_words, blocks),
+    )
 }
 
 /// Opens a closed pool whose zone keeps its journal: each record of it, at most as many as there are places, 1 to 65,536.

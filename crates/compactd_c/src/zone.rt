@@ -11,7 +11,7 @@ ghost use Rattle.state_core.specs.Ending.{committed, ended_as, put_back_to_sourc
 ghost use Rattle.state_core.specs.Isolating.{isolate_refusal, next_state};
 ghost use Rattle.state_core.specs.Looking.{look_of, info_of};
 ghost use Rattle.state_core.specs.Marking.{marked_of};
-ghost use Rattle.state_core.specs.Opening.{IsOpenable, IsSize, opened_told, opened_with};
+ghost use Rattle.state_core.specs.Opening.{IsOpenable, IsSize, opened_unrecorded, opened_with};
 ghost use Rattle.state_core.specs.Packed.{IsPacked};
 ghost use Rattle.state_core.specs.Pairs.{HaveMet, next_pair};
 ghost use Rattle.state_core.specs.Rounds.{round_begun};
@@ -64,15 +64,19 @@ impl Model for Zone {
 }
 
 impl Zone {
-    /// An empty zone whose journal is told: pages of 8 or of 512 words, and 1 to 8 pageblocks.
-    pub(crate) fn open_told(alloc: Global, page_words: u32, blocks: u32) -> Result<Zone, ZoneError>
+    /// An empty zone whose journal is unrecorded: pages of 8 or of 512 words, and 1 to 8 pageblocks.
+    pub(crate) fn open_unrecorded(
+        alloc: Global,
+        page_words: u32,
+        blocks: u32,
+    ) -> Result<Zone, ZoneError>
         ensures range { ¬ (IsPageSize page_words × IsSize blocks) → result ≡ Err ZoneError.Range }
         ensures memory { IsPageSize page_words × IsSize blocks → IfErr result (λ error. error ≡ ZoneError.Memory) }
-        ensures zone { IfOk result (λ zone. zone ≡ opened_told page_words 0 blocks) }
+        ensures zone { IfOk result (λ zone. zone ≡ opened_unrecorded page_words 0 blocks) }
     {
         let kind = match page_words {
-            8 => Kind::Small(BareZone::open_told(alloc, lowest(), blocks)?),
-            512 => Kind::Large(BareZone::open_told(alloc, lowest(), blocks)?),
+            8 => Kind::Small(BareZone::open_unrecorded(alloc, lowest(), blocks)?),
+            512 => Kind::Large(BareZone::open_unrecorded(alloc, lowest(), blocks)?),
             _ => return Err(ZoneError::Range),
         };
         Ok(Zone { kind })

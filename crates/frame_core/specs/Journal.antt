@@ -7,6 +7,6 @@ pub record Journal : Type 0 where
   pub records : List Record
   pub room : ℕ
 
--- how many records a journal that is told has room for
-abbrev pub told_places : ℕ
-told_places = 2 ^ 53
+-- how many records a journal that is unrecorded has room for
+abbrev pub unrecorded_places : ℕ
+unrecorded_places = 2 ^ 53

@@ -5,6 +5,7 @@ pub mod Blocks
 pub mod Ends
 pub mod FixedVec
 pub mod FixedVecLends
+pub mod GhostList
 pub mod History
 pub mod Journal
 pub mod JournalInside
@@ -13,6 +14,5 @@ pub mod Order
 pub mod Page
 pub mod PageFlags
 pub mod Serials
-pub mod Told
 pub mod Truth
 pub mod Words

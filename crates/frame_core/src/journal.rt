@@ -1,22 +1,23 @@
 ghost use Rattle.std.specs.Prelude.{◌≡◌, ◌+◌, ◌<◌, ◌≤◌, [], ◌∷◌, length, reverse, IfOk, IfSome, IsSome, IsTrue, ◌↔◌};
-ghost use Rattle.frame_core.specs.Journal.{told_places};
+ghost use Rattle.frame_core.specs.Journal.{unrecorded_places};
 ghost use Rattle.frame_core.specs.Access.{access_record, with_each};
 
 use crate::access::Access;
 use crate::fixed_vec::FixedVec;
+use crate::ghost_list::GhostList;
 use crate::record::Record;
-use crate::told::Told;
 use std::alloc::{AllocError, Global};
 use std::marker::Model;
 
 /// Records in the order in which they were appended.
 ///
 /// A journal is opened in one of two kinds. One that is kept has memory for all its records, which is taken once, when it is opened.
-/// One that is told keeps the number of them alone: contracts see all records, and no memory has them, so it has room for 2^53
-/// records, more than a machine makes in a hundred years.
+/// One that is unrecorded keeps the number of them alone: the records exist in the proofs alone, so it has room for 2^53, more than a
+/// machine makes in a hundred years.
 #[derive(Drop)]
 pub struct Journal {
-    told: Told<Record>,
+    /// All records, the newest first, for the proofs alone.
+    records: GhostList<Record>,
     /// The records, the oldest first, where they are kept.
     kept: Option<FixedVec<Record>>,
     count: u64,
@@ -29,7 +30,7 @@ impl Model for Journal {
 
     ghost Value = { Seen };
 
-    ghost view = { λ j. record { records = j.told; room = j.places - j.count } };
+    ghost view = { λ j. record { records = j.records; room = j.places - j.count } };
 
     ghost use Rattle.frame_core.specs.JournalInside.{IsInOrder};
 
@@ -45,19 +46,19 @@ impl Journal {
     {
         let kept = FixedVec::with_room(alloc, places as usize)?;
         Ok(Journal {
-            told: Told::nothing(),
+            records: GhostList::new(),
             kept: Some(kept),
             count: 0,
             places: u64::from(places),
         })
     }
 
-    /// An empty journal with room for 2^53 records, which are told. Neither this nor a later call takes memory.
-    pub fn told() -> Journal
-        ensures { result ≡ record { records = []; room = told_places } }
+    /// An empty journal with room for 2^53 records, which is unrecorded. Neither this nor a later call takes memory.
+    pub fn unrecorded() -> Journal
+        ensures { result ≡ record { records = []; room = unrecorded_places } }
     {
         Journal {
-            told: Told::nothing(),
+            records: GhostList::new(),
             kept: None,
             count: 0,
             places: 1 << 53,
@@ -102,7 +103,7 @@ impl Journal {
         ensures records { self.new.records ≡ entry ∷ self.old.records }
         ensures room { self.new.room + 1 ≡ self.old.room }
     {
-        self.told.push(&entry);
+        self.records.push(&entry);
         self.count += 1;
         if let Some(records) = &mut self.kept {
             records.push(entry);
@@ -110,7 +111,7 @@ impl Journal {
     }
 
     /// Appends a record of each of these values, of an access to the words from one on, and takes no memory. There has to be a
-    /// place for each. A journal that is told does nothing for each of them.
+    /// place for each. A journal that is unrecorded does nothing for each of them.
     pub fn push_each(&mut self, access: &Access, from: u16, values: &[u64])
         requires room { length values.now ≤ self.old.room }
         requires words { from + length values.now ≤ 65536 }
@@ -120,7 +121,7 @@ impl Journal {
         if self.kept.is_some() {
             self.keep_each(access, from, values);
         } else {
-            tell_all(&mut self.told, access, from, values);
+            push_all(&mut self.records, access, from, values);
             self.count += values.len() as u64;
         }
     }
@@ -138,12 +139,12 @@ impl Journal {
     }
 }
 
-/// Tells the records of an access to these words.
-fn tell_all(told: &mut Told<Record>, access: &Access, from: u16, values: &[u64])
+/// Puts the records of an access to these words at the front of a list.
+fn push_all(records: &mut GhostList<Record>, access: &Access, from: u16, values: &[u64])
     requires words { from + length values.now ≤ 65536 }
-    ensures { told.new ≡ with_each (access_record access.now) from values.now told.old }
+    ensures { records.new ≡ with_each (access_record access.now) from values.now records.old }
 {
     for offset in 0..values.len() {
-        told.push(&access.record(from + offset as u16, values[offset]));
+        records.push(&access.record(from + offset as u16, values[offset]));
     }
 }

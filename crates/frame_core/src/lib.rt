@@ -6,9 +6,9 @@
 //! words for each frame.
 //!
 //! A journal has a record of each load and store, and of each other accepted call that changes a page, an address, a mark or which
-//! blocks are handed out. It is kept, in memory that is taken once, or it is told: then contracts alone see its records, and it never
-//! fills. They see it as its records, the newest first, and the number of places that are left. What
-//! the records say is defined in `specs/`: in `Access` the records of a call that reads or writes several words; in `History` the
+//! blocks are handed out. It is kept, in memory that is taken once, or it is unrecorded: then its records exist in the
+//! proofs alone, and it never fills. Contracts see a journal as its records, the newest first, and the number of places that are left.
+//! What the records say is defined in `specs/`: in `Access` the records of a call that reads or writes several words; in `History` the
 //! page that an address names, the last value of a word, and pins; in `Moves` the isolated pages; in `Ends` that each page that was
 //! isolated ends once; in `Truth` that loads gave what was stored; in `Blocks` the blocks that are handed out and those that are
 //! marked.
@@ -21,6 +21,7 @@ mod access;
 mod copied;
 mod fixed_vec;
 mod flags;
+mod ghost_list;
 mod hand;
 mod isolated;
 mod journal;
@@ -32,13 +33,13 @@ mod place;
 mod record;
 mod seen;
 mod state;
-mod told;
 mod words;
 
 pub use access::{Access, AccessKind};
 pub use copied::Copied as CopiedOf;
 pub use fixed_vec::FixedVec;
 pub use flags::PageFlags;
+pub use ghost_list::GhostList;
 pub use hand::HandNo;
 pub use isolated::Isolated as IsolatedOf;
 pub use journal::Journal;
@@ -49,7 +50,6 @@ pub use page::Page as PageOf;
 pub use place::{Address, BlockNo, FrameNo, SpaceNo, VPage, ZoneNo, block_of, first_frame};
 pub use record::{Cause, Record};
 pub use state::{FrameState, Serial};
-pub use told::Told;
 pub use words::Words as WordsOf;
 
 /// A word's number in a page of eight words, 0 to 7.

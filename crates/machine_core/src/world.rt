@@ -7,7 +7,7 @@ ghost use Rattle.machine_core.specs.ErrorNumber.{world_number_of};
 ghost use Rattle.state_core.specs.Isolating.{isolate_refusal};
 ghost use Rattle.zone_core.specs.Seats.{seat_full, audit_refusal, fresh_scan_seat, fresh_end_seat};
 ghost use Rattle.state_core.specs.Pairs.{next_pair};
-ghost use Rattle.frame_core.specs.Journal.{told_places};
+ghost use Rattle.frame_core.specs.Journal.{unrecorded_places};
 ghost use Rattle.state_core.specs.Valid.{IsValidZone};
 ghost use Rattle.state_core.specs.Opening.{IsOpenable, IsSize, opened_with};
 ghost use Rattle.std.specs.Result.{result_err};
@@ -120,10 +120,10 @@ impl<const W: usize, I: Ledger, N: Ledger, M: Ledger, B: Ledger> World<W, I, N, 
         Self::around(alloc, blocks, zone, scan, ends)
     }
 
-    /// A world with an empty zone whose journal is told: no memory has its records, and it has room for 2^53 of them.
+    /// A world with an empty zone whose journal is unrecorded: its records exist in the proofs alone, and it has room for 2^53 of them.
     ///
     /// Refused as Range unless there are 1 to 8 pageblocks, else as Memory where there isn't enough.
-    pub fn open_told(
+    pub fn open_unrecorded(
         alloc: Global,
         number: ZoneNo,
         blocks: u32,
@@ -133,10 +133,10 @@ impl<const W: usize, I: Ledger, N: Ledger, M: Ledger, B: Ledger> World<W, I, N, 
         requires size { W ≤ 65536 }
         ensures range { ¬ (IsSize blocks) → result ≡ Err ZoneError.Range }
         ensures memory { IsSize blocks → IfErr result (λ error. error ≡ ZoneError.Memory) }
-        ensures ok { IfOk result (λ world. world ≡ world_opened_with W number blocks told_places) }
+        ensures ok { IfOk result (λ world. world ≡ world_opened_with W number blocks unrecorded_places) }
         ensures orderly { IfOk result (λ world. IsOrderly world) }
     {
-        let (zone, scan, ends) = ZoneOf::open_told(alloc, number, blocks, blanks)?;
+        let (zone, scan, ends) = ZoneOf::open_unrecorded(alloc, number, blocks, blanks)?;
         Self::around(alloc, blocks, zone, scan, ends)
     }
 

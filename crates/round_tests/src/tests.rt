@@ -16,7 +16,7 @@ mod rounds;
 mod scenes;
 mod settling;
 mod tally;
-mod told;
+mod unrecorded;
 
 use beside::Scene;
 use client_core::Client;
@@ -55,7 +55,7 @@ enum Trial<'a> {
     Refuses(&'a [Table], usize),
     Settles,
     RefusesReceipts(&'a [Client]),
-    IsToldAlone,
+    IsUnrecorded,
     Reserves(&'a Case),
     GivesBack,
     /// So many pages are isolated when the gate lets the first thread go.
@@ -74,7 +74,7 @@ impl<Z: Names> Opening<Z> {
             Trial::Refuses(tables, accepted) => self.refuses(rt, tables, accepted),
             Trial::Settles => self.settles(rt),
             Trial::RefusesReceipts(clients) => self.refuses_receipts(rt, clients),
-            Trial::IsToldAlone => self.is_told_alone(rt),
+            Trial::IsUnrecorded => self.is_unrecorded(rt),
             Trial::Reserves(case) => self.reserves(rt, case),
             Trial::GivesBack => self.gives_back(rt),
             Trial::Collects(collector, plan, ahead) => self.collects(rt, collector, plan, ahead),
@@ -82,8 +82,8 @@ impl<Z: Names> Opening<Z> {
     }
 }
 
-/// Opens zone 1, of so many pageblocks, and tries something with it. Its journal has so many places, or is told. The answer is the
-/// client that mapped its pages.
+/// Opens zone 1, of so many pageblocks, and tries something with it. Its journal has so many places, or is unrecorded. The answer is
+/// the client that mapped its pages.
 fn tries_in<
     K: ZoneIdentity + Send + Sync,
     I: Ledger + Send + Sync,

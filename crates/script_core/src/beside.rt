@@ -9,7 +9,7 @@ ghost use Rattle.round_core.specs.Runs.{IsLentBack};
 ghost use Rattle.zone_core.specs.ZoneIdentity.{HasIdentity};
 ghost use Rattle.script_core.specs.Clients.{AreClientAnswers, HasRoomForAnswers, IsClientReply, MayPlay, RunsBeside};
 
-use client_core::{Client, Telling, Untold};
+use client_core::{Client, NoSlip, Telling};
 use hand_core::{Slip, Stub};
 use machine_core::{Options, Refusal, reply_for};
 use round_core::{Keeping, KeptZone, NoGate, Round, RoundError, compact};
@@ -25,7 +25,7 @@ use zone_core::{ClientCall, Seats, Zone};
 
 /// A client with the lines whose calls it makes, and an empty list with room for their answers.
 #[derive(Drop)]
-pub(crate) struct ClientTurn<J: Telling = Untold> {
+pub(crate) struct ClientTurn<J: Telling = NoSlip> {
     pub(crate) client: Client<J>,
     pub(crate) lines: Vec<ClientLine>,
     pub(crate) answers: Vec<Answer>,
@@ -33,7 +33,7 @@ pub(crate) struct ClientTurn<J: Telling = Untold> {
 
 /// The client after its calls, the answers to its lines, and what the round came to.
 #[derive(Drop)]
-pub(crate) struct ClientAndRound<J: Telling = Untold> {
+pub(crate) struct ClientAndRound<J: Telling = NoSlip> {
     pub(crate) client: Client<J>,
     pub(crate) answers: Vec<Answer>,
     pub(crate) round: Result<Round, RoundError>,

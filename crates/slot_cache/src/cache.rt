@@ -35,7 +35,7 @@ impl Cache {
         let first = WordNo::new(0).ok_or(Trouble::Range)?;
         let clock = Clock::new(alloc)?;
         Ok(Cache {
-            zone: BareZone::open_told(alloc, number, BLOCKS)?,
+            zone: BareZone::open_unrecorded(alloc, number, BLOCKS)?,
             clock,
             client,
             first,

@@ -1,6 +1,6 @@
--- The calls that open a zone: with a journal that is kept, or with one that only contracts are told.
+-- The calls that open a zone: with a journal that is kept, or with one that is unrecorded.
 use Rattle.std.specs.Prelude.{ℕ, ◌<◌, ◌≤◌, None, []}
-use Rattle.frame_core.specs.Journal.{told_places}
+use Rattle.frame_core.specs.Journal.{unrecorded_places}
 use Rattle.state_core.specs.ZoneState.{ZoneState}
 use Rattle.std.specs.FinMap as map
 use Rattle.std.specs.FinSet as set
@@ -35,6 +35,6 @@ opened_with size number blocks places = record {
 abbrev pub opened : ℕ → ℕ → ℕ → ZoneState
 opened number blocks places = opened_with 8 number blocks places
 
--- a zone that was just opened with a journal that is told
-abbrev pub opened_told : ℕ → ℕ → ℕ → ZoneState
-opened_told size number blocks = opened_with size number blocks told_places
+-- a zone that was just opened with a journal that is unrecorded
+abbrev pub opened_unrecorded : ℕ → ℕ → ℕ → ZoneState
+opened_unrecorded size number blocks = opened_with size number blocks unrecorded_places

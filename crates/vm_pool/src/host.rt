@@ -76,7 +76,7 @@ pub fn serve<
     requires blanks { AreFor blanks I.name I.parts N.name N.parts M.name M.parts B.name B.parts }
 {
     let number = ZoneNo::new(0)?;
-    let opened = Zone::<I, M, B>::open_told::<N>(alloc, number, BLOCKS, blanks);
+    let opened = Zone::<I, M, B>::open_unrecorded::<N>(alloc, number, BLOCKS, blanks);
     let (zone, scan, ends) = opened.ok()?;
     let shared = SharedZone::<K, I, M, B>::new(zone);
     let mut host = Host::new(shared, Seats { scan, ends }, rounds);

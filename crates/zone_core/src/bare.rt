@@ -6,7 +6,7 @@ ghost use Rattle.state_core.specs.Clear.{BlocksAreApart, BlocksAreClear};
 ghost use Rattle.state_core.specs.Valid.{IsValidZone};
 ghost use Rattle.state_core.specs.Looking.{look_of, info_of};
 ghost use Rattle.state_core.specs.Marking.{marked_of};
-ghost use Rattle.state_core.specs.Opening.{IsOpenable, IsSize, opened_told, opened_with};
+ghost use Rattle.state_core.specs.Opening.{IsOpenable, IsSize, opened_unrecorded, opened_with};
 ghost use Rattle.state_core.specs.Packed.{IsPacked, IsPlacement, unmarked_free, marked_whole, free_runs, left_whole, left_runs, places_now};
 ghost use Rattle.state_core.specs.Swept.{IsSwept};
 ghost use Rattle.state_core.specs.ZoneState.{frame_count, noted, keeps_quiet, is_quiet};
@@ -78,21 +78,25 @@ impl<const W: usize> BareZone<W> {
         Ok(BareZone { tables })
     }
 
-    /// An empty zone whose journal is told, as `open` gives one whose journal is kept. Contracts see each record, and no memory has
-    /// them: the journal has room for 2^53. A zone isolates at most 2^32 - 1 pages in its life.
+    /// An empty zone whose journal is unrecorded, as `open` gives one whose journal is kept. The records exist in the proofs alone, and
+    /// there is room for 2^53. A zone isolates at most 2^32 - 1 pages in its life.
     ///
     /// Refused as Range unless there are 1 to 8 pageblocks, else as Memory where there isn't enough.
-    pub fn open_told(alloc: Global, number: ZoneNo, blocks: u32) -> Result<BareZone<W>, ZoneError>
+    pub fn open_unrecorded(
+        alloc: Global,
+        number: ZoneNo,
+        blocks: u32,
+    ) -> Result<BareZone<W>, ZoneError>
         requires size { W ≤ 65536 }
         ensures range { ¬ (IsSize blocks) → result ≡ Err ZoneError.Range }
         ensures memory { IsSize blocks → IfErr result (λ error. error ≡ ZoneError.Memory) }
-        ensures zone { IfOk result (λ zone. zone ≡ opened_told W number blocks) }
+        ensures zone { IfOk result (λ zone. zone ≡ opened_unrecorded W number blocks) }
         ensures valid { IfOk result (λ zone. IsValidZone zone) }
     {
         if blocks < 1 || blocks > 8 {
             return Err(ZoneError::Range);
         }
-        let tables = ZoneTables::open_told(alloc, number, blocks)?;
+        let tables = ZoneTables::open_unrecorded(alloc, number, blocks)?;
         let tables = boxed(alloc, tables)?;
         Ok(BareZone { tables })
     }

@@ -10,7 +10,7 @@ ghost use Rattle.zone_core.specs.Seats.{fresh_scan_seat, fresh_end_seat};
 ghost use Rattle.state_core.specs.Packed.{IsPacked, IsPlacement, unmarked_free, marked_whole, free_runs, left_whole, left_runs, places_now};
 ghost use Rattle.state_core.specs.Pairs.{HaveMet};
 ghost use Rattle.state_core.specs.Swept.{IsSwept};
-ghost use Rattle.state_core.specs.Opening.{IsOpenable, IsSize, opened_told, opened_with};
+ghost use Rattle.state_core.specs.Opening.{IsOpenable, IsSize, opened_unrecorded, opened_with};
 ghost use Rattle.std.specs.Result.{result_err};
 ghost use Rattle.state_core.specs.Mapping.{map_refusal, map_at_refusal, mapped};
 ghost use Rattle.state_core.specs.Access.{access_refusal, value_at, loaded, stored};
@@ -32,7 +32,7 @@ use std::sync::ledger::{Book, Ledger};
 /// means that the journal has no more places left than pages are moving, since the end of each move needs a place.
 ///
 /// A zone is opened in one of two kinds, and every clause is for both. `open` keeps each record of the journal, in 65,536 places at
-/// most. `open_told` keeps none of them: they exist for contracts alone, and there is room for 2^53.
+/// most. `open_unrecorded` keeps none of them: they exist in the proofs alone, and there is room for 2^53.
 pub struct Zone<const W: usize, I: Ledger, M: Ledger, B: Ledger> {
     pub(crate) bare: BareZone<W>,
     pub(crate) isolated: Book<I>,
@@ -92,11 +92,11 @@ impl<const W: usize, I: Ledger, M: Ledger, B: Ledger> Zone<W, I, M, B> {
         Ok(Self::seated(bare, blanks))
     }
 
-    /// An empty zone whose journal is told, as `open` gives one whose journal is kept. Contracts see each record, and no memory has
-    /// them: the journal has room for 2^53. A zone isolates at most 2^32 - 1 pages in its life.
+    /// An empty zone whose journal is unrecorded, as `open` gives one whose journal is kept. The records exist in the proofs alone, and
+    /// there is room for 2^53. A zone isolates at most 2^32 - 1 pages in its life.
     ///
     /// Refused as Range unless there are 1 to 8 pageblocks, else as Memory where there isn't enough.
-    pub fn open_told<N: Ledger>(
+    pub fn open_unrecorded<N: Ledger>(
         alloc: Global,
         number: ZoneNo,
         blocks: u32,
@@ -106,12 +106,12 @@ impl<const W: usize, I: Ledger, M: Ledger, B: Ledger> Zone<W, I, M, B> {
         requires size { W ≤ 65536 }
         ensures range { ¬ (IsSize blocks) → result ≡ Err ZoneError.Range }
         ensures memory { IsSize blocks → IfErr result (λ error. error ≡ ZoneError.Memory) }
-        ensures zone { IfOk result (λ opening. opening.0 ≡ opened_told W number blocks) }
+        ensures zone { IfOk result (λ opening. opening.0 ≡ opened_unrecorded W number blocks) }
         ensures scan { IfOk result (λ opening. opening.1 ≡ fresh_scan_seat) }
         ensures ends { IfOk result (λ opening. opening.2 ≡ fresh_end_seat) }
         ensures valid { IfOk result (λ opening. IsValidZone opening.0) }
     {
-        let bare = BareZone::open_told(alloc, number, blocks)?;
+        let bare = BareZone::open_unrecorded(alloc, number, blocks)?;
         Ok(Self::seated(bare, blanks))
     }
 

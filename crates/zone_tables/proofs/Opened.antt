@@ -18,7 +18,7 @@ use Rattle.zone_tables.specs.declared.zone.ZoneTables.TheInside.{Inside}
 use Rattle.state_core.specs.declared.placement.Placement.{Placement}
 use Rattle.state_core.specs.declared.placement.Placement.TheVariants.{At, Moving}
 use Rattle.state_core.specs.Opening.{opened_with, IsSize}
-use Rattle.frame_core.specs.Journal.{told_places}
+use Rattle.frame_core.specs.Journal.{unrecorded_places}
 use Rattle.zone_tables.specs.Fits.{state_by}
 use Rattle.zone_tables.specs.Sound.{state_of, IsSound}
 use Rattle.scan_core.specs.Frames.{Frames, all_free, true_at}
@@ -34,7 +34,7 @@ use Rattle.state_core.proofs.Placed.{clash}
 -- the fields of a zone that was just opened
 pub record IsFresh {W : ℕ} (z : Inside W) (number blocks places : ℕ) : Type 0 where
   pub size : IsSize blocks
-  pub few : places ≤ told_places
+  pub few : places ≤ unrecorded_places
   pub number_is : z.number ≡ number
   pub blocks_is : z.blocks ≡ blocks
   pub frames : z.frames ≡ all_free blocks

@@ -2,7 +2,7 @@
 
 ghost use Rattle.std.specs.Prelude.{◌≡◌, ◌+◌, ◌<◌, ◌≤◌, [], length, None, Some, IfOk};
 ghost use Rattle.frame_core.specs.Access.{access_record};
-ghost use Rattle.frame_core.specs.Journal.{told_places};
+ghost use Rattle.frame_core.specs.Journal.{unrecorded_places};
 ghost use Rattle.zone_tables.specs.History.{told, told_each};
 ghost use Rattle.state_core.specs.ZoneState.{keeps_quiet, is_quiet_since};
 
@@ -42,11 +42,11 @@ impl History {
         Ok(Self::begun(journal))
     }
 
-    /// A history with no record and no round, whose journal is told. No call takes memory.
-    pub fn told() -> Self
-        ensures { result ≡ record { records = []; room = told_places; round = None } }
+    /// A history with no record and no round, whose journal is unrecorded. No call takes memory.
+    pub fn unrecorded() -> Self
+        ensures { result ≡ record { records = []; room = unrecorded_places; round = None } }
     {
-        Self::begun(Journal::told())
+        Self::begun(Journal::unrecorded())
     }
 
     /// A history with no round, whose records are those of a journal.

@@ -1,11 +1,11 @@
 ghost use Rattle.std.specs.Prelude.{◌≡◌, ◌<◌, ◌≤◌, ◌*◌, [], None, false, replicate, IfOk, IfErr};
-ghost use Rattle.frame_core.specs.Journal.{told_places};
+ghost use Rattle.frame_core.specs.Journal.{unrecorded_places};
 ghost use Rattle.frame_core.specs.Page.{blank_words};
 ghost use Rattle.scan_core.specs.Frames.{all_free};
 ghost use Rattle.table_core.specs.Tables.{IsBlank};
 ghost use Rattle.zone_tables.specs.Notes.{unused_note};
 ghost use Rattle.state_core.specs.Valid.{IsValidZone};
-ghost use Rattle.state_core.specs.Opening.{IsOpenable, IsSize, opened_told, opened_with};
+ghost use Rattle.state_core.specs.Opening.{IsOpenable, IsSize, opened_unrecorded, opened_with};
 
 use crate::cleared::Cleared;
 use crate::handed_out::HandedOut;
@@ -38,15 +38,19 @@ impl<const W: usize> ZoneTables<W> {
         Self::with_history(alloc, number, blocks, history)
     }
 
-    /// An empty zone whose journal is told, or the error Memory where there isn't enough memory for it. No other call takes memory.
-    pub fn open_told(alloc: Global, number: ZoneNo, blocks: u32) -> Result<ZoneTables<W>, ZoneError>
+    /// An empty zone whose journal is unrecorded, or the error Memory where there isn't enough memory for it. No other call takes memory.
+    pub fn open_unrecorded(
+        alloc: Global,
+        number: ZoneNo,
+        blocks: u32,
+    ) -> Result<ZoneTables<W>, ZoneError>
         requires open { IsSize blocks }
         requires size { W ≤ 65536 }
         ensures memory { IfErr result (λ error. error ≡ ZoneError.Memory) }
-        ensures ok { IfOk result (λ zone. zone ≡ opened_told W number blocks) }
+        ensures ok { IfOk result (λ zone. zone ≡ opened_unrecorded W number blocks) }
         ensures valid { IfOk result (λ zone. IsValidZone zone) }
     {
-        Self::with_history(alloc, number, blocks, History::told())
+        Self::with_history(alloc, number, blocks, History::unrecorded())
     }
 
     /// An empty zone with a history that has no record yet, or the error Memory where there isn't enough memory for it.
@@ -59,7 +63,7 @@ impl<const W: usize> ZoneTables<W> {
         requires open { IsSize blocks }
         requires size { W ≤ 65536 }
         requires none { history ≡ record { records = []; room = history.room; round = None } }
-        requires places { history.room ≤ told_places }
+        requires places { history.room ≤ unrecorded_places }
         ensures memory { IfErr result (λ error. error ≡ ZoneError.Memory) }
         ensures ok { IfOk result (λ zone. zone ≡ opened_with W number blocks history.room) }
         ensures valid { IfOk result (λ zone. IsValidZone zone) }

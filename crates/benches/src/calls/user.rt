@@ -14,7 +14,7 @@ const KEPT_WRITES: u32 = 127;
 /// What becomes of the records of a zone's journal.
 #[derive(Clone, Copy)]
 pub enum Journal {
-    Told,
+    Unrecorded,
     Kept,
 }
 
@@ -97,7 +97,7 @@ impl Journal {
     {
         let number = ZoneNo::new(0)?;
         let opened = match self {
-            Journal::Told => BareZone::open_told(alloc, number, blocks),
+            Journal::Unrecorded => BareZone::open_unrecorded(alloc, number, blocks),
             Journal::Kept => BareZone::open(alloc, number, blocks, PLACES),
         };
         opened.ok()

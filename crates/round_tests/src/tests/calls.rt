@@ -2,7 +2,7 @@
 
 use super::names::{Names, Shared};
 use bitflags::Flags;
-use client_core::{Client, ClientError, Receipts, Untold};
+use client_core::{Client, ClientError, NoSlip, Receipts};
 use frame_core::{Address, ClientNo, FrameNo, PageFlags, SpaceNo, VPage, WordNo};
 use std::process::Abort;
 use std::sync::Wait;
@@ -96,7 +96,7 @@ impl<Z: Names> Shared<Z> {
     pub fn made<T: Receipts, R: Wait + Abort>(
         &self,
         rt: &R,
-        client: &mut Client<Untold, T>,
+        client: &mut Client<NoSlip, T>,
         call: Call,
     ) -> Answer {
         let zone = &self.zone;
@@ -135,7 +135,7 @@ impl<Z: Names> Shared<Z> {
     pub fn play<T: Receipts, R: Wait + Abort>(
         &self,
         rt: &R,
-        client: &mut Client<Untold, T>,
+        client: &mut Client<NoSlip, T>,
         table: &[(Call, Answer)],
     ) {
         for (call, wanted) in table {

@@ -21,8 +21,8 @@ pub enum Job {
     UsesWords(u32, u32),
     /// Writes all words of page 0 and reads them, 100 times. What is written is this number or up to 99 more.
     WritesAndReads(u64),
-    /// Uses all words of so many pages, with receipts that are told.
-    UsesPagesTold(u32),
+    /// Uses all words of so many pages, with receipts that are unrecorded.
+    UsesPagesUnrecorded(u32),
 }
 
 /// A store or a load of one of two words of one of 64 pages, drawn from a seed. A load answers what was stored there last.
@@ -108,7 +108,7 @@ impl<Z: Names> Shared<Z> {
             Job::StoresAndLoads(at, word) => self.store_and_load(rt, client, at, word),
             Job::UsesWords(first, second) => self.use_words(rt, client, first, second),
             Job::WritesAndReads(own) => self.write_and_read(rt, client, own),
-            Job::UsesPagesTold(pages) => self.use_pages_told(rt, pages),
+            Job::UsesPagesUnrecorded(pages) => self.use_pages_unrecorded(rt, pages),
         }
     }
 }

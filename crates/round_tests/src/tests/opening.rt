@@ -25,7 +25,7 @@ where
     pub keeper: Client,
 }
 
-/// A zone with so many places in its journal, or with a journal that is told.
+/// A zone with so many places in its journal, or with a journal that is unrecorded.
 fn opened<I: Ledger, N: Ledger, M: Ledger, B: Ledger>(
     alloc: Global,
     number: ZoneNo,
@@ -38,11 +38,11 @@ fn opened<I: Ledger, N: Ledger, M: Ledger, B: Ledger>(
 {
     match places {
         Some(places) => Zone::<I, M, B>::open::<N>(alloc, number, blocks, places, blanks),
-        None => Zone::<I, M, B>::open_told::<N>(alloc, number, blocks, blanks),
+        None => Zone::<I, M, B>::open_unrecorded::<N>(alloc, number, blocks, blanks),
     }
 }
 
-/// Opens zone 1, of so many pageblocks. Its journal has so many places, or is told.
+/// Opens zone 1, of so many pageblocks. Its journal has so many places, or is unrecorded.
 pub fn open_zone<
     K: ZoneIdentity + Send + Sync,
     I: Ledger + Send + Sync,

@@ -8,8 +8,8 @@ pub invariant_of-self : goal.invariant_of-self
 invariant_of-self c =
     let j = c.self.inside in
     let of = access_record c.args.access.now in
-    let told = c.tell_all.ensures in
-    let count : length c.tell_all.new.told ≡ length c.args.values.now + length j.told = ap length told ∙ length_each of c.args.from c.args.values.now j.told in
+    let records = c.push_all.ensures in
+    let count : length c.push_all.new.records ≡ length c.args.values.now + length j.records = ap length records ∙ length_each of c.args.from c.args.values.now j.records in
     let room = ap (λ (seen : Journal). seen.room) c.self.view_is in
     record {
       counted = omega (arith, c.self.invariant.counted, count);

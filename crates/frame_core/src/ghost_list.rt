@@ -9,33 +9,33 @@ enum Past<T> {
     Same(Seen<Seen<Past<T>>>),
 }
 
-/// A list of items, the newest first, that only contracts see. It has no bytes.
+/// A list of items, the newest first, that exists in the proofs alone. It has no bytes.
 ///
-/// What it tells rests on the clauses of the functions below alone: no memory fixes it. A proof by hand of a function that handles
-/// one could give it any items, so there may be none in a crate that uses this one. And since nothing is kept, no program can
-/// compare the list with anything: only a proof can.
+/// Which items it has rests on the clauses of the functions below alone: no memory fixes it. A proof by hand of a function that
+/// handles one could give it any items, so there may be none in a crate that uses this one. And since nothing is kept, no program
+/// can compare the list with anything: only a proof can.
 #[derive(Drop)]
-pub struct Told<T> {
+pub struct GhostList<T> {
     past: Seen<Past<T>>,
 }
 
-impl<T> Model for Told<T> {
+impl<T> Model for GhostList<T> {
     ghost use Rattle.std.specs.Prelude.{List};
-    ghost use Rattle.frame_core.specs.Told.{items_of};
+    ghost use Rattle.frame_core.specs.GhostList.{items_of};
 
     ghost Value = { List T };
 
-    ghost view = { λ t. items_of t.past.value };
+    ghost view = { λ list. items_of list.past.value };
 }
 
-impl<T> Told<T> {
+impl<T> GhostList<T> {
     ghost use Rattle.std.specs.Prelude.{◌≡◌, [], ◌∷◌};
 
     /// A list with no items.
-    pub fn nothing() -> Told<T>
+    pub fn new() -> GhostList<T>
         ensures { result ≡ [] }
     {
-        Told {
+        GhostList {
             past: Seen::of(&Past::Nothing),
         }
     }
@@ -44,15 +44,15 @@ impl<T> Told<T> {
     pub fn push(&mut self, item: &T)
         ensures { self.new ≡ item.now ∷ self.old }
     {
-        let Told { past } = self.again();
+        let GhostList { past } = self.again();
         self.past = Seen::of(&Past::After(Seen::of(item), past));
     }
 
     /// The same list once more.
-    pub fn again(&self) -> Told<T>
+    pub fn again(&self) -> GhostList<T>
         ensures { result ≡ self.now }
     {
-        Told {
+        GhostList {
             past: Seen::of(&Past::Same(Seen::of(&self.past))),
         }
     }

@@ -1,6 +1,6 @@
--- The items of a list that is told.
+-- The items of a list that exists in the proofs alone.
 use Rattle.std.specs.Prelude.{List, [], ◌∷◌}
-use Rattle.frame_core.specs.declared.told.Past.{Past, Nothing, After', Same'}
+use Rattle.frame_core.specs.declared.ghost_list.Past.{Past, Nothing, After', Same'}
 
 -- the items of a list, by how it came to be, the newest first
 abbrev pub items_of : {T : Type 0} → Past T → List T

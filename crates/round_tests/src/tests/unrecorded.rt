@@ -9,19 +9,19 @@ use client_core::{Client, Unsettled};
 use std::process::Abort;
 use std::sync::Wait;
 
-/// A round moves 16 pages beside a client whose receipts are told.
-const TOLD: Scene = Scene {
+/// A round moves 16 pages beside a client whose receipts are unrecorded.
+const UNRECORDED: Scene = Scene {
     pages: 16,
-    jobs: &[Job::UsesPagesTold(16)],
+    jobs: &[Job::UsesPagesUnrecorded(16)],
     counts: (16, 16, 0),
     ..TWO_PAGES
 };
 
 impl<Z: Names> Shared<Z> {
-    /// A client whose receipts are told stores to each of so many pages and loads what was stored, and does so with all words of the
-    /// page, 50 times.
-    pub fn use_pages_told<R: Wait + Abort>(&self, rt: &R, pages: u32) {
-        let mut client = Client::told(client_number(rt, 1));
+    /// A client whose receipts are unrecorded stores to each of so many pages and loads what was stored, and does so with all words of
+    /// the page, 50 times.
+    pub fn use_pages_unrecorded<R: Wait + Abort>(&self, rt: &R, pages: u32) {
+        let mut client = Client::unrecorded(client_number(rt, 1));
         for value in 0..50 {
             for at in 0..pages {
                 let table = [
@@ -37,10 +37,10 @@ impl<Z: Names> Shared<Z> {
 }
 
 impl<Z: Names> Opening<Z> {
-    /// A zone whose journal is told is used by a client whose receipts are told, while a round moves its pages. There is nothing to
-    /// settle.
-    pub fn is_told_alone<R: Runtime>(&mut self, rt: &R) {
-        self.played(rt, &TOLD);
+    /// A zone whose journal is unrecorded is used by a client whose receipts are unrecorded, while a round moves its pages. There is
+    /// nothing to settle.
+    pub fn is_unrecorded<R: Runtime>(&mut self, rt: &R) {
+        self.played(rt, &UNRECORDED);
         // Each page was mapped and moved, and each word of a call in bulk has its record.
         let (_info, records) = self.told(rt);
         assert!(rt; records == 16 * (1 + 2 + 50 * (1 + 1 + 8 + 8)));
@@ -54,6 +54,6 @@ impl<Z: Names> Opening<Z> {
 }
 
 #[test]
-fn a_told_client_finds_what_it_stored_in_a_told_zone(rt: HostRuntime) {
-    tries(&rt, 1, None, Trial::IsToldAlone);
+fn an_unrecorded_client_finds_what_it_stored_in_an_unrecorded_zone(rt: HostRuntime) {
+    tries(&rt, 1, None, Trial::IsUnrecorded);
 }

@@ -1,5 +1,5 @@
 use Rattle.std.proofs.Common.{rules}
-use Rattle.frame_core.proofs.told.Told.push.Goals as goal
+use Rattle.frame_core.proofs.ghost_list.GhostList.push.Goals as goal
 
 pub returns : goal.returns
 returns g c = search rules
