@@ -2,9 +2,10 @@
 
 use crate::file::WORDS;
 use crate::trouble::Trouble;
-use frame_core::{Address, ClientNo, FrameNo, Order, SpaceNo, VPage, WordOf, ZoneNo};
 use std::alloc::Global;
-use zone_core::{BareZone, Look, ZoneError};
+use zone_core::{
+    Address, BareZone, ClientNo, FrameNo, Look, Order, SpaceNo, VPage, WordOf, ZoneError, ZoneNo,
+};
 
 const PAGEBLOCKS: u32 = 8;
 

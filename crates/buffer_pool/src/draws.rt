@@ -4,9 +4,9 @@ ghost use Rattle.std.specs.Prelude.{◌<◌, IfOk};
 
 use crate::file::{BLOCKS, WORDS};
 use crate::trouble::Trouble;
-use frame_core::{VPage, WordOf};
 use rand_core::Rng;
 use rand_pcg::Pcg32;
+use zone_core::{VPage, WordOf};
 
 #[derive(Drop)]
 pub struct Draws {

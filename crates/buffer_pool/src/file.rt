@@ -1,6 +1,6 @@
 //! The file whose blocks the buffers hold: what each block should contain.
 
-use frame_core::VPage;
+use zone_core::VPage;
 
 /// The words of a block: 4 KiB.
 pub const WORDS: usize = 512;

@@ -5,8 +5,8 @@ use crate::draws::Draws;
 use crate::file::{BLOCKS, File};
 use crate::tally::Tally;
 use crate::trouble::Trouble;
-use frame_core::{FrameNo, VPage};
 use std::alloc::Global;
+use zone_core::{FrameNo, VPage};
 
 /// How many blocks have no buffer, once the pool is filled.
 const OUTSIDE: u32 = 100;

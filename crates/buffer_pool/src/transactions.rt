@@ -1,8 +1,7 @@
 use crate::file::{WORDS, word_of};
 use crate::pool::Pool;
 use crate::trouble::Trouble;
-use frame_core::{VPage, WordOf};
-use zone_core::ZoneError;
+use zone_core::{VPage, WordOf, ZoneError};
 
 impl Pool {
     /// Makes so many transactions.

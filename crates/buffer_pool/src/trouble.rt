@@ -1,7 +1,6 @@
-use frame_core::VPage;
 use std::alloc::AllocFailed;
 use thiserror::Error;
-use zone_core::ZoneError;
+use zone_core::{VPage, ZoneError};
 
 /// What can go wrong.
 #[derive(Debug, Drop, Error)]

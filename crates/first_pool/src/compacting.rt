@@ -3,13 +3,12 @@ ghost use Rattle.zone_core.specs.Books.{AreFor};
 use crate::numbers::{address, client, frame, word};
 use anyhow::{Context, Result};
 use bitflags::Flags;
-use frame_core::{Address, BlockNo, FrameNo, PageFlags, ZoneNo};
 use round_core::{NoGate, compact_alone};
 use std::alloc::Global;
 use std::sync::Wait;
 use std::sync::ledger::Ledger;
 use std::thread::Threads;
-use zone_core::{Blanks, Seats, Zone};
+use zone_core::{Address, Blanks, BlockNo, FrameNo, PageFlags, Seats, Zone, ZoneNo};
 
 /// Opens a zone of so many pageblocks, with room for 1,000 records in its journal. The type parameters are the name of this opening:
 /// no seat of another one fits the zone.

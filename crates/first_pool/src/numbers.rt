@@ -1,7 +1,7 @@
 //! Numbers in their ranges.
 
 use anyhow::{Context, Result};
-use frame_core::{Address, ClientNo, FrameNo, SpaceNo, VPage, WordNo};
+use zone_core::{Address, ClientNo, FrameNo, SpaceNo, VPage, WordNo};
 
 pub fn client(number: u32) -> Result<ClientNo> {
     ClientNo::new(number).context("no client has this number")

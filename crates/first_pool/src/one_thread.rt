@@ -2,9 +2,8 @@
 
 use crate::numbers::{address, client, frame, word};
 use anyhow::{Context, Result};
-use frame_core::{FrameNo, Order, ZoneNo};
 use std::alloc::Global;
-use zone_core::BareZone;
+use zone_core::{BareZone, FrameNo, Order, ZoneNo};
 
 /// Moves two pages into one pageblock, by a round on this thread, and takes the other pageblock. The answers are the word that was
 /// stored before the round, loaded after it, and the first frame of the pageblock.

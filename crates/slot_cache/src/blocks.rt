@@ -2,8 +2,7 @@
 
 use crate::cache::Cache;
 use crate::trouble::Trouble;
-use frame_core::{FrameNo, Order};
-use zone_core::ZoneError;
+use zone_core::{FrameNo, Order, ZoneError};
 
 /// How many frames the cache leaves free when a pageblock is asked for: one in eight more than a pageblock has.
 const ROOM: u32 = 576;

@@ -7,9 +7,8 @@ use crate::clock::Clock;
 use crate::keys::{KEYS, address_of};
 use crate::object::{Object, length_of, object_of};
 use crate::trouble::Trouble;
-use frame_core::{ClientNo, WordNo, ZoneNo};
 use std::alloc::Global;
-use zone_core::{BareZone, ZoneError};
+use zone_core::{BareZone, ClientNo, WordNo, ZoneError, ZoneNo};
 
 const BLOCKS: u32 = 8;
 

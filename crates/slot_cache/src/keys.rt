@@ -1,9 +1,9 @@
 //! The keys that are requested.
 
 use crate::trouble::Trouble;
-use frame_core::{Address, SpaceNo, VPage};
 use rand_core::Rng;
 use rand_pcg::Pcg32;
+use zone_core::{Address, SpaceNo, VPage};
 
 /// One more than the highest key.
 pub const KEYS: u32 = 32768;

@@ -4,8 +4,8 @@ use crate::blocks::Rounds;
 use crate::cache::Cache;
 use crate::keys::Keys;
 use crate::trouble::Trouble;
-use frame_core::FrameNo;
 use std::alloc::Global;
+use zone_core::FrameNo;
 
 /// How often a pageblock is asked for.
 const ASKED: u32 = 1000;

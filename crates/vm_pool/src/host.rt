@@ -6,7 +6,6 @@ ghost use Rattle.zone_core.specs.Books.{AreFor};
 use crate::guest::Guest;
 use crate::small_pages::{SmallPages, count_kept};
 use arrayvec::ArrayVec;
-use frame_core::{Order, ZoneNo};
 use huge_core::{Collector, Stop, give};
 use rand_core::Rng;
 use rand_pcg::Pcg32;
@@ -15,7 +14,7 @@ use std::alloc::Global;
 use std::sync::Wait;
 use std::sync::ledger::Ledger;
 use std::thread::Threads;
-use zone_core::{Blanks, Seats, Zone};
+use zone_core::{Blanks, Order, Seats, Zone, ZoneNo};
 
 const BLOCKS: u32 = 8;
 

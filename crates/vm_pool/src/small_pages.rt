@@ -1,12 +1,12 @@
 //! The small pages of a host, which stand between its huge ones.
 
 use bitflags::Flags;
-use frame_core::{Address, ClientNo, PageFlags, SpaceNo, VPage, WordNo};
 use rand_core::Rng;
 use rand_pcg::Pcg32;
 use round_core::{SharedZone, ZoneIdentity};
 use std::sync::Wait;
 use std::sync::ledger::Ledger;
+use zone_core::{Address, ClientNo, PageFlags, SpaceNo, VPage, WordNo};
 
 /// The virtual pages of the space that they stand in.
 const VPAGES: u32 = 4096;

@@ -35,6 +35,10 @@ mod zone;
 
 pub use agreement::{calls_agree, contents_agree, looks_agree, moves_agree, rounds_agree};
 pub use bare::BareZone;
+pub use frame_core::{
+    Address, BlockNo, Cause, ClientNo, Copied, CopiedOf, FrameNo, Isolated, IsolatedOf, Journal,
+    Order, PageFlags, PageNo, Record, Serial, SpaceNo, VPage, WordNo, WordOf, ZoneNo,
+};
 pub use one_thread::compact;
 pub use outcome::{comes_to_by_hand, each_step_keeps, packs_a_calm_zone};
 pub use seats::{Answered, Blanks, EndSeat, ScanSeat, Seats};
