@@ -1,25 +1,28 @@
-"""README.md and docs/*.md name what is there, and the README shows what is so.
+"""What documents name is there, they agree on minutes and limits, and README.md shows what is so.
 
-Each path in backticks is a file or a folder of the repository, or a guide of the kit; a path in a folder `out` is one
-that a build makes. Each word of an identifier in backticks stands in some file of `src` or `specs`, of checks/, bench/,
-launch/, c/ or bindings/, or in crates.txt, and so does each name with an underscore in a block of lines. The parts of
-`Type::function` stand in one file. Left out are patterns such as `x_refusal` and `IsX`. Links lead to files and
+Documents are README.md, docs/*.md and the README.md of crates. Each path in backticks is a file or a folder of the repository, or a
+guide of the kit; a path in a folder `out` is one that a build makes. Each word of an identifier in backticks stands in some file of
+`src` or `specs`, of checks/, bench/, launch/, c/ or bindings/, or in crates.txt, and so does each name with an underscore in a block of
+lines. The parts of `Type::function` stand in one file. Left out are patterns such as `x_refusal` and `IsX`. Links lead to files and
 headings that are there.
 
-In the README lines that begin with `$ ` are commands, and the lines below each are what it writes, where `..` stands
-for lines left out. A block ```script is a script, with its replies below. A block ```rust has lines of the file that
-the paragraph above it names, in their order."""
+A fact of FACTS has one number, wherever a document or a header for C states it.
+
+In README.md lines that begin with `$ ` are commands, and the lines below each are what it writes, where `..` stands for lines left
+out. Blocks of C and C++ compile. In each README a block of Rattle, Rust or a script has lines of the file that the paragraph above it
+names, in their order."""
 
 import fnmatch
 import itertools
 import os
 import pathlib
 import re
+import shutil
 import signal
 import subprocess
 import textwrap
 
-import manual
+import c_programs
 import runs
 from launch import program
 
@@ -27,13 +30,41 @@ SECONDS = 120  # that a command of the README may take
 LEFT_OUT = (".git", "out", "__pycache__")
 SOURCES = ["crates/*/src/*", "crates/*/specs/*", "crates.txt", "checks/*", "bench/*", "launch/*", "examples/*", "c/*", "bindings/*"]
 TRIED = ("script", "replies", "fault", "rust")
+LINES_OF_A_FILE = ("script", "rust")
 WORD = re.compile(r"[A-Za-z_]\w+")
 LONG_NAME = re.compile(r"[A-Za-z]\w*_\w+")
 NAME = re.compile(r"[A-Za-z_]\w*(?:::[A-Za-z_]\w*)+")
 PATH = re.compile(r"[\w.*-]*/[\w./*-]*|[\w*-]+\.[a-z]+")
 PATTERN = re.compile(r"(^|_)x(_|$)|[a-z]X$")
-FENCED = re.compile(r"^```(\w*).*\n((?:(?!```).*\n)*)```$", re.M)
+FENCED = re.compile(r"^```(\S*).*\n((?:(?!```).*\n)*)```$", re.M)
 INDENTED = re.compile(r"(?:^    .*\n)+", re.M)
+COMPILERS = {
+    "c": (["gcc", *c_programs.C89, "-x", "c"], "#include <compactd.h>\nint main(void)\n{{\n{}return 0;\n}}\n"),
+    "c++": (["g++", *c_programs.CXX, "-x", "c++"], "#include <compactd.hpp>\nint main()\n{{\n{}}}\n"),
+}
+
+WORDS = "zero one two three four five six seven eight nine ten eleven twelve thirteen fourteen fifteen sixteen".split()
+NUMBERS = {word: str(number) for number, word in enumerate(WORDS)}
+N = rf"(\d[\d,]*|{'|'.join(WORDS)})"
+# From a command to the next that its paragraph names.
+ON = r"`(?:(?!`\./|`bash|\n\n|\n\|).)*?"
+# Facts that several documents state, and how: a space is any space, also with the marks of a list, a quote or a comment.
+FACTS = {
+    "the processor minutes of ./prove": rf"`\./prove(?: --anew)?{ON}{N}(?: processor minutes|, and \d+ by the clock)",
+    "the minutes of ./prove by the clock": rf"`\./prove(?: --anew)?{ON}{N}(?: minutes)? by the clock",
+    "the processor minutes of ./prove --c": rf"`\./prove --c{ON}{N} processor minutes",
+    "the processor minutes of the gate": rf"`bash \.ci/run{ON}{N} processor minutes|\| all \| {N}",
+    "the frames of a pageblock": rf"pageblocks? (?:of|has|have) {N} frames",
+    "the pageblocks of a pool": rf"1 to {N} pageblocks|{N} pageblocks of 512|Pageblocks of a zone \| {N}",
+    "the memory of a pool": rf"{N} MiB (?:with|of) (?:pages of 4 KiB|4 KiB pages)",
+    "the spaces of a pool": rf"{N} spaces of|Spaces \| {N}",
+    "the virtual pages of a space": rf"(?:spaces|,) of {N} virtual pages",
+    "the addresses of a page": rf"(?:up to|1 to) {N} addresses|Addresses of a page \| {N}",
+    "the pins of a page": r"(\d\d+) pins|Pins of a page \| (\d+)",
+    "the records of a kept journal": rf"(?:at most|up to|1 to) {N} (?:records|places)|Places of the journal \| {N}",
+    "the isolations of a pool's life": r"2\^(\d+) - 1 (?:isolations|isolated|pages)",
+    "the recorded calls of a pool's life": r"2\^(\d+) (?:recorded )?(?:calls|records|places)",
+}
 
 
 class Tree:
@@ -158,16 +189,23 @@ def wrong_command(command, lines):
     return None if re.fullmatch(wanted, found) else f"it writes\n{found}and not what is shown"
 
 
-def missing_lines(text):
-    """The lines of blocks of Rattle that don't stand in the file that is named above."""
-    for block in re.finditer(FENCED, text):
-        if block[1] != "rust":
+def missing_lines(page):
+    """The lines of blocks of Rattle, Rust and scripts that don't stand in the file that is named above."""
+    text = page.read_text()
+    for block in FENCED.finditer(text):
+        if block[1] not in LINES_OF_A_FILE:
             continue
-        named = re.findall(r"`([^`\n]+\.rt)`", text[: block.start()].rstrip().split("\n\n")[-1])
-        if not named or not (runs.ROOT / named[-1]).is_file():
+        file = file_named_last(page, text[: block.start()].rstrip().split("\n\n")[-1])
+        if not file:
             yield f"no file is named above the lines\n{block[2]}"
-        elif not stand_in_order(block[2].splitlines(), (runs.ROOT / named[-1]).read_text().splitlines()):
-            yield f"these lines don't stand in {named[-1]} in this order:\n{block[2]}"
+        elif not stand_in_order(block[2].splitlines(), file.read_text().splitlines()):
+            yield f"these lines don't stand in {file.relative_to(runs.ROOT)} in this order:\n{block[2]}"
+
+
+def file_named_last(page, paragraph):
+    """The file that a paragraph names last, by its path from the page's folder or from the top."""
+    named = (folder / path for path in re.findall(r"`([^`\n]+)`", paragraph) for folder in (page.parent, runs.ROOT))
+    return next((file for file in reversed([*named]) if file.is_file()), None)
 
 
 def stand_in_order(lines, file):
@@ -188,21 +226,53 @@ def first_wrong_command(commands):
     return [*itertools.islice(tried, 1)]
 
 
+def wrong_code(text):
+    """What compilers say of the blocks of C and C++. Where a compiler isn't there, its blocks aren't tried."""
+    for kind, lines in FENCED.findall(text):
+        command, frame = COMPILERS.get(kind, ([None], ""))
+        if command[0] and shutil.which(command[0]):
+            words = [*command, "-fsyntax-only", f"-I{c_programs.HEADERS}", "-"]
+            tried = runs.finished([str(word) for word in words], input=frame.format(lines).encode())
+            if tried.status != 0:
+                yield f"{command[0]} refuses the lines\n{lines}{tried.error.decode(errors='replace')}"
+
+
+# What documents agree on.
+
+
+def stated(pattern, page):
+    """Where a page states a fact, and the number there."""
+    text = page.read_text()
+    for found in re.finditer(pattern.replace(" ", r"[\s*>]+"), text, re.DOTALL):
+        number = found[found.lastindex].replace(",", "")
+        line = text.count("\n", 0, found.start(found.lastindex)) + 1
+        yield f"{page.relative_to(runs.ROOT)}:{line}", NUMBERS.get(number, number)
+
+
+def contradictions(pages):
+    """The facts of which pages state several numbers, or which none states."""
+    for fact, pattern in FACTS.items():
+        places = [place for page in pages for place in stated(pattern, page)]
+        if len({number for _, number in places}) != 1:
+            yield f"{fact}: " + (", ".join(f"{number} at {place}" for place, number in places) or "no document states them")
+
+
 def main():
-    tree, readme = Tree(), runs.ROOT / "README.md"
-    pages, text = [readme, *sorted((runs.ROOT / "docs").glob("*.md"))], readme.read_text()
-    faults = [f"{page.name}: {name}" for page in pages for name in (*missing_names(page, tree), *missing_links(page))]
-    commands, examples = [*shown_commands(text)], manual.examples(text)
-    faults += [f"README.md: {wrong}" for wrong in (*first_wrong_command(commands), *missing_lines(text))]
-    if not commands:
-        faults.append("README.md shows no command")
+    tree, readme, headers = Tree(), runs.ROOT / "README.md", sorted(c_programs.HEADERS.glob("*.h*"))
+    readmes = [readme, *sorted((runs.ROOT / "crates").glob("*/README.md"))]
+    pages, text = [*readmes, *sorted((runs.ROOT / "docs").glob("*.md"))], readme.read_text()
+    wrong = {page: [*missing_names(page, tree), *missing_links(page)] for page in pages}
+    for page in readmes:
+        wrong[page] += missing_lines(page)
+    commands = [*shown_commands(text)]
+    wrong[readme] += [*first_wrong_command(commands), *wrong_code(text)] if commands else ["it shows no command"]
+    faults = [f"{page.relative_to(runs.ROOT)}: {fault}" for page, found in wrong.items() for fault in found]
+    faults += contradictions([*pages, *headers])
     if faults:
         raise runs.Failed("\n".join(faults))
-    for example in examples:
-        manual.compare(example, "README.md")
-    blocks = [kind for kind, _ in FENCED.findall(text)].count("rust")
-    shown = f"{len(commands)} commands, {len(examples)} scripts and {blocks} blocks of Rattle"
-    return f"what {len(pages)} documents name is there, and README.md shows {shown} as they are"
+    blocks = [kind for kind, _ in FENCED.findall(text)]
+    shown = f"{len(commands)} commands and {len(blocks)} blocks"
+    return f"what {len(pages)} documents name is there, {len(FACTS)} facts have one number, and README.md shows {shown} as they are"
 
 
 if __name__ == "__main__":

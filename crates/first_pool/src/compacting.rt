@@ -1,17 +1,16 @@
 ghost use Rattle.zone_core.specs.Books.{AreFor};
 
-use crate::numbers::{address, client, frame, word};
-use anyhow::{Context, Result};
+use crate::numbers::{address, client, frame, word, zone_number};
+use anyhow::Result;
 use bitflags::Flags;
 use round_core::{NoGate, compact_alone};
 use std::alloc::Global;
 use std::sync::Wait;
 use std::sync::ledger::Ledger;
 use std::thread::Threads;
-use zone_core::{Address, Blanks, BlockNo, FrameNo, PageFlags, Seats, Zone, ZoneNo};
+use zone_core::{Address, Blanks, BlockNo, FrameNo, PageFlags, Seats, Zone};
 
-/// Opens a zone of so many pageblocks, with room for 1,000 records in its journal. The type parameters are the name of this opening:
-/// no seat of another one fits the zone.
+/// Opens a zone with a journal of 1,000 places. The type parameters are the name of this opening: no seat of another one fits the zone.
 fn open<I: Ledger, N: Ledger, M: Ledger, B: Ledger>(
     alloc: Global,
     pageblocks: u32,
@@ -19,8 +18,7 @@ fn open<I: Ledger, N: Ledger, M: Ledger, B: Ledger>(
 ) -> Result<(Zone<I, M, B>, Seats<I, N, M, B>)>
     requires blanks { AreFor blanks I.name I.parts N.name N.parts M.name M.parts B.name B.parts }
 {
-    let number = ZoneNo::new(0).context("no zone has this number")?;
-    let opened = Zone::<I, M, B>::open::<N>(alloc, number, pageblocks, 1000, blanks);
+    let opened = Zone::<I, M, B>::open::<N>(alloc, zone_number(0)?, pageblocks, 1000, blanks);
     let (zone, scan, ends) = opened?;
     Ok((zone, Seats { scan, ends }))
 }
@@ -39,7 +37,7 @@ pub struct Seen {
     pub huge: u32,
 }
 
-/// Maps a page in each of two pageblocks, and stores 7 in a word of the lower one. The answer is how many pageblocks are whole then.
+/// Maps a page in each of two pageblocks, and stores 7 in a word of the lower one. The answer is the number of whole pageblocks.
 fn map_two_pages<I: Ledger, M: Ledger, B: Ledger>(zone: &mut Zone<I, M, B>) -> Result<u32> {
     map_page(zone, address(0, 10)?, frame(0)?)?;
     map_page(zone, address(0, 11)?, frame(512)?)?;
@@ -57,7 +55,7 @@ fn map_page<I: Ledger, M: Ledger, B: Ledger>(
     Ok(())
 }
 
-/// Moves two pages into one pageblock, by a round of two copiers, and takes the other pageblock.
+/// Brings two pages together in one pageblock, by a round of two copiers, and takes the other pageblock.
 pub fn compact_two_pages<
     I: Ledger + Send + Sync,
     N: Ledger,
@@ -74,7 +72,7 @@ pub fn compact_two_pages<
     see(&mut zone, before, moved)
 }
 
-/// What is seen of the zone after a round that moved so many pages.
+/// What is seen of the zone after the round.
 fn see<I: Ledger, M: Ledger, B: Ledger>(
     zone: &mut Zone<I, M, B>,
     before: u32,

@@ -1,7 +1,13 @@
 //! Numbers in their ranges.
 
+ghost use Rattle.std.specs.Prelude.{◌≤◌};
+
 use anyhow::{Context, Result};
-use zone_core::{Address, ClientNo, FrameNo, SpaceNo, VPage, WordNo};
+use zone_core::{Address, ClientNo, FrameNo, SpaceNo, VPage, WordOf, ZoneNo};
+
+pub fn zone_number(number: u32) -> Result<ZoneNo> {
+    ZoneNo::new(number).context("no zone has this number")
+}
 
 pub fn client(number: u32) -> Result<ClientNo> {
     ClientNo::new(number).context("no client has this number")
@@ -19,6 +25,9 @@ pub fn frame(number: u32) -> Result<FrameNo> {
     FrameNo::new(number).context("no frame has this number")
 }
 
-pub fn word(number: u32) -> Result<WordNo> {
-    WordNo::new(number).context("no word of a page has this number")
+/// A word of a page that has `W` words.
+pub fn word<const W: usize>(number: u32) -> Result<WordOf<W>>
+    requires size { W ≤ 65536 }
+{
+    WordOf::new(number).context("no word of a page has this number")
 }
