@@ -34,6 +34,18 @@ OUT = "crates/compactd/out"
 # What a command may take, which runs for a second, on a machine that does much beside it.
 SECONDS = 60
 COMPILES, UNPROVED, AGAIN = "compiling a build", "this build isn't proved", "compiles once more"
+USAGE = "usage: ./prove [--anew] or ./prove --c [--anew] [--install PREFIX]\n"
+WRONG_WORDS = (
+    ["now"],
+    ["--anew", "--anew"],
+    ["--install", "there"],
+    ["--c", "--install"],
+    ["--c", "--install", ""],
+    ["--c", "--install", "--anew"],
+    ["--install", "there", "--c"],
+    ["--c", "there", "--install"],
+    ["--c", "--install", "there", "then"],
+)
 PROVED = (0, f"compactd is proved: {OUT}/compactd\n")
 
 
@@ -129,10 +141,12 @@ def proves(repository, what):
 
 
 def asked_otherwise(repository):
-    """A proof proves anew where it is asked to, and knows no other word."""
+    """A proof proves anew where it is asked to. It takes no other words, and those of an installation in their order alone."""
     proves(repository, "a proof")
     same("a proof anew", (repository.run("prove", "--anew")[:2], repository.calls()), (PROVED, ["ci --anew"]))
-    same("another word", repository.run("prove", "now"), (2, "", "usage: ./prove [--c] [--anew]\n"))
+    for words in WRONG_WORDS:
+        same(f"prove {words}", repository.run("prove", *words), (2, "", USAGE))
+    same("calls of the kit by wrong words", repository.calls(), [])
 
 
 def lacks_a_kit(repository):
