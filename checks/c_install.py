@@ -7,6 +7,8 @@ for no other. Where a file is in the way of the prefix, the installation ends wi
 
 What it tries with pkg-config, cmake and cargo is left out where they aren't there, and the last line says so."""
 
+import contextlib
+import io
 import os
 import pathlib
 import re
@@ -62,19 +64,22 @@ def installed(room):
     """Installs the library, looks at what is there then, and moves it. Returns the prefix."""
     first, moved = room / "first", room / "moved"
     places = c_package.install(c_programs.folder(), first)
-    found = {str(path.relative_to(first)) for path in first.rglob("*") if not path.is_dir()}
-    need_same("what is installed", found, set(places))
+    found = [str(path.relative_to(first)) for path in first.rglob("*") if not path.is_dir()]
+    need_same("what is installed", sorted(found), sorted(places))
     return first.rename(moved)
 
 
 def need_refusal(room):
     """Where a file is in the way of the prefix, nothing is installed."""
-    in_the_way = room / "file"
+    in_the_way, said, status = room / "file", io.StringIO(), None
     in_the_way.touch()
-    command = ["python3", "-B", "-c", "import pathlib, sys\nfrom launch import c_package\nc_package.install(*map(pathlib.Path, sys.argv[1:]))"]
-    ran = runs.finished([*command, str(c_programs.folder()), str(in_the_way / "prefix")], cwd=runs.ROOT)
-    need_same("the status where a file is in the way", ran.status, 1)
-    need_same(f"that this is said in one line, {ran.error!r}", ran.error.count(b"\n"), 1)
+    with contextlib.redirect_stderr(said):
+        try:
+            c_package.install(c_programs.folder(), in_the_way / "prefix")
+        except SystemExit as ended:
+            status = ended.code
+    need_same("the status where a file is in the way", status, 1)
+    need_same("that the prefix is named in one line", str(in_the_way / "prefix") in said.getvalue() and said.getvalue().count("\n"), 1)
 
 
 def try_pkg_config(prefix, version, room):
@@ -126,7 +131,7 @@ def try_cargo(prefix, room):
 
 
 def main():
-    version = c_library.version(c_programs.folder())
+    version = c_library.header_version(c_programs.folder())
     with tempfile.TemporaryDirectory() as room:
         room = pathlib.Path(room)
         need_refusal(room)

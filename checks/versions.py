@@ -39,7 +39,7 @@ def answered_numbers():
 
 
 def main():
-    version = c_library.version()
+    version = c_library.header_version()
     told = {file: found_in((runs.ROOT / file).read_text(), pattern, file)[1] for file, pattern in TEXTS.items()}
     faults = [f"{file} says {text}" for file, text in told.items() if text != version]
     if set(answered := answered_numbers()) != {number_of(version)}:

@@ -42,7 +42,7 @@ def digest_of(root):
 
 def is_fresh(kit, sources):
     """Whether the library is there that this kit made from these sources, with all that C programs need."""
-    return all((FOLDER / name).is_file() for name in shared_names(version())) and program.is_fresh(ARCHIVE, kit, sources)
+    return all((FOLDER / name).is_file() for name in shared_names(header_version())) and program.is_fresh(ARCHIVE, kit, sources)
 
 
 # The archive.
@@ -95,7 +95,7 @@ def run(*command, **how):
         program.stop(f"{ran.stdout}{pathlib.Path(command[0]).name}: status {ran.returncode}", 1)
 
 
-def version(headers=HEADERS):
+def header_version(headers=HEADERS):
     """The version that the header of a folder tells."""
     numbers = dict(OF_VERSION.findall((headers / "compactd.h").read_text()))
     return f"{numbers['MAJOR']}.{numbers['MINOR']}.{numbers['PATCH']}"
@@ -130,7 +130,7 @@ def lay_out():
     """Copies the headers, and writes the file of pkg-config."""
     for header in sorted(HEADERS.iterdir()):
         program.put(header, FOLDER / header.name)
-    program.write(description(version(), "${pcfiledir}"), DESCRIPTION)
+    program.write(description(header_version(), "${pcfiledir}"), DESCRIPTION)
 
 
 def install(archive, kit, sources):
@@ -144,11 +144,11 @@ def install(archive, kit, sources):
         run(tools / "bin/llvm-ar", "x", kit_folder() / "c/liblibc_c.a", HEAP, cwd=room)
         run(tools / "bin/llvm-ar", "rs", whole, HEAP, cwd=room)
         names.write_text(NAMES)
-        loaded_by = shared_names(version())[1]
+        loaded_by = shared_names(header_version())[1]
         options = ["-shared", "-fPIC", "-fuse-ld=lld", "-nostdlib", f"-Wl,-soname,{loaded_by}", f"-Wl,--version-script={names}"]
         of_c = tools / "lib/libc.so.6"
         run(tools / "bin/clang", *options, "-o", shared, "-Wl,--whole-archive", whole, "-Wl,--no-whole-archive", of_c)
-        put_shared(shared, FOLDER, version())
+        put_shared(shared, FOLDER, header_version())
         program.install(whole, ARCHIVE, kit, sources, 0o644)
 
 

@@ -31,7 +31,7 @@ def written_files(version):
 def install(folder, prefix):
     """Installs the library of a folder, each file in one step, and returns the places below the prefix. What pkg-config and CMake look
     for comes last, so that they don't find a part."""
-    version = c_library.version(folder)
+    version = c_library.header_version(folder)
     copied, written = copied_files(folder), written_files(version)
     try:
         c_library.put_shared(folder / c_library.SHARED.name, prefix / "lib", version)
