@@ -34,6 +34,7 @@ OUT = "crates/compactd/out"
 # What a command may take, which runs for a second, on a machine that does much beside it.
 SECONDS = 60
 COMPILES, UNPROVED, AGAIN = "compiling a build", "this build isn't proved", "compiles once more"
+PROVED = (0, f"compactd is proved: {OUT}/compactd\n")
 USAGE = "usage: ./prove [--anew] or ./prove --c [--anew] [--install PREFIX]\n"
 WRONG_WORDS = (
     ["now"],
@@ -46,7 +47,6 @@ WRONG_WORDS = (
     ["--c", "there", "--install"],
     ["--c", "--install", "there", "then"],
 )
-PROVED = (0, f"compactd is proved: {OUT}/compactd\n")
 
 
 class Repository:
