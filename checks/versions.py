@@ -1,4 +1,4 @@
-"""The program, the library for C, the crate for Rust and the newest entry of the changes have the version of the header for C.
+"""The program, the library for C and its page of docs, the crate for Rust, and the newest entry of CHANGELOG.md have the version of the header.
 
 The header has it as three numbers, as a text, and as the number that `compactd_version` answers: MAJOR * 10000 + MINOR * 100 + PATCH."""
 
@@ -15,6 +15,7 @@ TEXTS = {
     "crates/script_tests/src/tests/words.rt": r'b"compactd (\d.*?)\\n"',
     "bindings/rust/Cargo.toml": r'^\[package\]\nname = "compactd"\nversion = "(.*?)"',
     "bindings/rust/Cargo.lock": r'^name = "compactd"\nversion = "(.*?)"',
+    "docs/C.md": r"`libcompactd\.so\.(\d+\.\d.*?)`",
     "CHANGELOG.md": r"^## \[(\d.*?)\]",
 }
 ANSWERED = r'^pub extern "C" fn compactd_version\(\) -> u32\n.*?^\}'
