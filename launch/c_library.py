@@ -97,7 +97,10 @@ def run(*command, **how):
 
 def header_version(headers=HEADERS):
     """The version that the header of a folder tells."""
-    numbers = dict(OF_VERSION.findall((headers / "compactd.h").read_text()))
+    header = headers / "compactd.h"
+    numbers = dict(OF_VERSION.findall(header.read_text()))
+    if len(numbers) < 3:
+        program.stop(f"{header} lacks a number of its version", 1)
     return f"{numbers['MAJOR']}.{numbers['MINOR']}.{numbers['PATCH']}"
 
 
