@@ -5,7 +5,7 @@ stands beside it: with the static library as pkg-config names it, with the share
 with both targets of the CMake package, and in Rust. CMake takes the package for its own minor version and for a range that it lies in, and
 for no other. Where a file is in the way of the prefix, the installation ends with status 1 and says so.
 
-What it tries with pkg-config, cmake and cargo is left out where they aren't there, and the last line says so."""
+What it tries with pkg-config, cmake and cargo is left out where they aren't there, and a line says so."""
 
 import contextlib
 import io
@@ -142,12 +142,13 @@ def main():
             "cmake": lambda: try_cmake(prefix, version, room),
             "cargo": lambda: try_cargo(prefix, room),
         }
-        there = [tool for tool in tried if shutil.which(tool)]
+        lacking = [tool for tool in tried if not shutil.which(tool)]
+        for tool in lacking:
+            print(f"left out: what needs {tool}: it isn't there")
+        there = [tool for tool in tried if tool not in lacking]
         for tool in there:
             tried[tool]()
-    lacking = ", ".join(sorted(tried.keys() - there))
-    left_out = f"; nothing is tried with {lacking}: not there" if lacking else ""
-    return f"libcompactd {version} is installed and moved, and programs are built over it by {', '.join(['the linker', *there])}{left_out}"
+    return f"libcompactd {version} is installed and moved, and programs are built over it by {', '.join(['the linker', *there])}"
 
 
 if __name__ == "__main__":
