@@ -14,7 +14,7 @@ import time
 
 FOLDER = pathlib.Path(__file__).resolve().parent
 SHARED = ("all", "runs", "machine", "c_programs", "c_machine")  # what isn't a check
-OF_SOURCES = ("starts", "told_lists", "types_with_allocators", "wrong_bodies")  # for which nothing is built
+OF_SOURCES = ("starts", "told_lists", "types_with_allocators", "versions", "wrong_bodies")  # for which nothing is built
 SECONDS = 1800  # that a check may take
 
 

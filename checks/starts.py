@@ -35,6 +35,18 @@ OUT = "crates/compactd/out"
 SECONDS = 60
 COMPILES, UNPROVED, AGAIN = "compiling a build", "this build isn't proved", "compiles once more"
 PROVED = (0, f"compactd is proved: {OUT}/compactd\n")
+USAGE = "usage: ./prove [--anew] or ./prove --c [--anew] [--install PREFIX]\n"
+WRONG_WORDS = (
+    ["now"],
+    ["--anew", "--anew"],
+    ["--install", "there"],
+    ["--c", "--install"],
+    ["--c", "--install", ""],
+    ["--c", "--install", "--anew"],
+    ["--install", "there", "--c"],
+    ["--c", "there", "--install"],
+    ["--c", "--install", "there", "then"],
+)
 
 
 class Repository:
@@ -129,10 +141,12 @@ def proves(repository, what):
 
 
 def asked_otherwise(repository):
-    """A proof proves anew where it is asked to, and knows no other word."""
+    """A proof proves anew where it is asked to. It takes no other words, and those of an installation in their order alone."""
     proves(repository, "a proof")
     same("a proof anew", (repository.run("prove", "--anew")[:2], repository.calls()), (PROVED, ["ci --anew"]))
-    same("another word", repository.run("prove", "now"), (2, "", "usage: ./prove [--c] [--anew]\n"))
+    for words in WRONG_WORDS:
+        same(f"prove {words}", repository.run("prove", *words), (2, "", USAGE))
+    same("calls of the kit by wrong words", repository.calls(), [])
 
 
 def lacks_a_kit(repository):

@@ -21,6 +21,7 @@ from launch import program
 
 CRATE = "compactd_c"
 HEADERS = program.ROOT / "c/include"
+TEMPLATES = program.ROOT / "c/package"
 FOLDER = program.ROOT / "crates/compactd_c/out/c"
 ARCHIVE = FOLDER / "libcompactd.a"
 SHARED = FOLDER / "libcompactd.so"
@@ -28,14 +29,7 @@ DESCRIPTION = FOLDER / "compactd.pc"
 HEAP = "heap.pic.o"
 # The shared library shows the names of the header alone.
 NAMES = "{ global: compactd_*; local: *; };\n"
-PKG_CONFIG = """prefix=${{pcfiledir}}
-
-Name: compactd
-Description: A page pool, proved, that makes huge pages by moving small ones
-Version: {version}
-Libs: -L${{prefix}} -l:libcompactd.a
-Cflags: -I${{prefix}}
-"""
+OF_VERSION = re.compile(r"^#define COMPACTD_VERSION_(MAJOR|MINOR|PATCH)\s+(\d+)\b", re.M)
 
 
 def kit_folder():
@@ -48,7 +42,7 @@ def digest_of(root):
 
 def is_fresh(kit, sources):
     """Whether the library is there that this kit made from these sources, with all that C programs need."""
-    return SHARED.is_file() and program.is_fresh(ARCHIVE, kit, sources)
+    return all((FOLDER / name).is_file() for name in shared_names(header_version())) and program.is_fresh(ARCHIVE, kit, sources)
 
 
 # The archive.
@@ -101,18 +95,45 @@ def run(*command, **how):
         program.stop(f"{ran.stdout}{pathlib.Path(command[0]).name}: status {ran.returncode}", 1)
 
 
-def version():
-    """The version that the header tells."""
-    found = re.search(r"#define COMPACTD_VERSION_TEXT \"([^\"]+)\"", (HEADERS / "compactd.h").read_text())
-    return found[1]
+def header_version(headers=HEADERS):
+    """The version that the header of a folder tells."""
+    header = headers / "compactd.h"
+    numbers = dict(OF_VERSION.findall(header.read_text()))
+    if len(numbers) < 3:
+        program.stop(f"{header} lacks a number of its version", 1)
+    return f"{numbers['MAJOR']}.{numbers['MINOR']}.{numbers['PATCH']}"
+
+
+def shared_names(version):
+    """The names of the shared library: its file's, the one that programs load it by, and the one that they are linked by."""
+    major = version.partition(".")[0]
+    return f"{SHARED.name}.{version}", f"{SHARED.name}.{major}", SHARED.name
+
+
+def put_shared(file, folder, version):
+    """Copies the shared library to a folder, under the name with its version, with a link for each other name."""
+    names = shared_names(version)
+    program.put(file, folder / names[0], 0o755)
+    for to, name in zip(names, names[1:]):
+        with program.in_one_step(folder / name) as beside:
+            beside.symlink_to(to)
+
+
+def filled(template, **words):
+    """The text of a template, with each of these words in the place of its name."""
+    return re.sub(r"@([A-Z]+)@", lambda name: words[name[1]], (TEMPLATES / template).read_text())
+
+
+def description(version, prefix, libraries="", headers=""):
+    """What pkg-config is told: the prefix, and where libraries and headers lie below it."""
+    return filled("compactd.pc.in", VERSION=version, PREFIX=prefix, LIB=libraries, INCLUDE=headers)
 
 
 def lay_out():
     """Copies the headers, and writes the file of pkg-config."""
-    FOLDER.mkdir(parents=True, exist_ok=True)
     for header in sorted(HEADERS.iterdir()):
-        shutil.copy(header, FOLDER)
-    DESCRIPTION.write_text(PKG_CONFIG.format(version=version()))
+        program.put(header, FOLDER / header.name)
+    program.write(description(header_version(), "${pcfiledir}"), DESCRIPTION)
 
 
 def install(archive, kit, sources):
@@ -126,10 +147,11 @@ def install(archive, kit, sources):
         run(tools / "bin/llvm-ar", "x", kit_folder() / "c/liblibc_c.a", HEAP, cwd=room)
         run(tools / "bin/llvm-ar", "rs", whole, HEAP, cwd=room)
         names.write_text(NAMES)
-        options = ["-shared", "-fPIC", "-fuse-ld=lld", "-nostdlib", f"-Wl,-soname,{SHARED.name}", f"-Wl,--version-script={names}"]
+        loaded_by = shared_names(header_version())[1]
+        options = ["-shared", "-fPIC", "-fuse-ld=lld", "-nostdlib", f"-Wl,-soname,{loaded_by}", f"-Wl,--version-script={names}"]
         of_c = tools / "lib/libc.so.6"
         run(tools / "bin/clang", *options, "-o", shared, "-Wl,--whole-archive", whole, "-Wl,--no-whole-archive", of_c)
-        shutil.copy(shared, SHARED)
+        put_shared(shared, FOLDER, header_version())
         program.install(whole, ARCHIVE, kit, sources, 0o644)
 
 

@@ -6,6 +6,7 @@ As a command this prints the digest of the sources. With the word `proved` and s
 which the gate built was made from those sources.
 """
 
+import contextlib
 import hashlib
 import os
 import pathlib
@@ -90,13 +91,35 @@ def keep(build, kit, sources):
     note_of(build).write_text(f"{kit}\n{sources}\n{hashlib.sha256(build.read_bytes()).hexdigest()}\n")
 
 
+@contextlib.contextmanager
+def in_one_step(place):
+    """A path beside a place, for what then takes the place in one step. Where that fails, nothing is left beside it."""
+    place.parent.mkdir(parents=True, exist_ok=True)
+    beside = place.with_name(f"{place.name}.{os.getpid()}")
+    try:
+        yield beside
+        os.replace(beside, place)
+    finally:
+        beside.unlink(missing_ok=True)
+
+
+def put(file, place, mode=0o644):
+    """Copies a file to a place, in one step."""
+    with in_one_step(place) as beside:
+        shutil.copy(file, beside)
+        beside.chmod(mode)
+
+
+def write(text, place):
+    """Writes a text to a place, in one step."""
+    with in_one_step(place) as beside:
+        beside.write_text(text)
+        beside.chmod(0o644)
+
+
 def install(file, build, kit, sources, mode=0o755):
-    """Puts a file in the place of a build, in one step, and notes what it was made from."""
-    build.parent.mkdir(parents=True, exist_ok=True)
-    beside = build.with_name(f"{build.name}.{os.getpid()}")
-    shutil.copy(file, beside)
-    beside.chmod(mode)
-    os.replace(beside, build)
+    """Puts a file in the place of a build, and notes what it was made from."""
+    put(file, build, mode)
     keep(build, kit, sources)
 
 

@@ -134,7 +134,7 @@ fn bare_line<'a>(alloc: Global) -> Command<'a>
     ensures { IsLine (with_version (new_app (codes "compactd"))) result }
 {
     Command::new(alloc, "compactd")
-        .version("0.1.0")
+        .version("0.2.0")
         .about("Runs the script on standard input, and writes a reply for each command")
         .after_help(COMMANDS)
 }

@@ -83,7 +83,7 @@ fn shows_its_version(rt: HostRuntime) {
         name: "the version",
         arguments: &["--version"],
         script: FIRST_SCRIPT,
-        replies: b"compactd 0.1.0\n",
+        replies: b"compactd 0.2.0\n",
         ..NOTHING
     };
     assert_read(&rt, &case, case.script.len());
