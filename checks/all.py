@@ -1,17 +1,17 @@
 """Runs the checks of this folder, or those that are named, and says what each shows and how long it took.
 
-    python3 checks/all.py [--of sources|program] [--program PATH] [--unproved] [--left-out FILE] [NAME..]
+    python3 checks/all.py [--of sources|program] [--program PATH] [--unproved] [--jobs N] [--left-out FILE] [NAME..]
 
 All of them run, also after one that fails. Ends with status 1 where one failed. `--of sources` runs those for which nothing is
-built, and `--of program` the others. The last line names what was left out and why; `--left-out` adds these names to a file,
+built, and `--of program` the others; `--jobs` runs N side by side. The last line names what was left out and why; `--left-out` adds these names to a file,
 one per line."""
 
 import argparse
 import ast
+import concurrent.futures
 import pathlib
 import subprocess
 import sys
-import threading
 import time
 
 import runs
@@ -34,21 +34,18 @@ def shows(check):
 
 
 def run_check(check, options):
-    """Runs a check and passes on what it says. Returns whether it failed, and the lines that name what it left out."""
-    print(f"check {check.stem}: {shows(check)}.", flush=True)
-    begin, left_out = time.monotonic(), []
+    """Runs a check. Returns what is to be said of it, whether it failed, and what it left out."""
+    begin = time.monotonic()
     how = {"stdout": subprocess.PIPE, "stderr": subprocess.STDOUT, "text": True, "errors": "replace"}
-    process = subprocess.Popen([sys.executable, "-B", check, *options], **how)
-    cut_off = threading.Timer(SECONDS, process.kill)
-    cut_off.start()
-    for line in process.stdout:
-        print(line, end="", flush=True)
-        if line.startswith(runs.LEAVES_OUT):
-            left_out.append(f"{check.stem}, {line[len(runs.LEAVES_OUT) :].strip()}")
-    status = process.wait()
-    cut_off.cancel()
-    print(f"check {check.stem}: {ended(status)} in {time.monotonic() - begin:.1f} s", flush=True)
-    return status not in (0, runs.LEFT_OUT), left_out
+    try:
+        ran = subprocess.run([sys.executable, "-B", check, *options], timeout=SECONDS, **how)
+        said, status = ran.stdout, ran.returncode
+    except subprocess.TimeoutExpired as cut_off:
+        said, status = (cut_off.stdout or b"").decode(errors="replace"), "that it was cut off"
+    head = f"check {check.stem}: {shows(check)}.\n"
+    tail = f"check {check.stem}: {ended(status)} in {time.monotonic() - begin:.1f} s"
+    left_out = [line[len(runs.LEAVES_OUT) :] for line in said.splitlines() if line.startswith(runs.LEAVES_OUT)]
+    return head + said + tail, status not in (0, runs.LEFT_OUT), [f"{check.stem}, {it}" for it in left_out]
 
 
 def ended(status):
@@ -61,6 +58,7 @@ def given_options(checks):
     parser.add_argument("--of", choices=("sources", "program"), help="those for which nothing is built, or the others")
     parser.add_argument("--program", metavar="PATH", help="the program, where not that of the gate")
     parser.add_argument("--unproved", action="store_true", help="leave out what can't be tried without a proof")
+    parser.add_argument("--jobs", type=int, default=1, metavar="N", help="how many run side by side")
     parser.add_argument("--left-out", metavar="FILE", type=pathlib.Path, help="the file to which the names of what is left out are added")
     parser.add_argument("names", nargs="*", metavar="NAME", help=", ".join(checks))
     given = parser.parse_args()
@@ -73,10 +71,12 @@ def main():
     checks = {path.stem: path for path in sorted(FOLDER.glob("*.py")) if path.stem not in SHARED}
     given = given_options(checks)
     options = [*(["--program", given.program] if given.program else []), *(["--unproved"] if given.unproved else [])]
-    names, begin = given.names or chosen_names(checks, given.of), time.monotonic()
-    ran = {name: run_check(checks[name], options) for name in names}
-    failed = [name for name, (is_failed, _) in ran.items() if is_failed]
-    left_out = [line for _, lines in ran.values() for line in lines]
+    names, begin, failed, left_out = given.names or chosen_names(checks, given.of), time.monotonic(), [], []
+    with concurrent.futures.ThreadPoolExecutor(given.jobs) as pool:
+        for name, (said, is_failed, lines) in zip(names, pool.map(lambda name: run_check(checks[name], options), names)):
+            print(said, flush=True)
+            failed += [name] * is_failed
+            left_out += lines
     print(f"checks: {len(names)} ran in {time.monotonic() - begin:.0f} s, failed: {', '.join(failed) or 'none'}")
     print(f"checks: left out: {'; '.join(left_out) or 'none'}")
     if given.left_out:

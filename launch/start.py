@@ -4,7 +4,6 @@ Digests of the sources and of the build tell it then, and the listing is made an
 it isn't fresh. Where neither build can be had, the status is 70.
 """
 
-import fcntl
 import os
 import pathlib
 import signal
@@ -14,7 +13,6 @@ sys.path[0] = str(pathlib.Path(__file__).resolve().parent.parent)
 from launch import program, unproved
 
 NO_KIT = "compactd: the program isn't built, and to build it the Rattle kit's rt has to be on PATH"
-WAITS = "compactd: waiting for another start, which compiles the program"
 KEEPS_NONE = "compactd: running unproved: this kit keeps no build, so each start recompiles, and replies come at the input's end"
 RUN_UNPROVED = program.ROOT / "launch/unproved.sh"
 
@@ -24,17 +22,6 @@ def become(*words):
     for number in (signal.SIGPIPE, signal.SIGXFSZ):
         signal.signal(number, signal.SIG_DFL)
     os.execvp(words[0], words)
-
-
-def has_unproved(kit, sources):
-    """Whether the unproved build is there, once it was compiled if it was lacking, by one start at a time."""
-    with open(program.ROOT / "crates.txt") as turn:
-        try:
-            fcntl.flock(turn, fcntl.LOCK_EX | fcntl.LOCK_NB)
-        except BlockingIOError:
-            program.say(WAITS)
-            fcntl.flock(turn, fcntl.LOCK_EX)
-        return program.is_fresh(program.UNPROVED, kit, sources) or unproved.compile_program(kit, sources)
 
 
 def start(arguments):
@@ -49,7 +36,7 @@ def start(arguments):
         program.keep_listing(program.UNPROVED, listing)
     elif not kit:
         program.stop(NO_KIT)
-    if has_unproved(kit, sources):
+    if unproved.is_built(kit, sources):
         become("sh", str(RUN_UNPROVED), *arguments)
     program.say(KEEPS_NONE)
     os.chdir(unproved.CRATE)
