@@ -3,8 +3,8 @@
     python3 checks/all.py [--of sources|program] [--program PATH] [--unproved] [--jobs N] [--left-out FILE] [NAME..]
 
 All of them run, also after one that fails. Ends with status 1 where one failed. `--of sources` runs those for which nothing is
-built, and `--of program` the others; `--jobs` runs N side by side. The last line names what was left out and why; `--left-out` adds these names to a file,
-one per line."""
+built, and `--of program` the others; `--jobs` runs N side by side. The last line names what was left out and why. `--left-out`
+adds these names to a file, one per line."""
 
 import argparse
 import ast
@@ -34,22 +34,24 @@ def shows(check):
 
 
 def run_check(check, options):
-    """Runs a check. Returns what is to be said of it, whether it failed, and what it left out."""
+    """Runs a check. Returns what it says and how it ended, whether it failed, and what it left out."""
+    print(f"check {check.stem}: {shows(check)}.", flush=True)
     begin = time.monotonic()
     how = {"stdout": subprocess.PIPE, "stderr": subprocess.STDOUT, "text": True, "errors": "replace"}
     try:
         ran = subprocess.run([sys.executable, "-B", check, *options], timeout=SECONDS, **how)
         said, status = ran.stdout, ran.returncode
-    except subprocess.TimeoutExpired as cut_off:
-        said, status = (cut_off.stdout or b"").decode(errors="replace"), "that it was cut off"
-    head = f"check {check.stem}: {shows(check)}.\n"
+    except subprocess.TimeoutExpired:
+        said, status = "", None
     tail = f"check {check.stem}: {ended(status)} in {time.monotonic() - begin:.1f} s"
     left_out = [line[len(runs.LEAVES_OUT) :] for line in said.splitlines() if line.startswith(runs.LEAVES_OUT)]
-    return head + said + tail, status not in (0, runs.LEFT_OUT), [f"{check.stem}, {it}" for it in left_out]
+    return said + tail, status not in (0, runs.LEFT_OUT), [f"{check.stem}, {it}" for it in left_out]
 
 
 def ended(status):
-    """How a check ended, by its status."""
+    """How a check ended, by its status, which it lacks where it was cut off."""
+    if status is None:
+        return "FAILED, cut off,"
     return {0: "passed", runs.LEFT_OUT: "left out"}.get(status, f"FAILED, with status {status},")
 
 
