@@ -1,16 +1,20 @@
 """Runs the checks of this folder, or those that are named, and says what each shows and how long it took.
 
-    python3 checks/all.py [--of sources|program] [--program PATH] [NAME..]
+    python3 checks/all.py [--of sources|program] [--program PATH] [--unproved] [--jobs N] [--left-out FILE] [NAME..]
 
 All of them run, also after one that fails. Ends with status 1 where one failed. `--of sources` runs those for which nothing is
-built, and `--of program` the others."""
+built, and `--of program` the others; `--jobs` runs N side by side. The last line names what was left out and why. `--left-out`
+adds these names to a file, one per line."""
 
 import argparse
 import ast
+import concurrent.futures
 import pathlib
 import subprocess
 import sys
 import time
+
+import runs
 
 FOLDER = pathlib.Path(__file__).resolve().parent
 SHARED = ("all", "runs", "machine", "c_programs", "c_machine")  # what isn't a check
@@ -29,40 +33,57 @@ def shows(check):
     return " ".join(text.split()).split(". ")[0].rstrip(".")
 
 
-def is_passed(check, options):
-    """Runs a check, with what it says, and tells how long it took."""
+def run_check(check, options):
+    """Runs a check. Returns what it says and how it ended, whether it failed, and what it left out."""
     print(f"check {check.stem}: {shows(check)}.", flush=True)
     begin = time.monotonic()
-    wrong = wrong_end([sys.executable, "-B", check, *options])
-    ended = f"FAILED, {wrong}," if wrong else "passed"
-    print(f"check {check.stem}: {ended} in {time.monotonic() - begin:.1f} s", flush=True)
-    return not wrong
-
-
-def wrong_end(command):
-    """How a command ends that doesn't end as it should."""
+    how = {"stdout": subprocess.PIPE, "stderr": subprocess.STDOUT, "text": True, "errors": "replace"}
     try:
-        status = subprocess.run(command, stderr=subprocess.STDOUT, timeout=SECONDS).returncode
+        ran = subprocess.run([sys.executable, "-B", check, *options], timeout=SECONDS, **how)
+        said, status = ran.stdout, ran.returncode
     except subprocess.TimeoutExpired:
-        return "cut off"
-    return f"with status {status}" if status else None
+        said, status = "", None
+    tail = f"check {check.stem}: {ended(status)} in {time.monotonic() - begin:.1f} s"
+    left_out = [line[len(runs.LEAVES_OUT) :] for line in said.splitlines() if line.startswith(runs.LEAVES_OUT)]
+    return said + tail, status not in (0, runs.LEFT_OUT), [f"{check.stem}, {it}" for it in left_out]
 
 
-def main():
-    checks = {path.stem: path for path in sorted(FOLDER.glob("*.py")) if path.stem not in SHARED}
+def ended(status):
+    """How a check ended, by its status, which it lacks where it was cut off."""
+    if status is None:
+        return "FAILED, cut off,"
+    return {0: "passed", runs.LEFT_OUT: "left out"}.get(status, f"FAILED, with status {status},")
+
+
+def given_options(checks):
     parser = argparse.ArgumentParser(description=__doc__, formatter_class=argparse.RawDescriptionHelpFormatter)
     parser.add_argument("--of", choices=("sources", "program"), help="those for which nothing is built, or the others")
     parser.add_argument("--program", metavar="PATH", help="the program, where not that of the gate")
+    parser.add_argument("--unproved", action="store_true", help="leave out what can't be tried without a proof")
+    parser.add_argument("--jobs", type=int, default=1, metavar="N", help="how many run side by side")
+    parser.add_argument("--left-out", metavar="FILE", type=pathlib.Path, help="the file to which the names of what is left out are added")
     parser.add_argument("names", nargs="*", metavar="NAME", help=", ".join(checks))
     given = parser.parse_args()
     if unknown := [name for name in given.names if name not in checks]:
         parser.error(f"there is no check {unknown[0]}, but {', '.join(checks)}")
-    options = ["--program", given.program] if given.program else []
-    chosen = [checks[name] for name in given.names or chosen_names(checks, given.of)]
-    begin = time.monotonic()
-    failed = [check.stem for check in chosen if not is_passed(check, options)]
-    told = f"{len(failed)} of {len(chosen)} failed: {', '.join(failed)}" if failed else f"{len(chosen)} passed"
-    print(f"checks: {told}, in {time.monotonic() - begin:.0f} s")
+    return given
+
+
+def main():
+    checks = {path.stem: path for path in sorted(FOLDER.glob("*.py")) if path.stem not in SHARED}
+    given = given_options(checks)
+    options = [*(["--program", given.program] if given.program else []), *(["--unproved"] if given.unproved else [])]
+    names, begin, failed, left_out = given.names or chosen_names(checks, given.of), time.monotonic(), [], []
+    with concurrent.futures.ThreadPoolExecutor(given.jobs) as pool:
+        for name, (said, is_failed, lines) in zip(names, pool.map(lambda name: run_check(checks[name], options), names)):
+            print(said, flush=True)
+            failed += [name] * is_failed
+            left_out += lines
+    print(f"checks: {len(names)} ran in {time.monotonic() - begin:.0f} s, failed: {', '.join(failed) or 'none'}")
+    print(f"checks: left out: {'; '.join(left_out) or 'none'}")
+    if given.left_out:
+        with open(given.left_out, "a") as file:
+            file.writelines(f"{line}\n" for line in left_out)
     return 1 if failed else 0
 
 

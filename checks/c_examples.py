@@ -4,7 +4,7 @@ The archive is linked by name and as pkg-config has it, and the shared library t
 threads that share a pool under one lock are clean under gcc's ThreadSanitizer. The sanitizers see what the C and C++ of the examples
 and the headers do, and the memory that the library asks for and copies, but not its own loads and stores; valgrind sees these too.
 
-It needs gcc and g++. What it tries with valgrind, pkg-config and cargo is left out where they aren't there, and the last line says so."""
+It needs gcc and g++. What it tries with valgrind, pkg-config and cargo is left out where they aren't there, and a line says so."""
 
 import os
 import pathlib
@@ -87,6 +87,8 @@ def try_rust(room):
 
 def main():
     lacking = [tool for tool in ("valgrind", "pkg-config", "cargo") if not shutil.which(tool)]
+    for tool in lacking:
+        runs.leave_out(f"what needs {tool}", "it isn't there")
     with tempfile.TemporaryDirectory() as room:
         room = pathlib.Path(room)
         tried = sum(try_program(source, room) for source in PROGRAMS)
@@ -94,8 +96,7 @@ def main():
         if "cargo" not in lacking:
             try_rust(room / "rust")
     rust = "" if "cargo" in lacking else f", the Rust crate's tests pass and its {len(IN_RUST)} examples write what they have to"
-    left_out = f"; nothing is tried with {', '.join(lacking)}: not there" if lacking else ""
-    return f"{len(PROGRAMS)} programs in C and C++ write what they have to, and {tried} times under tools{rust}{left_out}"
+    return f"{len(PROGRAMS)} programs in C and C++ write what they have to, and {tried} times under tools{rust}"
 
 
 if __name__ == "__main__":

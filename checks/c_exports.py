@@ -136,6 +136,8 @@ def need_same_types(where, declared):
 def compile_headers():
     """The headers by each compiler that there is, by themselves. How many times."""
     compilers = {"c": ["gcc", "clang"], "c++": ["g++", "clang++"]}
+    for compiler in filter(lambda name: not shutil.which(name), sum(compilers.values(), [])):
+        runs.leave_out(f"the headers by {compiler}", "it isn't there")
     commands = [
         [compiler, f"-std={standard}", "-D_POSIX_C_SOURCE=200809L", *c_programs.STRICT, "-fsyntax-only", "-x", language, source]
         for (header, language), standards in STANDARDS.items()

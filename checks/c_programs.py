@@ -20,10 +20,14 @@ CXX = ["-std=c++11", *STRICT]
 
 
 def start(main, *tools):
-    """Runs a check that needs these tools. Where one isn't there it says so and passes."""
-    if lacking := [tool for tool in tools if not shutil.which(tool)]:
-        return runs.start(lambda: f"nothing is tried, since there is no {lacking[0]}")
-    return runs.start(main)
+    """Runs a check that needs these tools. Where one isn't there, it is left out."""
+
+    def main_with_tools():
+        if lacking := [tool for tool in tools if not shutil.which(tool)]:
+            raise runs.LeftOut(f"there is no {', no '.join(lacking)}")
+        return main()
+
+    runs.start(main_with_tools)
 
 
 @functools.lru_cache(maxsize=None)
@@ -31,6 +35,7 @@ def folder():
     """The folder of the library, which has to be proved from the sources as they are, unless another is named."""
     if "COMPACTD_DIR" in os.environ:
         return pathlib.Path(os.environ["COMPACTD_DIR"]).resolve()
+    runs.need_proof("the library for C")
     if not c_library.is_fresh(program.kit_version(), c_library.digest_of(runs.ROOT)):
         raise runs.Failed("the library for C isn't proved: `./prove --c` proves it, and so does `bash .ci/run`")
     c_library.lay_out()

@@ -220,6 +220,9 @@ def stand_in_order(lines, file):
 
 def first_wrong_command(commands):
     """What is wrong with the first command that isn't right, if there is one. Those after it aren't tried."""
+    if runs.is_unproved:
+        runs.leave_out("the commands of README.md", "the program isn't proved")
+        return []
     if not program.is_fresh(program.PROVED, program.kit_version(), program.digest_of(runs.ROOT)):
         return ["its commands aren't tried, since the program isn't proved: `./prove` proves it, or `bash .ci/run`"]
     tried = (f"`{command}`: {wrong}" for command, lines in commands if (wrong := wrong_command(command, lines)))

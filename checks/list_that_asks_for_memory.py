@@ -56,6 +56,7 @@ def refused(place):
 
 
 def main():
+    runs.need_proof("a proof of the crates below those that it changes")
     for place in PLACES:
         errors = refused(place)
         if len(errors) != len(place.asks) or not all(any(wanted in error for error in errors) for wanted in place.asks.values()):

@@ -2,7 +2,7 @@
 import what is in `launch/` too.
 
 A check is a file of this folder with a function `main`, which gives the line that says what was shown, and raises
-`Failed` where it isn't so. `start` runs it."""
+`Failed` where it isn't so, or `LeftOut` where it can't be tried here. `start` runs it."""
 
 import argparse
 import collections
@@ -20,23 +20,47 @@ FLAGS = ["-shared", "-fPIC", "-fuse-ld=lld", "-nostdlib", "-O1", "-fno-builtin"]
 PARTS = ("src", "specs", "proofs")  # of a crate that is proved
 sys.path.append(str(ROOT))
 
+LEFT_OUT = 77  # the status of a check that is left out
+LEAVES_OUT = "left out: "  # how a line begins that names what is left out
+
 Ran = collections.namedtuple("Ran", "status output error")
 chosen = BUILT
+is_unproved = False
 
 
 class Failed(Exception):
-    """What a check shows isn't so, or it can't be tried."""
+    """What a check shows isn't so, or it can't be tried, though it should."""
+
+
+class LeftOut(Exception):
+    """A check can't be tried, since something isn't here that it needs: says what."""
+
+
+def leave_out(part, why):
+    """Names a part of a check that is left out. `checks/all.py` counts these lines."""
+    print(f"{LEAVES_OUT}{part}: {why}", flush=True)
+
+
+def need_proof(what):
+    """Leaves the check out where only unproved builds are checked."""
+    if is_unproved:
+        raise LeftOut(f"it needs {what}, and nothing is proved here")
 
 
 def start(main):
-    """Runs a check by itself, and ends with status 1 where it fails."""
-    global chosen
+    """Runs a check by itself. It ends with status 1 where it fails, and with LEFT_OUT where it is left out."""
+    global chosen, is_unproved
     sys.stdout.reconfigure(line_buffering=True)
     parser = argparse.ArgumentParser(description=sys.modules["__main__"].__doc__)
     parser.add_argument("--program", default=BUILT, metavar="PATH", help="the program, where not that of the gate")
-    chosen = pathlib.Path(parser.parse_args().program).resolve()
+    parser.add_argument("--unproved", action="store_true", help="leave out what can't be tried without a proof")
+    given = parser.parse_args()
+    chosen, is_unproved = pathlib.Path(given.program).resolve(), given.unproved
     try:
         print(main())
+    except LeftOut as why:
+        print(f"{LEAVES_OUT}all of it: {why}")
+        sys.exit(LEFT_OUT)
     except Failed as failed:
         sys.exit(str(failed))
 
@@ -48,6 +72,7 @@ def program():
 
 def built(name):
     """The path of another program that the gate builds, by its crate."""
+    need_proof(f"the program {name}")
     return there(ROOT / f"crates/{name}/out/{name}", "`bash .ci/run` builds it")
 
 

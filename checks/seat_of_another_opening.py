@@ -49,6 +49,7 @@ def copy_repository(folder):
 
 
 def main():
+    runs.need_proof("a proof of the crates up to zone_core")
     with tempfile.TemporaryDirectory() as folder:
         crate = copy_repository(pathlib.Path(folder))
         both = function("end", "EndSeat<M, B>") + function("end_elsewhere", "EndSeat<P, Q>")

@@ -1,9 +1,11 @@
 """`./compactd` and `./prove` use a build again exactly where it is fresh, and never one that is half made.
 
 This is seen over a kit that proves nothing (`checks/kit/rt`), in a temporary folder. A build is used again where the
-kit, the sources and the build itself are as they were, whatever the times of files are. Arguments, input, output and
-status are passed on. Nothing is left where a build fails or is interrupted, and of two starts at once one builds."""
+kit, the sources and the build itself are as they were, whatever the times of files are; where files are as listed, no
+Python runs. Arguments, input, output and status are passed on. Nothing is left where a build fails or is interrupted,
+and of two starts at once one builds."""
 
+import concurrent.futures
 import contextlib
 import os
 import pathlib
@@ -15,6 +17,7 @@ import tempfile
 import time
 
 import runs
+from launch import program
 
 PROGRAM = '#!/bin/sh\nwhile read -r line; do echo "$line"; done\necho "ran $*"\nexit ${2:-0}\n'
 FILES = {
@@ -33,7 +36,11 @@ READ = sorted(path for path in FILES if "must-fail" not in path and "other" not 
 OUT = "crates/compactd/out"
 # What a command may take, which runs for a second, on a machine that does much beside it.
 SECONDS = 60
-COMPILES, UNPROVED, AGAIN = "compiling a build", "this build isn't proved", "compiles once more"
+COMPILES, UNPROVED, AGAIN = "compiling an unproved build", "running an unproved build", "each start recompiles"
+# What a start needs of the system, beside Python.
+TOOLS = ("sh", "readlink", "find", "cmp")
+# After so many seconds without a change a start leaves the listing of the files.
+AT_REST = program.SECONDS_AT_REST + 0.5
 PROVED = (0, f"compactd is proved: {OUT}/compactd\n")
 USAGE = "usage: ./prove [--anew] or ./prove --c [--anew] [--install PREFIX]\n"
 WRONG_WORDS = (
@@ -54,18 +61,28 @@ class Repository:
 
     def __init__(self, folder):
         self.top, self.state = folder / "repository", folder / "kit"
-        self.temporary, self.python = folder / "temporary", folder / "python"
+        self.temporary, self.python, self.tools = folder / "temporary", folder / "python", folder / "tools"
         for path in FILES:
             self.write(path, FILES[path])
         for name in ("compactd", "prove"):
             shutil.copy(runs.ROOT / name, self.top)
         shutil.copytree(runs.ROOT / "launch", self.top / "launch")
-        for it in (self.state, self.temporary, self.python):
+        for it in (self.state, self.temporary, self.python, self.tools):
             it.mkdir()
         (self.python / "python3").symlink_to(sys.executable)
-        (self.state / "version").write_text("kit one")
+        for tool in TOOLS:
+            (self.tools / tool).symlink_to(shutil.which(tool))
+        shutil.copytree(runs.ROOT / "checks/kit", self.state / "bin")
+        self.take_kit("kit one")
         (self.state / "program").write_text(PROGRAM)
         (self.state / "program").chmod(0o755)
+
+    def take_kit(self, version, has_file=True):
+        """Makes the kit another one, with or without the file that has its version."""
+        (self.state / "version").write_text(f"{version}\n")
+        (self.state / "KIT-ID").unlink(missing_ok=True)
+        if has_file:
+            shutil.copy(self.state / "version", self.state / "KIT-ID")
 
     def write(self, path, text):
         """Writes a file, with a time long ago."""
@@ -74,15 +91,15 @@ class Repository:
         file.write_text(text)
         os.utime(file, (1, 1))
 
-    def begin(self, words, has_kit=True):
-        """Begins a command of the repository. Without a kit, PATH has Python alone."""
-        path = f"{runs.ROOT / 'checks/kit'}:{self.python}" if has_kit else str(self.python)
-        environment = {"PATH": path, "KIT_STATE": str(self.state), "TMPDIR": str(self.temporary)}
+    def begin(self, words, has_kit=True, has_python=True):
+        """Begins a command of the repository, where PATH has a kit and Python or lacks them."""
+        folders = [self.state / "bin"] * has_kit + [self.python] * has_python + [self.tools]
+        environment = {"PATH": ":".join(map(str, folders)), "KIT_STATE": str(self.state), "TMPDIR": str(self.temporary)}
         streams = dict.fromkeys(("stdin", "stdout", "stderr"), subprocess.PIPE)
         return subprocess.Popen([self.top / words[0], *words[1:]], env=environment, text=True, **streams)
 
-    def run(self, *words, has_kit=True):
-        return ended(self.begin(words, has_kit))
+    def run(self, *words, **lacks):
+        return ended(self.begin(words, **lacks))
 
     def calls(self):
         """The calls of the kit since they were last asked for."""
@@ -121,10 +138,10 @@ def same(what, found, wanted):
         raise runs.Failed(f"starts: {what}: {found!r}, and not {wanted!r}")
 
 
-def answers(repository, what, calls=(), tells=()):
+def answers(repository, what, calls=(), tells=(), **lacks):
     """A start answers as the program does, after these calls of the kit, and has a line on standard error for each of
     these words."""
-    status, written, said = repository.run("compactd", "--word", "3")
+    status, written, said = repository.run("compactd", "--word", "3", **lacks)
     same(f"status and output of {what}, beside {said!r}", (status, written), (3, "a line\nran --word 3\n"))
     same(f"calls of the kit by {what}", repository.calls(), list(calls))
     same(f"lines of standard error of {what}", len(said.splitlines()), len(tells))
@@ -133,6 +150,14 @@ def answers(repository, what, calls=(), tells=()):
 
 def compiles(repository, what):
     answers(repository, what, ["try"], [COMPILES, UNPROVED])
+
+
+def answers_at_once(repository, what, tells=()):
+    """A start finds the build fresh by the listing of the files, which the start before it left, and runs no Python."""
+    time.sleep(AT_REST)
+    answers(repository, f"a start before {what}", tells=tells)
+    answers(repository, what, tells=tells, has_python=False)
+    answers(repository, f"{what} with no kit", tells=tells, has_python=False, has_kit=False)
 
 
 def proves(repository, what):
@@ -163,7 +188,7 @@ def unproved_starts(repository):
     answers(repository, "the second start", tells=[UNPROVED])
     repository.write("crates/low/src/lib.rt", "changed")
     compiles(repository, "a start after a change")
-    (repository.state / "version").write_text("kit two")
+    repository.take_kit("kit two")
     compiles(repository, "a start with another kit")
     repository.write("crates/other/src/lib.rt", "changed")
     answers(repository, "a start after a change of another crate", tells=[UNPROVED])
@@ -209,7 +234,7 @@ def interrupted(repository):
 def hidden_build(repository):
     """Where `rt try` leaves no build, it answers itself."""
     with repository.kit_that("hides"):
-        answers(repository, "a start with no build", ["try", "try -- --word 3"], [COMPILES, UNPROVED, AGAIN])
+        answers(repository, "a start with no build", ["try", "try -- --word 3"], [COMPILES, AGAIN])
 
 
 def proved_starts(repository):
@@ -226,13 +251,79 @@ def proved_starts(repository):
     repository.write("HANDLES", "Handles allowed: Wait.\n")
     compiles(repository, "a start after a change of what is allowed")
     proves(repository, "a proof after a change")
-    (repository.state / "version").write_text("kit two")
+    repository.take_kit("kit two")
     compiles(repository, "a start of what another kit proved")
+
+
+def files_as_listed(repository):
+    """While all files are as they were listed, a start reads no more of them. A change shows that keeps a file's size and times."""
+    compiles(repository, "the first start")
+    answers_at_once(repository, "a start of files at rest", [UNPROVED])
+    file = "crates/low/src/lib.rt"
+    repository.write(file, "wol")
+    compiles(repository, "a start after a change that keeps size and time")
+    answers_at_once(repository, "a start after that", [UNPROVED])
+    repository.write("other", FILES[file])
+    os.replace(repository.top / "other", repository.top / file)
+    compiles(repository, "a start after another file took the place of one")
+    answers_at_once(repository, "a start after that", [UNPROVED])
+    repository.write("crates/low/src/more.rt", "more")
+    compiles(repository, "a start with one more source")
+    answers_at_once(repository, "a start after that", [UNPROVED])
+    (repository.top / "crates/low/src/more.rt").unlink()
+    compiles(repository, "a start with one source less")
+    answers_at_once(repository, "a start after that", [UNPROVED])
+    repository.take_kit("kit two")
+    compiles(repository, "a start with another kit")
+    answers_at_once(repository, "a start after that", [UNPROVED])
+    build = repository.top / OUT / "unproved/compactd"
+    build.write_text(build.read_text().replace("ran", "was"))
+    os.utime(build, (1, 1))
+    compiles(repository, "a start after a change of the build")
+
+
+def damaged_listings(repository):
+    """A listing that isn't whole, and one of files that have just changed, is no reason to run a build."""
+    compiles(repository, "the first start")
+    answers(repository, "a start at once after it", tells=[UNPROVED])
+    listing = repository.top / OUT / "unproved/compactd.seen"
+    same("a listing of files that have just changed", listing.exists(), False)
+    answers_at_once(repository, "a start of files at rest", [UNPROVED])
+    whole = listing.read_bytes()
+    for text in (b"", whole[:-1], whole[: len(whole) // 2], b"\0" * 100, whole + b"\n"):
+        listing.write_bytes(text)
+        same("a start by a listing that isn't whole", repository.run("compactd", has_python=False)[0], 127)
+        listing.write_bytes(text)
+        answers_at_once(repository, "a start after one with such a listing", [UNPROVED])
+        same("the listing made anew", listing.read_bytes() == whole, True)
+
+
+def proved_after_listing(repository):
+    """What was just proved runs, also where a listing says that the unproved build is fresh. What is stale doesn't run."""
+    compiles(repository, "the first start")
+    answers_at_once(repository, "a start of files at rest", [UNPROVED])
+    proves(repository, "a proof")
+    answers(repository, "a start of what was just proved")
+    answers_at_once(repository, "a start of what is proved")
+    repository.write("crates/low/proofs/Lib.antt", "PROOFS")
+    compiles(repository, "a start after a change of a proof")
+    answers_at_once(repository, "a start after that", [UNPROVED])
+
+
+def kit_with_no_file(repository):
+    """Where the kit has no file with its version, `rt version` tells it."""
+    repository.take_kit("kit one", has_file=False)
+    compiles(repository, "the first start with that kit")
+    time.sleep(AT_REST)
+    answers(repository, "the second start with that kit", tells=[UNPROVED])
+    answers(repository, "the third start with that kit", tells=[UNPROVED])
+    repository.take_kit("kit two", has_file=False)
+    compiles(repository, "a start with another such kit")
 
 
 def gate_leaves(repository):
     """What the gate built is proved of the sources that it began with, and of no others."""
-    path = f"{runs.ROOT / 'checks/kit'}:{os.environ['PATH']}"
+    path = f"{repository.state / 'bin'}:{os.environ['PATH']}"
     environment = {**os.environ, "PATH": path, "KIT_STATE": str(repository.state)}
     note = [sys.executable, "-B", repository.top / "launch/program.py"]
     sources = subprocess.check_output(note, text=True, env=environment).strip()
@@ -254,15 +345,23 @@ CASES = (
     interrupted,
     hidden_build,
     proved_starts,
+    files_as_listed,
+    damaged_listings,
+    proved_after_listing,
+    kit_with_no_file,
     gate_leaves,
     asked_otherwise,
 )
 
 
+def try_case(case):
+    with tempfile.TemporaryDirectory(prefix="compactd-starts-") as folder:
+        case(Repository(pathlib.Path(folder)))
+
+
 def main():
-    for case in CASES:
-        with tempfile.TemporaryDirectory(prefix="compactd-starts-") as folder:
-            case(Repository(pathlib.Path(folder)))
+    with concurrent.futures.ThreadPoolExecutor(len(CASES)) as pool:
+        list(pool.map(try_case, CASES))
     return f"{len(CASES)} cases of starts and proofs: a build is used exactly where it is fresh, and is never half made"
 
 

@@ -2,6 +2,7 @@
 `.ci/run` share.
 
 A build is fresh while the kit, the sources and the build itself are as its note says. Times of files don't matter.
+`./compactd` needs no digest while files are as they were listed when the build was last found fresh.
 As a command this prints the digest of the sources. With the word `proved` and such a digest it notes that the program
 which the gate built was made from those sources.
 """
@@ -14,6 +15,7 @@ import shutil
 import signal
 import subprocess
 import sys
+import time
 
 ROOT = pathlib.Path(__file__).resolve().parent.parent
 # Where `rt ci` leaves the program, from the top of a repository.
@@ -23,6 +25,8 @@ OUT = PROVED.parent
 UNPROVED = OUT / "unproved/compactd"
 # The status of what can't build the program.
 CANNOT_BUILD = 70
+# Files that changed within so many seconds aren't listed: they may change again at what the system's clock takes for the same time.
+SECONDS_AT_REST = 2
 
 
 def say(text):
@@ -74,16 +78,25 @@ def digest_of(root, top="compactd"):
 
 
 def kit_version():
-    """The version of the Rattle kit whose `rt` is on PATH, or None where there is none."""
-    if not shutil.which("rt"):
+    """The version of the Rattle kit whose `rt` is on PATH, or None where there is none. `rt version` prints the kit's file KIT-ID."""
+    rt = shutil.which("rt")
+    if not rt:
         return None
-    said = subprocess.run(["rt", "version"], stdin=subprocess.DEVNULL, stdout=subprocess.PIPE, text=True)
-    return said.stdout.strip() or None
+    try:
+        return (pathlib.Path(rt).resolve().parent.parent / "KIT-ID").read_text().strip() or None
+    except OSError:
+        said = subprocess.run(["rt", "version"], stdin=subprocess.DEVNULL, stdout=subprocess.PIPE, text=True)
+        return said.stdout.strip() or None
 
 
 def note_of(build):
     """The file beside a build that says what it was made from."""
     return build.with_name(f"{build.name}.made_from")
+
+
+def listing_of(build):
+    """The file beside a build with the listing of the files as they were when it was last found fresh."""
+    return build.with_name(f"{build.name}.seen")
 
 
 def keep(build, kit, sources):
@@ -130,6 +143,22 @@ def is_fresh(build, kit, sources):
         return noted == [kit or noted[0], sources, hashlib.sha256(build.read_bytes()).hexdigest()]
     except (OSError, IndexError):
         return False
+
+
+def listing_now():
+    """The listing of the files that builds are made from, and of the builds."""
+    return subprocess.run(["sh", ROOT / "launch/files.sh"], stdin=subprocess.DEVNULL, stdout=subprocess.PIPE).stdout
+
+
+def keep_listing(build, listing):
+    """Leaves beside a fresh build the listing of the files, made before it was found fresh, unless one of them has just changed."""
+    changed = [float(line.split()[-1]) for line in listing.splitlines()]
+    for it in (PROVED, UNPROVED):
+        with contextlib.suppress(OSError):
+            listing_of(it).unlink()
+    if changed and max(changed) + SECONDS_AT_REST < time.time():
+        with contextlib.suppress(OSError):
+            listing_of(build).write_bytes(listing)
 
 
 if __name__ == "__main__":

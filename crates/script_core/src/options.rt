@@ -15,9 +15,15 @@ use std::convert::AsStr;
 use std::env::Args;
 use std::io;
 
+/// The usage, which `--help` and refusals show.
+const USAGE: &str = "\
+compactd [OPTIONS] < SCRIPT
+
+A script comes on standard input: compactd < FILE";
+
 /// What `--help` says of scripts.
 const COMMANDS: &str = "\
-Commands of a script, one a line:
+Commands of a script, one per line:
   zone Z B, info Z
   map Z S V [unmovable], mapat Z S V F [unmovable], fill Z S V N
   share Z S V S2 V2, unmap Z S V, thin Z S V N STEP
@@ -28,7 +34,15 @@ Commands of a script, one a line:
 and in profile 2, where the first line is `profile 2`:
   huge Z K, give Z F K, pool Z N K, mark Z B, unmark Z B
 
-docs/SCRIPT.md has what each does, its replies, refusals and faults, and examples.";
+Numbers of the reply `refused`:
+  1 out of range, 2 journal full, 3 address names no page, 4 page is moving, 5 address in use,
+  6 no free frame, 7 four addresses already, 8 255 pins already, 9 page has no pin,
+  10 last address of a pinned page, 11 no free block, 12 block isn't handed out,
+  17 pageblock is marked already, 18 pageblock isn't marked, 31 no memory, 32 no thread,
+  33 a round broke, 34 the zone refused a copy, 35 receipts differ from the journal,
+  43 no zone of this number, 44 a zone was opened already, 45 the hand or a round is in the way
+
+See docs/SCRIPT.md for what each command does, replies, refusals, faults and examples.";
 
 /// The options that the process was started with, or clap's answer where it isn't options: a refusal, the help or the version.
 pub fn given_options(alloc: Global, words: io::Result<Args>) -> Result<Options, Error>
@@ -113,19 +127,19 @@ fn command_line<'a>(alloc: Global) -> Result<Command<'a>, AllocError>
         alloc,
         bare_line(alloc),
         "copiers",
-        "Copiers that a round has, 1 to 4 [default: 2]",
+        "Copier threads per round, 1 to 4 [default: 2]",
     )?;
     let command = with_number::<64>(
         alloc,
         command,
         "capacity",
-        "Pages that a queue of a round holds, 1 to 64 [default: 8]",
+        "Pages per queue of a round, 1 to 64 [default: 8]",
     )?;
     with_number::<65536>(
         alloc,
         command,
         "journal",
-        "Records that the journal holds, 1 to 65536 [default: 65536]",
+        "Records in the journal, 1 to 65536 [default: 65536]",
     )
 }
 
@@ -135,6 +149,7 @@ fn bare_line<'a>(alloc: Global) -> Command<'a>
 {
     Command::new(alloc, "compactd")
         .version("0.2.0")
+        .override_usage(USAGE)
         .about("Runs the script on standard input, and writes a reply for each command")
         .after_help(COMMANDS)
 }

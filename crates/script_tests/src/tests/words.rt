@@ -59,10 +59,10 @@ fn reads_each_option_for_itself(rt: HostRuntime) {
 
 /// Parts of the help.
 const HELP: [&str; 6] = [
-    "Usage: compactd [OPTIONS]",
-    "--copiers <N>   Copiers that a round has, 1 to 4 [default: 2]",
-    "--capacity <N>  Pages that a queue of a round holds, 1 to 64 [default: 8]",
-    "--journal <N>   Records that the journal holds, 1 to 65536 [default: 65536]",
+    "Usage: compactd [OPTIONS] < SCRIPT\n",
+    "--copiers <N>   Copier threads per round, 1 to 4 [default: 2]",
+    "--capacity <N>  Pages per queue of a round, 1 to 64 [default: 8]",
+    "--journal <N>   Records in the journal, 1 to 65536 [default: 65536]",
     "  zone Z B, info Z\n",
     "  during Z, then lines of a client as above, then end\n",
 ];
