@@ -13,8 +13,8 @@ import sys
 import time
 
 FOLDER = pathlib.Path(__file__).resolve().parent
-SHARED = ("all", "runs", "machine", "c_programs", "c_machine")  # what isn't a check
-OF_SOURCES = ("starts", "told_lists", "types_with_allocators", "wrong_bodies")  # for which nothing is built
+SHARED = ("all", "runs", "sources", "machine", "c_programs", "c_machine")  # what isn't a check
+OF_SOURCES = ("starts", "hand_proofs", "types_with_allocators", "wrong_bodies")  # for which nothing is built
 SECONDS = 1800  # that a check may take
 
 
