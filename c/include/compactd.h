@@ -397,7 +397,7 @@ uint32_t compactd_next_moving(compactd_pool *pool, uint32_t from, compactd_movin
 uint32_t compactd_compact(compactd_pool *pool, compactd_bool *met) COMPACTD_CALL;
 
 /* A round whose pages the caller moves: compactd_begin_round; then compactd_isolate until it answers MET; and for each page compactd_commit
- * or compactd_put_back, by any thread and in any order. compactd_round.h does this with threads. */
+ * or compactd_put_back, by any thread and in any order. compactd_round.h makes such a round in slices. */
 
 /* Begins a round. A round that was begun before ends; pages that are moving stay so. The call is unrecorded.
  * Refused: CLOSED. */
