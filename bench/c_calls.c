@@ -56,9 +56,9 @@ static uint32_t take_or_give(compactd_pool *pool, uint32_t i)
 
 static uint32_t look(compactd_pool *pool, uint32_t i)
 {
-    compactd_seen seen;
+    compactd_page_info info;
 
-    return compactd_look(pool, 0, i * 37 % PAGES, &seen);
+    return compactd_look(pool, 0, i * 37 % PAGES, &info);
 }
 
 /* Fills a pool of 1,024 pages. */
@@ -150,6 +150,44 @@ static uint32_t read_page(compactd_pool *pool, uint32_t i)
     return compactd_read(pool, 0, 0, i * 37 % PAGES, 0, words, 512);
 }
 
+static uint32_t info(compactd_pool *pool, uint32_t i)
+{
+    compactd_counts counts;
+
+    (void)i;
+    return compactd_info(pool, &counts);
+}
+
+static uint32_t free_runs(compactd_pool *pool, uint32_t i)
+{
+    return compactd_free_runs(pool, i % 10, &frame);
+}
+
+static uint32_t fragmentation(compactd_pool *pool, uint32_t i)
+{
+    int32_t index;
+
+    return compactd_fragmentation(pool, i % 10, &index);
+}
+
+/* No page is moving, so that each frame is looked at. */
+static uint32_t next_moving(compactd_pool *pool, uint32_t i)
+{
+    compactd_moving_page page;
+    compactd_move move;
+
+    (void)i;
+    return compactd_next_moving(pool, 0, &page, &move) == COMPACTD_NOT_MOVING ? COMPACTD_OK : COMPACTD_MOVING;
+}
+
+static void measure_questions(void)
+{
+    measure("counts", open_small, CALLS, info);
+    measure("free runs of an order", open_small, CALLS / 20, free_runs);
+    measure("fragmentation index", open_small, CALLS / 20, fragmentation);
+    measure("next moving page, where there is none", open_small, CALLS / 20, next_moving);
+}
+
 static void measure_without_records(void)
 {
     measure("load, no records", open_small, CALLS, load);
@@ -170,6 +208,7 @@ int main(void)
     measure_rounds("page of a round", open_with_journal);
 #ifndef PLAIN
     measure_without_records();
+    measure_questions();
 #endif
     return is_well ? 0 : 1;
 }

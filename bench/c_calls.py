@@ -89,9 +89,9 @@ def programs(room, folder, baseline):
 
 def show(columns):
     """A table of what the programs tell."""
-    print(f"{'millions a second':34}" + "".join(f"{head:>12}" for head in columns))
+    print(f"{'millions a second':38}" + "".join(f"{head:>12}" for head in columns))
     for row in columns["from C"]:
-        print(f"{row:34}" + "".join(f"{column.get(row, ''):>12}" for column in columns.values()))
+        print(f"{row:38}" + "".join(f"{column.get(row, ''):>12}" for column in columns.values()))
 
 
 def main():

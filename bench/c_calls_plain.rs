@@ -14,12 +14,14 @@ pub struct Pool {
 
 /// What is known of a page.
 #[repr(C)]
-pub struct Seen {
-    place: u32,
+pub struct PageInfo {
+    serial: u64,
+    frame: u32,
     flags: u32,
     pins: u32,
     maps: u32,
     moving: bool,
+    reserved: [u64; 2],
 }
 
 /// Makes a call on the zone of a pool, and has its value written where the caller wants it.
@@ -85,18 +87,18 @@ pub unsafe extern "C" fn compactd_store(pool: *mut Pool, client: u32, space: u32
 }
 
 #[no_mangle]
-pub unsafe extern "C" fn compactd_look(pool: *mut Pool, space: u32, vpage: u32, seen: *mut Seen) -> u32 {
-    made(pool, seen, |zone| zone.look(address(space, vpage)?).map(seen_of))
+pub unsafe extern "C" fn compactd_look(pool: *mut Pool, space: u32, vpage: u32, info: *mut PageInfo) -> u32 {
+    made(pool, info, |zone| zone.look(address(space, vpage)?).map(info_of))
 }
 
-fn seen_of(look: Look) -> Seen {
-    match look {
+fn info_of(look: Look) -> PageInfo {
+    let (serial, frame, flags, pins, maps, moving) = match look {
         Look::At { frame, flags, pins, maps } => {
-            let flags = u32::from(flags.unmovable) + 2 * u32::from(flags.dirty);
-            Seen { place: frame.into(), flags, pins: pins.into(), maps: maps.into(), moving: false }
+            (0, frame.into(), u32::from(flags.unmovable) + 2 * u32::from(flags.dirty), pins, maps, false)
         }
-        Look::Moving { serial, pins, maps } => Seen { place: serial, flags: 0, pins: pins.into(), maps: maps.into(), moving: true },
-    }
+        Look::Moving { serial, pins, maps } => (serial.into(), 0, 0, pins, maps, true),
+    };
+    PageInfo { serial, frame, flags, pins: pins.into(), maps: maps.into(), moving, reserved: [0; 2] }
 }
 
 /// Takes a pageblock: the plain program has no other order than 9.

@@ -1,10 +1,10 @@
 """Random calls of the library for C are answered as by the machine of `checks/machine.py`.
 
 A million calls are made through `libcompactd.so` and beside them on the machine, with pages of both sizes, with a journal and without one,
-among them rounds, and pages that are carried by hand. After each the number of its refusal is compared, and what it tells; where it is
-refused, what it would have told has to be untouched. Numbers are also out of their ranges. All refusals come up but those of a pool
-that is closed, open already or can't have its memory, which `checks/c_exports.py` tries. At the end the records of each pool are
-compared too."""
+among them rounds, and pages that are moved by hand. After each the number of its refusal is compared, and what it tells; where it is
+refused, what it would have told has to be untouched. The reserved words of a structure have to be 0 once a call has filled it, and are
+random in those that a call is given. Numbers are also out of their ranges. All refusals come up but those of a pool that is closed,
+open already or can't have its memory, which `checks/c_exports.py` tries. At the end the records of each pool are compared too."""
 
 import collections
 import ctypes
@@ -21,31 +21,46 @@ UNRECORDED_PLACES = 2**53
 UNTOUCHED = 0xA5  # in each byte where a call may write
 # What random calls can't come to.
 APART = {"MEMORY", "OPEN", "CLOSED"}
-u32, u64, size, flag, byte = ctypes.c_uint32, ctypes.c_uint64, ctypes.c_size_t, ctypes.c_bool, ctypes.c_ubyte
+u32, i32, u64, size, flag, byte = ctypes.c_uint32, ctypes.c_int32, ctypes.c_uint64, ctypes.c_size_t, ctypes.c_bool, ctypes.c_ubyte
 
 
 class Handle(ctypes.Structure):
     _fields_ = [("at", ctypes.c_void_p)]
 
 
+def fields(kind, names):
+    return [(name, kind) for name in names.split()]
+
+
+RESERVED = fields(u64 * 2, "reserved")
+
+
 class Counts(ctypes.Structure):
-    _fields_ = [(name, u32) for name in ("free", "pages", "moving", "huge", "whole", "held")]
+    _fields_ = [*fields(u32, "free pages moving huge whole held"), *RESERVED]
 
 
-class Seen(ctypes.Structure):
-    _fields_ = [*((name, u32) for name in ("place", "flags", "pins", "maps")), ("moving", byte)]
+class Geometry(ctypes.Structure):
+    _fields_ = [*fields(u32, "page_words blocks"), *fields(u64, "places"), *RESERVED]
 
 
-class Carried(ctypes.Structure):
-    _fields_ = [(name, u32) for name in ("serial", "number", "flags")]
+class PageInfo(ctypes.Structure):
+    _fields_ = [*fields(u64, "serial"), *fields(u32, "frame flags pins maps"), *fields(byte, "moving"), *RESERVED]
 
 
-class Noted(ctypes.Structure):
-    _fields_ = [*((name, u32) for name in ("kind", "client", "space", "vpage", "number", "other")), ("value", u64)]
+class RoundCounts(ctypes.Structure):
+    _fields_ = [*fields(u64, "isolated moved back"), *RESERVED]
 
 
-class Ends(ctypes.Structure):
-    _fields_ = [(name, u32) for name in ("isolated", "moved", "back")]
+class MovingPage(ctypes.Structure):
+    _fields_ = [*fields(u64, "serial"), *fields(u32, "number flags"), *RESERVED]
+
+
+class Move(ctypes.Structure):
+    _fields_ = [*fields(u32, "source target space vpage"), *RESERVED]
+
+
+class Record(ctypes.Structure):
+    _fields_ = [*fields(u32, "kind client space vpage"), *fields(u64, "number other value"), *RESERVED]
 
 
 def loaded():
@@ -82,17 +97,21 @@ ARGUMENTS = {
     "read_block": [u32, u32, size, told(u64), size],
     "write_block": [u32, u32, size, told(u64), size],
     "info": [told(Counts)],
-    "look": [u32, u32, told(Seen)],
+    "describe": [told(Geometry)],
+    "free_runs": [u32, told(u32)],
+    "fragmentation": [u32, told(i32)],
+    "look": [u32, u32, told(PageInfo)],
     "marked": [u32, told(byte)],
     "quiet": [told(byte)],
-    "audit": [told(Ends)],
+    "audit": [told(RoundCounts)],
     "compact": [told(byte)],
     "begin_round": [],
-    "isolate": [told(Carried), told(u64), size],
-    "commit": [u32, u32, told(u64), size, told(byte)],
-    "put_back": [u32, u32],
+    "isolate": [told(MovingPage), told(u64), size],
+    "commit": [told(MovingPage), told(u64), size, told(byte)],
+    "put_back": [told(MovingPage)],
+    "next_moving": [u32, told(MovingPage), told(Move)],
     "journal": [told(u64), told(u64)],
-    "record": [size, told(Noted)],
+    "record_at": [size, told(Record)],
 }
 
 
@@ -185,7 +204,15 @@ class Chooser:
     def info(self):
         return ()
 
-    quiet = audit = compact = begin_round = info
+    describe = quiet = audit = compact = begin_round = info
+
+    def free_runs(self):
+        return (self.number(11),)
+
+    fragmentation = free_runs
+
+    def next_moving(self):
+        return (self.chance.choice([0, self.number(self.frames, 4096)]),)
 
     def look(self):
         return self.place()[1:]
@@ -196,9 +223,10 @@ OFTEN = {
     **dict.fromkeys(["map_at", "share", "look", "write", "read"], 60),
     **dict.fromkeys(["pin", "unpin"], 40),
     **dict.fromkeys(["take_order", "give_order", "read_block", "write_block"], 15),
-    **dict.fromkeys(["mark", "unmark", "marked", "info", "quiet", "audit"], 5),
+    **dict.fromkeys(["mark", "unmark", "marked", "info", "quiet", "audit", "describe", "free_runs", "fragmentation"], 5),
     **dict.fromkeys(["compact", "begin_round"], 1),
     **dict.fromkeys(["isolate", "commit"], 20),
+    "next_moving": 10,
     "put_back": 5,
 }
 # The calls that end the quiet of a round where they are accepted.
@@ -211,7 +239,7 @@ class Beside:
 
     def __init__(self, library, page_words, blocks, places):
         self.library, self.handle = library, Handle()
-        self.machine = ByMachine(Zone(page_words, blocks, places or UNRECORDED_PLACES))
+        self.machine = ByMachine(Zone(page_words, blocks, places or UNRECORDED_PLACES), places or 0)
         opening = ("open_journal", page_words, blocks, places) if places else ("open", page_words, blocks)
         if answer := self.call(*opening):
             raise runs.Failed(f"{opening} is refused {answer}")
@@ -221,16 +249,15 @@ class Beside:
         return getattr(self.library, f"compactd_{name}")(self.handle, *arguments)
 
     def answers(self, name, arguments):
-        """What the library answers, and what it tells."""
+        """What the library answers, and where it tells what."""
         if name.startswith("read"):
             words = fresh(u64 * (arguments[-1] + 1))
-            return self.call(name, *arguments[:-1], words, arguments[-1]), words
+            return self.call(name, *arguments[:-1], words, arguments[-1]), [words]
         if name.startswith("write"):
             values = arguments[-1]
-            return self.call(name, *arguments[:-1], (u64 * (len(values) + 1))(*values), len(values)), None
-        kinds = [kind._type_ for kind in ARGUMENTS[name] if hasattr(kind, "contents")]
-        places = [fresh(kind) for kind in kinds]
-        return self.call(name, *arguments, *places), places[0] if places else None
+            return self.call(name, *arguments[:-1], (u64 * (len(values) + 1))(*values), len(values)), []
+        places = [fresh(kind._type_) for kind in ARGUMENTS[name] if hasattr(kind, "contents")]
+        return self.call(name, *arguments, *places), places
 
     def wanted(self, name, arguments):
         """The same of the machine."""
@@ -245,31 +272,32 @@ class Beside:
     def compare(self, name, arguments):
         """Makes a call on both, and returns the number that both answer."""
         number, said = self.wanted(name, arguments)
-        answer, place = self.answers(name, arguments)
-        found, untouched = value_of(place), value_of(fresh(type(place)) if place is not None else None)
+        answer, places = self.answers(name, arguments)
+        found, untouched = values_of(places), values_of(map(fresh, map(type, places)))
         if said is None:
             said = untouched
-        elif name.startswith("read"):
-            said = *said, *untouched[len(said) :]
+        elif not isinstance(said, tuple):
+            said = (said,)
+        said += untouched[len(said) :]  # a place more than the words that are read
         if (answer, found) != (number, said):
             raise wrong_answer(f"{name}{arguments}", (answer, found), (number, said))
+        need_reserved(name, answer, places)
         return answer
 
     def compare_records(self, places):
-        """Compares the journal with the machine's records, where it is kept; else none is told."""
-        counted = [fresh(u64), fresh(u64)]
-        self.call("journal", *counted)
+        """Compares the journal with the machine's records, where it is kept; else no record is there."""
         wanted, room = self.machine.zone.records, self.machine.zone.places
-        if [place.value for place in counted] != [len(wanted), room]:
-            raise wrong_answer("journal", [place.value for place in counted], [len(wanted), room])
+        answer, counted = self.answers("journal", ())
+        if (answer, values_of(counted)) != (0, (len(wanted), room)):
+            raise wrong_answer("journal", values_of(counted), (len(wanted), room))
         kept = wanted if places else []
         for at, record in enumerate(kept):
-            noted = fresh(Noted)
-            answer, found = self.call("record", at, noted), value_of(noted)
-            if answer or any(number not in (None, told) for number, told in zip(record, found)):
-                raise wrong_answer(f"record {at}", found, record)
-        if self.call("record", len(kept), fresh(Noted)) != 1:
-            raise runs.Failed("a record is told past the newest, or of a journal that isn't kept")
+            answer, found = self.answers("record_at", (at,))
+            if answer or any(number not in (None, told) for number, told in zip(record, values_of(found))):
+                raise wrong_answer(f"record {at}", values_of(found), record)
+            need_reserved("record_at", answer, found)
+        if self.call("record_at", len(kept), fresh(Record)) != 1:
+            raise runs.Failed("there is a record past the newest, or of a journal that isn't kept")
 
     # Pages by hand.
 
@@ -283,33 +311,38 @@ class Beside:
 
     def isolate(self, chance):
         count = chance.choice([0, 8, 512]) if chance.random() < 0.02 else self.machine.zone.page_words
-        carried, words = fresh(Carried), fresh(u64 * (count + 1))
+        page, words = fresh(MovingPage), fresh(u64 * (count + 1))
         number, said = self.wanted("isolate", (count,))
-        answer = self.call("isolate", carried, words, count)
+        answer = self.call("isolate", page, words, count)
         if answer == 0:
-            self.carried[carried.serial] = carried.number, list(words)[:count]
-        untouched = value_of(fresh(Carried))[0], value_of(fresh(Carried))[2], value_of(fresh(u64 * (count + 1)))
+            self.carried[page.serial] = page.number, list(words)[:count]
+            self.machine.numbers[page.serial] = page.number
+        need_reserved("isolate", answer, [page])
+        untouched = fresh(MovingPage).serial, fresh(MovingPage).flags, values_of([fresh(type(words))])
         wanted = untouched if said is None else (*said[:2], said[2] + untouched[2][-1:])
-        return (answer, (carried.serial, carried.flags, tuple(words))), (number, wanted)
+        return (answer, (page.serial, page.flags, tuple(words))), (number, wanted)
 
     def end(self, name, chance):
-        """Ends the move of a page, or of none: now and then with a number or a word that isn't the page's."""
-        serial = chance.choice([*self.carried, 2**32 - 1])
+        """Ends the move of a page, or of none: now and then with a serial, a number or a word that isn't the page's."""
+        serial = chance.choice([*self.carried, 2**32 - 1, 2**64 - 1])
         own = self.carried.get(serial, (7, [0] * self.machine.zone.page_words))
-        page, words = own[0] + (chance.random() < 0.05), list(own[1])
+        if chance.random() < 0.03:
+            serial ^= 2**32
+        number, words = own[0] + (chance.random() < 0.05), list(own[1])
+        page = MovingPage(serial, number, chance.getrandbits(32), (chance.getrandbits(64), chance.getrandbits(64)))
         if name == "put_back":
-            number, _ = self.wanted(name, (serial, serial in self.carried and page == own[0]))
-            answer = self.call(name, serial, page)
+            wanted, _ = self.wanted(name, (serial, serial in self.carried and number == own[0]))
+            answer = self.call(name, page)
             self.forget(serial, answer)
-            return (answer, None), (number, None)
+            return (answer, None), (wanted, None)
         words += [0] * (chance.random() < 0.02)
         words[chance.randrange(len(words))] ^= chance.random() < 0.05
-        is_own = serial in self.carried and (page, words) == own
-        number, said = self.wanted(name, (serial, is_own, len(words)))
+        is_own = serial in self.carried and (number, words) == own
+        wanted, said = self.wanted(name, (serial, is_own, len(words)))
         moved = fresh(byte)
-        answer = self.call(name, serial, page, (u64 * len(words))(*words), len(words), moved)
+        answer = self.call(name, page, (u64 * len(words))(*words), len(words), moved)
         self.forget(serial, answer)
-        return (answer, moved.value), (number, UNTOUCHED if said is None else said)
+        return (answer, moved.value), (wanted, UNTOUCHED if said is None else said)
 
     def forget(self, serial, answer):
         if answer == 0:
@@ -327,13 +360,22 @@ def fresh(kind):
     return place
 
 
-def value_of(place):
-    """What stands in a place."""
+def values_of(places):
+    """What stands in places, one after the other, but for the reserved words of structures."""
+    return tuple(value for place in places for value in values_in(place))
+
+
+def values_in(place):
     if isinstance(place, ctypes.Structure):
-        return tuple(getattr(place, name) for name, _ in place._fields_)
-    if isinstance(place, ctypes.Array):
-        return tuple(place)
-    return None if place is None else place.value
+        return tuple(getattr(place, name) for name, _ in place._fields_[:-1])
+    return tuple(place) if isinstance(place, ctypes.Array) else (place.value,)
+
+
+def need_reserved(name, answer, places):
+    """The reserved words of structures are 0 once the call was done, and else untouched."""
+    found = {word for place in places if isinstance(place, ctypes.Structure) for word in place.reserved}
+    if found - {fresh(u64).value if answer else 0}:
+        raise runs.Failed(f"{name} answers {answer} and leaves {found} in reserved words")
 
 
 def random_calls(seed):

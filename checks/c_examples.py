@@ -1,6 +1,7 @@
 """The examples of the library for C write what stands beside them, from C, C++ and Rust, also under AddressSanitizer, UBSan and valgrind.
 
-The archive is linked by name and as pkg-config has it, and the shared library too. The tests and documents of the Rust crate pass, and
+The archive is linked by name and as pkg-config has it, and the shared library too. The program of `docs/C.md` compiles without a warning
+and writes what stands there. The tests and documents of the Rust crate pass, and
 threads that share a pool under one lock are clean under gcc's ThreadSanitizer. The sanitizers see what the C and C++ of the examples
 and the headers do, and the memory that the library asks for and copies, but not its own loads and stores; valgrind sees these too.
 
@@ -8,6 +9,7 @@ It needs gcc and g++. What it tries with valgrind, pkg-config and cargo is left 
 
 import os
 import pathlib
+import re
 import shutil
 import tempfile
 
@@ -72,6 +74,17 @@ def try_linking(room):
     compare([room / "packaged"], source, "as pkg-config has it")
 
 
+def try_manual(room):
+    """Compiles the first program of the manual, and compares what it writes with the lines below its command."""
+    text = re.sub(r"^   ", "", (runs.ROOT / "docs/C.md").read_text(), flags=re.M)
+    program, lines = re.search(r"^```c\n(.*?)^```", text, re.M | re.S)[1], re.search(r"^\$ ./try\n(.*?)^```", text, re.M | re.S)[1]
+    source = room / "try.c"
+    source.write_text(program)
+    ran = c_programs.done([c_programs.built(source, room / "try")], "the program of docs/C.md")
+    if c_programs.text(ran.output) != lines:
+        raise runs.Failed(f"the program of docs/C.md writes\n{c_programs.text(ran.output)}")
+
+
 def try_rust(room):
     """Builds the crate outside the repository, and runs its tests, those of its documents, and its examples."""
     variables = {**os.environ, "COMPACTD_DIR": str(c_programs.folder()), "CARGO_TARGET_DIR": str(room), "RUSTFLAGS": "-D warnings"}
@@ -93,6 +106,7 @@ def main():
         room = pathlib.Path(room)
         tried = sum(try_program(source, room) for source in PROGRAMS)
         try_linking(room)
+        try_manual(room)
         if "cargo" not in lacking:
             try_rust(room / "rust")
     rust = "" if "cargo" in lacking else f", the Rust crate's tests pass and its {len(IN_RUST)} examples write what they have to"

@@ -5,8 +5,9 @@ the header has the fields of one there; the same holds of `bindings/rust/src/raw
 of the header is an export of the archive and of the shared library, and there is no other export but the three of the kit's heap in the
 archive. Besides these it names malloc, realloc, free, memcpy, memmove and memset alone, so it can neither print nor wait nor end the
 process. The headers compile from C89 and C++98 on, `compactd.hpp` from C++11, without a warning. A program calls each function and gets
-each refusal, on pools that are closed, open, closed again and closed twice, with pages of both sizes. Each request for memory that an
-opening makes is refused in turn: the answer is 14, the pool is closed, and nothing is lost. No other call asks for memory."""
+each refusal, on pools that are closed, open, closed again and closed twice, with pages of both sizes. The texts of refusals are the
+same in the header's comments, in its function and in the crate for Rust. Each request for memory that an opening makes is refused in
+turn: the answer is 14, the pool is closed, and nothing is lost. No other call asks for memory, accepted or refused."""
 
 import pathlib
 import re
@@ -26,12 +27,16 @@ STANDARDS = {
     ("compactd_round.h", "c++"): "c++98 c++11 c++20",
     ("compactd.hpp", "c++"): "c++11 c++14 c++17 c++20",
 }
+WARNINGS = {"c": c_programs.STRICT, "c++": [*c_programs.STRICT, "-Wold-style-cast", "-Wzero-as-null-pointer-constant"]}
 SOURCES = runs.ROOT / "crates/compactd_c/src"
 RAW = c_programs.BINDING / "src/raw.rs"
+ERRORS = c_programs.BINDING / "src/error.rs"
 POOL = "compactd_pool *"
 HANDLES = ("Pool", "Handle")  # its names in Rattle and in Rust
-NUMBERS = {"u32": "uint32_t", "u64": "uint64_t", "usize": "size_t", "bool": "compactd_bool"}
+NUMBERS = {"u32": "uint32_t", "i32": "int32_t", "u64": "uint64_t", "usize": "size_t", "bool": "compactd_bool"}
 CALL = r"\b(compactd_\w+)\("
+OF_HEADER = {"compactd_refusal_text"}  # functions that the header has itself
+OF_POOLS = {"OK", "CLOSED", "OPEN", "MET"}  # what isn't an error of the crate for Rust, since its types see to it
 # A byte of the kit's heap, whose address stands for memory of no size.
 NOTHING = "nothing"
 
@@ -65,13 +70,17 @@ def compare_names():
 
 def of_header():
     """What each function of the header takes and returns, and the fields of its structures."""
-    text = re.sub(r"/\*.*?\*/", "", (c_programs.HEADERS / "compactd.h").read_text(), flags=re.DOTALL)
+    text = c_programs.header_without_comments()
     calls = {}
-    for returned, name, taken in re.findall(r"^(\w+) (compactd_\w+)\(([^)]*)\);", text, re.M):
+    for returned, name, taken in re.findall(r"^(\w+) (compactd_\w+)\(([^)]*)\)[^;{]*;", text, re.M):
         kinds = [re.sub(r"\w+$", "", " ".join(it.split())).strip() for it in taken.split(",")]
         calls[name] = returned, [] if taken == "void" else kinds
     structures = re.findall(r"typedef struct (compactd_\w+) \{(.*?)\}", text, re.DOTALL)
-    return calls, {name: re.findall(r"(\w+ \**)(\w+);", fields) for name, fields in structures if f"{name} *" != POOL}
+    return calls, {name: fields_of_header(fields) for name, fields in structures if f"{name} *" != POOL}
+
+
+def fields_of_header(text):
+    return [(f"{kind}{places}", name) for kind, name, places in re.findall(r"(\w+) (\w+)(\[\d+\])?;", text)]
 
 
 def of_sources():
@@ -102,12 +111,19 @@ def calls_in(text, declared):
 
 def structures_in(text):
     """The fields of the structures of Rattle or Rust that are laid out as C has them, but the handle's."""
-    found = re.findall(r"#\[repr\(C\)\]\s*(?:#\[[^\n]*\]\s*)?pub struct (\w+) \{(.*?)\n\}", text, re.DOTALL)
-    return {
-        f"compactd_{name.lower()}": [(f"{NUMBERS[kind]} ", field) for field, kind in re.findall(r"(\w+): (\w+),", fields)]
-        for name, fields in found
-        if name not in HANDLES
-    }
+    found = re.findall(r"#\[repr\(C\)\]\s*(?:#\[[^\n]*\]\s*)*pub struct (\w+) \{(.*?)\n\}", text, re.DOTALL)
+    return {name_in_c(name): fields_in(fields) for name, fields in found if name not in HANDLES}
+
+
+def fields_in(text):
+    """Fields with their kinds in the words of C: a number, or an array of numbers."""
+    found = re.findall(r"(\w+): (?:(\w+)|\[(\w+); (\d+)\]),", text)
+    return [(NUMBERS[kind] if kind else f"{NUMBERS[inner]}[{places}]", name) for name, kind, inner, places in found]
+
+
+def name_in_c(name):
+    """The name in C of a structure: MovingPage is compactd_moving_page."""
+    return "compactd" + re.sub(r"[A-Z]", lambda letter: f"_{letter[0].lower()}", name)
 
 
 def in_c(kind):
@@ -116,7 +132,7 @@ def in_c(kind):
     const = "const " if shared else ""
     if inner.startswith("["):
         return [f"{const}{NUMBERS[inner[1:-1]]} *", "size_t"]
-    name = POOL[:-2] if inner in HANDLES else NUMBERS.get(inner, f"compactd_{inner.lower()}")
+    name = POOL[:-2] if inner in HANDLES else NUMBERS.get(inner) or name_in_c(inner)
     return [f"{const}{name} *" if pointer else name]
 
 
@@ -133,13 +149,25 @@ def need_same_types(where, declared):
             raise runs.Failed("\n".join(wrong))
 
 
+def compare_texts():
+    """The text of each refusal, in the header's comments, in its function, and for the errors of the crate for Rust."""
+    text, numbers = (c_programs.HEADERS / "compactd.h").read_text(), c_programs.refusals()
+    in_comments = dict(re.findall(r"COMPACTD_(\w+) = \d+,? +/\* (.*) \*/", text))
+    in_function = dict(re.findall(r"case COMPACTD_(\w+): return \"(.*)\";", text))
+    need_same("refusals with a text", set(in_function), set(numbers))
+    need_same("texts of refusals", set(in_function.items()), set(in_comments.items()))
+    in_rust = re.findall(r"\(Error::(\w+), (\d+), \"(.*)\"\)", ERRORS.read_text())
+    wanted = {(name.title().replace("_", ""), str(numbers[name]), in_function[name]) for name in set(numbers) - OF_POOLS}
+    need_same("errors of the crate for Rust", set(in_rust), wanted)
+
+
 def compile_headers():
     """The headers by each compiler that there is, by themselves. How many times."""
     compilers = {"c": ["gcc", "clang"], "c++": ["g++", "clang++"]}
     for compiler in filter(lambda name: not shutil.which(name), sum(compilers.values(), [])):
         runs.leave_out(f"the headers by {compiler}", "it isn't there")
     commands = [
-        [compiler, f"-std={standard}", "-D_POSIX_C_SOURCE=200809L", *c_programs.STRICT, "-fsyntax-only", "-x", language, source]
+        [compiler, f"-std={standard}", "-D_POSIX_C_SOURCE=200809L", *WARNINGS[language], "-fsyntax-only", "-x", language, source]
         for (header, language), standards in STANDARDS.items()
         for standard in standards.split()
         for compiler in compilers[language]
@@ -158,7 +186,7 @@ def need_every_call(declared):
     text, of_memory = ((runs.ROOT / f"c/tests/{name}.c").read_text() for name in ("every_call", "refused_memory"))
     called, by_class = (set(re.findall(CALL, it)) for it in (text, (c_programs.HEADERS / "compactd.hpp").read_text()))
     refused = set(re.findall(r"\bIS\(([A-Z_]+),", text)) | {"OK"} | ({"MEMORY"} if "COMPACTD_MEMORY" in of_memory else set())
-    need_same("functions that are called", called, declared)
+    need_same("functions that are called", called, declared | OF_HEADER)
     if lacking := declared - by_class - {"compactd_version"}:
         raise runs.Failed(f"compactd.hpp doesn't call {sorted(lacking)}")
     need_same("refusals that come up", refused, set(c_programs.refusals()))
@@ -166,6 +194,7 @@ def need_every_call(declared):
 
 def main():
     compare_types()
+    compare_texts()
     declared = compare_names()
     compiled = compile_headers()
     need_every_call(declared)

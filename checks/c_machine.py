@@ -4,6 +4,8 @@ import machine
 from machine import Refused
 
 MET = 53  # the answer of an isolation where the scanners have met
+NOT_MOVING = 54
+ORDERS = range(10)  # of free runs
 
 
 class Zone(machine.Zone):
@@ -12,7 +14,7 @@ class Zone(machine.Zone):
 
     def __init__(self, page_words, blocks, places):
         super().__init__(0, blocks, places)
-        self.page_words = page_words
+        self.page_words, self.blocks = page_words, blocks
         self.high = 0  # no round was begun
         self.is_quiet = False
         self.moved = self.back = 0
@@ -59,6 +61,31 @@ class Zone(machine.Zone):
         self.places -= count
         return page
 
+    def free_runs(self):
+        """By its order: how many free runs there are that lie in no larger one."""
+        runs = [0 for _ in ORDERS]
+        for first in range(0, self.size, 2 ** ORDERS[-1]):
+            self.count_runs(first, ORDERS[-1], runs)
+        return runs
+
+    def count_runs(self, first, order, runs):
+        """Counts the runs of a part of the zone: one where all of it is free, and else those of its halves."""
+        used = sum(frame is not None for frame in self.frames[first : first + 2**order])
+        if used == 0:
+            runs[order] += 1
+        elif used < 2**order:
+            self.count_runs(first, order - 1, runs)
+            self.count_runs(first + 2 ** (order - 1), order - 1, runs)
+
+    def fragmentation(self, order):
+        """The index of an order by the formula of Linux, in thousandths."""
+        runs, free = self.free_runs(), self.frames.count(None)
+        if free == 0:
+            return 0
+        if any(runs[order:]):
+            return -1000
+        return 1000 - (1000 + free * 1000 // 2**order) // sum(runs)
+
     def block(self, first, order, start, count):
         """The words of a block that is handed out."""
         if (first, order) not in self.handed_out:
@@ -85,10 +112,12 @@ def need_order(order):
 
 
 class ByMachine:
-    """The calls on the machine: what each tells, or None."""
+    """The calls on the machine: what each tells, or None. What fills a structure tells its fields but the reserved ones."""
 
-    def __init__(self, zone):
+    def __init__(self, zone, places):
         self.zone = zone
+        self.places = places  # of a journal that is kept
+        self.numbers = {}  # by their serials: the numbers of moving pages, as the library has them
 
     def map(self, client, space, page, unmovable):
         frame = self.zone.map(need_place(client, space, page), unmovable)
@@ -182,8 +211,27 @@ class ByMachine:
         page = self.zone.need_page(need_place(0, space, page))
         uses = page.pins, len(page.addresses)
         if page.serial is not None:
-            return page.serial, 0, *uses, 1
-        return page.frame, page.unmovable + 2 * page.dirty, *uses, 0
+            return page.serial, 0, 0, *uses, 1
+        return 0, page.frame, page.unmovable + 2 * page.dirty, *uses, 0
+
+    def describe(self):
+        return self.zone.page_words, self.zone.blocks, self.places
+
+    def free_runs(self, order):
+        need((order, len(ORDERS)))
+        return self.zone.free_runs()[order]
+
+    def fragmentation(self, order):
+        need((order, len(ORDERS)))
+        return self.zone.fragmentation(order)
+
+    def next_moving(self, start):
+        """The moving page, and its move."""
+        need((start, 4096))
+        page = min((it for it in self.zone.moving.values() if it.frame >= start), key=lambda it: it.frame, default=None)
+        if page is None:
+            raise Refused(NOT_MOVING)
+        return page.serial, self.numbers[page.serial], 2 * page.dirty, page.frame, page.target, *min(page.addresses)
 
     def marked(self, block):
         self.zone.need_pageblock(block)

@@ -42,16 +42,18 @@ def folder():
     return c_library.FOLDER
 
 
+def header_without_comments():
+    return re.sub(r"/\*.*?\*/", "", (HEADERS / "compactd.h").read_text(), flags=re.DOTALL)
+
+
 def exports_of_header():
-    """The names of the functions that the header declares."""
-    text = re.sub(r"/\*.*?\*/", "", (HEADERS / "compactd.h").read_text(), flags=re.DOTALL)
-    return set(re.findall(r"\b(compactd_\w+)\(", text))
+    """The names of the functions that the header declares, and doesn't have itself."""
+    return set(re.findall(r"^uint32_t (compactd_\w+)\(", header_without_comments(), re.M))
 
 
 def refusals():
     """The refusals of the header, by their names without COMPACTD_."""
-    text = (HEADERS / "compactd.h").read_text()
-    body = re.search(r"enum compactd_refusal \{(.*?)\};", text, re.DOTALL)[1]
+    body = re.search(r"enum compactd_refusal \{(.*?)\};", header_without_comments(), re.DOTALL)[1]
     return {name: int(number) for name, number in re.findall(r"COMPACTD_(\w+) = (\d+)", body)}
 
 

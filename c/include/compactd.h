@@ -1,39 +1,77 @@
 /* compactd: a page pool that makes huge pages by moving pages out of pageblocks.
  *
- * A pool is a row of frames, 512 in each of its 1 to 8 pageblocks. A frame holds a page or is free. An address, which is a space and
- * a virtual page, names a page; up to 4 addresses may name one page. A round moves pages to the top, so that pageblocks at the bottom
- * get empty. A block of 8 to 512 free frames can be handed out, and its words are then the caller's to use. The memory of all frames is
- * asked for when the pool is opened. docs/C.md explains each call.
+ * A pool is a row of frames, 512 in each of its 1 to 8 pageblocks. A frame holds a page or is free. An address is a space and a virtual
+ * page. It names a page, and up to 4 addresses may name the same page. A round moves pages to the top, so that pageblocks at the bottom
+ * become empty. A block of 8 to 512 free frames can be handed out; the caller then reads and writes its words. The memory of all frames is
+ * allocated when the pool is opened. docs/C.md explains each call.
  *
- * Each call answers 0 where it was done, or the number of its refusal, an enum compactd_refusal. A refused call changes nothing: the
- * pool is as it was, and nothing is written through the other pointers. Where several refusals hold, the one that stands first in the
- * comment of the call is answered.
+ * Each call answers 0 when it was done, or the number of its refusal, an enum compactd_refusal; compactd_refusal_text has its words. A
+ * refused call changes nothing: the pool is as it was, and nothing is written through the other pointers. Where several refusals hold, the
+ * call answers the one that comes first in its comment.
  *
- * Ranges, where a comment says no other: a client 0 to 7, a space 0 to 7, a virtual page (vpage) 0 to 4095, a frame 0 to 4095 and in the
+ * Ranges, unless a comment gives another: a client 0 to 7, a space 0 to 7, a virtual page (vpage) 0 to 4095, a frame 0 to 4095 and in the
  * pool, a word 0 to 7 or 0 to 511 by the size of the pool's pages, a pageblock 0 to 7 and in the pool, an order 3 to 9.
  *
- * What the caller owes, since no call can test it:
- * - A pool is all zeros before the first call on it. Its field is never read, written or copied but by these calls.
- * - Each pointer is to memory of its type, or to as many words as the call is told, and to nothing else of the same call.
- * - One call at a time on one pool: threads that share a pool make each call under one lock, which is theirs. Calls on different pools
- *   need no lock. A pool may be opened, used and closed by different threads.
- * - An open pool is closed at last; otherwise its memory is lost.
+ * Each structure but the handle ends in two reserved words. The library fills them with 0 and doesn't read them. A later version may give
+ * them a meaning; the size of the structure stays.
  *
- * No call prints, waits, starts a thread or ends the process. Only compactd_open and compactd_open_journal ask for memory.
- * A pool isn't to be used from a signal handler that may interrupt a call on it. */
+ * What the caller owes, since no call can test it:
+ * - A pool is all zeros before its first call. Only these calls read, write or copy its field.
+ * - Each pointer leads to memory of its type, or to as many words as the count says, and to nothing else of the same call. No pointer is
+ *   null, except `values` of compactd_read, compactd_write, compactd_read_block and compactd_write_block where the count is 0. A test
+ *   shows that null is right there; the proof assumes a pointer that isn't null.
+ * - Calls on one pool don't overlap, unless all of them are questions: compactd_info, _describe, _free_runs, _fragmentation, _look, _marked,
+ *   _quiet, _audit, _journal, _record_at and _next_moving. The caller's lock sees to it: a mutex, or a reader-writer lock under whose reading
+ *   side only questions are asked. That questions may run side by side is tested and not proved: the proof knows one call at a time. Calls
+ *   on different pools need no lock. One thread may open a pool, another use it, and a third close it.
+ * - An open pool is closed in the end; otherwise its memory is lost.
+ *
+ * Three caps of a pool's life. The way out of each is to close the pool and open another.
+ * - 2^32 - 1 isolations. After them compactd_isolate answers JOURNAL_FULL, and the scanners of compactd_compact don't meet. At 2 us a page
+ *   that is 2.4 hours of steady compaction.
+ * - 2^53 recorded calls of a pool that keeps no journal; each word of compactd_read and compactd_write counts as one. After them recorded
+ *   calls are refused as JOURNAL_FULL.
+ * - A journal that is kept has the places that it was opened with. It can't be emptied.
+ *
+ * As long as the caller does what it owes, no call prints, waits, starts a thread or ends the process. Only compactd_open and
+ * compactd_open_journal ask for memory, as a test counts. A signal handler that may interrupt a call on a pool doesn't use that pool. */
 #ifndef COMPACTD_H
 #define COMPACTD_H
 
 #include <stddef.h>
 #include <stdint.h>
 
+/* The version of this header. compactd_version answers COMPACTD_VERSION where the library fits the header. */
+#define COMPACTD_VERSION_MAJOR 0
+#define COMPACTD_VERSION_MINOR 2
+#define COMPACTD_VERSION_PATCH 0
+#define COMPACTD_VERSION (COMPACTD_VERSION_MAJOR * 10000 + COMPACTD_VERSION_MINOR * 100 + COMPACTD_VERSION_PATCH)
+#define COMPACTD_VERSION_TEXT "0.2.0"
+
+/* What a compiler may warn of: an answer that nobody looks at, and a pointer that is null. COMPACTD_CALL_WITH_WORDS stands where `values`
+ * may be null. */
+#ifdef __GNUC__
+#define COMPACTD_NOT_NULL __attribute__((nonnull))
+#define COMPACTD_CALL __attribute__((warn_unused_result, nonnull))
+#define COMPACTD_CALL_WITH_WORDS __attribute__((warn_unused_result, nonnull(1)))
+#else
+#define COMPACTD_NOT_NULL
+#define COMPACTD_CALL
+#define COMPACTD_CALL_WITH_WORDS
+#endif
+
+/* A function of a header, which a program needn't call. */
+#if defined(__cplusplus)
+#define COMPACTD_IN_HEADER inline
+#elif defined(__GNUC__)
+#define COMPACTD_IN_HEADER static __attribute__((unused))
+#else
+#define COMPACTD_IN_HEADER static
+#endif
+
 #ifdef __cplusplus
 extern "C" {
 #endif
-
-/* The version of this header, and what compactd_version answers where the library fits it. */
-#define COMPACTD_VERSION 1
-#define COMPACTD_VERSION_TEXT "1"
 
 /* A bool of C99 and of C++: one byte, 0 or 1. Compilers that have no such type, even as an extension, get a byte: pass 0 or 1 alone. */
 #if defined(__cplusplus)
@@ -53,38 +91,78 @@ typedef struct compactd_pool {
 
 /* Why a call was refused. */
 enum compactd_refusal {
-    COMPACTD_OK = 0,
+    COMPACTD_OK = 0,            /* done */
     COMPACTD_RANGE = 1,         /* an argument is out of its range */
-    COMPACTD_JOURNAL_FULL = 2,  /* the journal has no place left, besides those for the ends of moving pages */
+    COMPACTD_JOURNAL_FULL = 2,  /* the journal has no place left but those for the ends of moves, or 2^32 - 1 pages were isolated */
     COMPACTD_UNMAPPED = 3,      /* the address names no page */
     COMPACTD_MOVING = 4,        /* the page is moving */
     COMPACTD_OCCUPIED = 5,      /* the address names a page already */
-    COMPACTD_NO_FRAME = 6,      /* no frame is free, or the frame isn't */
+    COMPACTD_NO_FRAME = 6,      /* no frame is free, or the given frame isn't */
     COMPACTD_SHARE_FULL = 7,    /* the page has 4 addresses already */
     COMPACTD_PIN_FULL = 8,      /* the page has 255 pins already */
     COMPACTD_NOT_PINNED = 9,    /* the page has no pin */
     COMPACTD_PINNED = 10,       /* the page has a pin and this is its last address */
     COMPACTD_NO_BLOCK = 11,     /* no block of this order has only free frames */
-    COMPACTD_NOT_HUGE = 12,     /* no block of this order is handed out from this frame on */
-    COMPACTD_STRANGER = 13,     /* no such page is moving in this pool, or its words are others */
+    COMPACTD_NOT_HUGE = 12,     /* no block of this order that begins at this frame is handed out */
+    COMPACTD_STRANGER = 13,     /* no such page is moving in this pool, or its words differ */
     COMPACTD_MEMORY = 14,       /* there isn't enough memory */
-    COMPACTD_OUT = 16,          /* a page is moving */
+    COMPACTD_PAGES_MOVING = 16, /* a page of the pool is moving */
     COMPACTD_MARKED = 17,       /* the pageblock is marked already */
     COMPACTD_NOT_MARKED = 18,   /* the pageblock isn't marked */
     COMPACTD_CLOSED = 51,       /* the pool is closed */
     COMPACTD_OPEN = 52,         /* the pool is open already */
-    COMPACTD_MET = 53           /* the round has come to its end: its scanners met */
+    COMPACTD_MET = 53,          /* the scanners of the round have met */
+    COMPACTD_NOT_MOVING = 54    /* no page is moving out of this frame or a higher one */
 };
+
+/* The words for a refusal, for any number. It is a part of this header and not of the library. */
+COMPACTD_IN_HEADER const char *compactd_refusal_text(uint32_t refusal)
+{
+    switch (refusal) {
+    case COMPACTD_OK: return "done";
+    case COMPACTD_RANGE: return "an argument is out of its range";
+    case COMPACTD_JOURNAL_FULL: return "the journal has no place left but those for the ends of moves, or 2^32 - 1 pages were isolated";
+    case COMPACTD_UNMAPPED: return "the address names no page";
+    case COMPACTD_MOVING: return "the page is moving";
+    case COMPACTD_OCCUPIED: return "the address names a page already";
+    case COMPACTD_NO_FRAME: return "no frame is free, or the given frame isn't";
+    case COMPACTD_SHARE_FULL: return "the page has 4 addresses already";
+    case COMPACTD_PIN_FULL: return "the page has 255 pins already";
+    case COMPACTD_NOT_PINNED: return "the page has no pin";
+    case COMPACTD_PINNED: return "the page has a pin and this is its last address";
+    case COMPACTD_NO_BLOCK: return "no block of this order has only free frames";
+    case COMPACTD_NOT_HUGE: return "no block of this order that begins at this frame is handed out";
+    case COMPACTD_STRANGER: return "no such page is moving in this pool, or its words differ";
+    case COMPACTD_MEMORY: return "there isn't enough memory";
+    case COMPACTD_PAGES_MOVING: return "a page of the pool is moving";
+    case COMPACTD_MARKED: return "the pageblock is marked already";
+    case COMPACTD_NOT_MARKED: return "the pageblock isn't marked";
+    case COMPACTD_CLOSED: return "the pool is closed";
+    case COMPACTD_OPEN: return "the pool is open already";
+    case COMPACTD_MET: return "the scanners of the round have met";
+    case COMPACTD_NOT_MOVING: return "no page is moving out of this frame or a higher one";
+    default: return "unknown refusal";
+    }
+}
 
 /* The counts of a pool. */
 typedef struct compactd_counts {
     uint32_t free;   /* free frames */
-    uint32_t pages;  /* pages in use, moving ones too */
+    uint32_t pages;  /* pages in use, moving pages included */
     uint32_t moving; /* moving pages */
     uint32_t huge;   /* blocks that are handed out */
     uint32_t whole;  /* pageblocks whose 512 frames are all free */
     uint32_t held;   /* frames of the blocks that are handed out */
+    uint64_t reserved[2];
 } compactd_counts;
+
+/* What a pool was opened with. */
+typedef struct compactd_geometry {
+    uint32_t page_words; /* words of a page: 8 or 512 */
+    uint32_t blocks;     /* pageblocks: 1 to 8 */
+    uint64_t places;     /* places of its journal, used or not; 0 where it keeps none */
+    uint64_t reserved[2];
+} compactd_geometry;
 
 /* Flags of a page. */
 enum compactd_flag {
@@ -92,28 +170,41 @@ enum compactd_flag {
     COMPACTD_DIRTY = 2 /* it was written since it was mapped */
 };
 
-/* What is known of a page. */
-typedef struct compactd_seen {
-    uint32_t place; /* its frame, or its serial where it is moving */
-    uint32_t flags; /* a sum of enum compactd_flag, and 0 where it is moving */
-    uint32_t pins;  /* how many pins it has, 0 to 255 */
-    uint32_t maps;  /* how many addresses name it, 1 to 4 */
+/* What the pool knows of a page. */
+typedef struct compactd_page_info {
+    uint64_t serial; /* the serial of its move while it is moving, else 0 */
+    uint32_t frame;  /* its frame, or 0 while it is moving */
+    uint32_t flags;  /* a sum of enum compactd_flag, or 0 while it is moving */
+    uint32_t pins;   /* how many pins it has, 0 to 255 */
+    uint32_t maps;   /* how many addresses name it, 1 to 4 */
     compactd_bool moving;
-} compactd_seen;
+    uint64_t reserved[2];
+} compactd_page_info;
 
-/* What became of the pages that were taken in rounds, since the pool was opened. */
-typedef struct compactd_ends {
-    uint32_t isolated; /* how many were taken */
-    uint32_t moved;
-    uint32_t back;     /* how many were put back */
-} compactd_ends;
+/* How many pages rounds isolated, and how each of these moves ended. */
+typedef struct compactd_round_counts {
+    uint64_t isolated;
+    uint64_t moved;
+    uint64_t back;     /* pages that were put back */
+    uint64_t reserved[2];
+} compactd_round_counts;
 
-/* A page that is moving, whose words the caller has beside it. */
-typedef struct compactd_carried {
-    uint32_t serial; /* the number of its isolation: 0, 1, 2 and so on since the pool was opened */
+/* A page being moved; its words are in the caller's buffer. compactd_commit and compactd_put_back read its serial and its number alone. */
+typedef struct compactd_moving_page {
+    uint64_t serial; /* the number of its isolation: 0, 1, 2 and so on since the pool was opened */
     uint32_t number; /* its number in the pool */
     uint32_t flags;  /* a sum of enum compactd_flag */
-} compactd_carried;
+    uint64_t reserved[2];
+} compactd_moving_page;
+
+/* Where a moving page is. */
+typedef struct compactd_move {
+    uint32_t source; /* the frame that it leaves */
+    uint32_t target; /* the frame that it goes to */
+    uint32_t space;  /* the lowest of its addresses: first by space, then by vpage */
+    uint32_t vpage;
+    uint64_t reserved[2];
+} compactd_move;
 
 /* What a record is of. */
 enum compactd_kind {
@@ -128,178 +219,206 @@ enum compactd_kind {
     COMPACTD_WAS_MOVED = 9,
     COMPACTD_WAS_PUT_BACK = 10,
     COMPACTD_WAS_TAKEN = 11, /* a block was handed out */
-    COMPACTD_WAS_GIVEN = 12, /* a block was taken back */
+    COMPACTD_WAS_GIVEN = 12, /* a block was given back */
     COMPACTD_WAS_MARKED = 13,
     COMPACTD_WAS_UNMARKED = 14
 };
 
-/* A record of the journal. What its kind doesn't have is 0. */
-typedef struct compactd_noted {
+/* A record of the journal. Fields that don't apply are 0. */
+typedef struct compactd_record {
     uint32_t kind;   /* an enum compactd_kind */
     uint32_t client; /* of the first seven kinds, with their address: */
     uint32_t space;
     uint32_t vpage;
-    uint32_t number; /* MAPPED: the page. SHARED: the space of the alias. STORED, LOADED: the word. ISOLATED, MOVED, PUT_BACK: the serial.
+    uint64_t number; /* MAPPED: the page. SHARED: the space of the alias. STORED, LOADED: the word. ISOLATED, MOVED, PUT_BACK: the serial.
                         TAKEN, GIVEN: the first frame. MARKED, UNMARKED: the pageblock. */
-    uint32_t other;  /* SHARED: the virtual page of the alias. ISOLATED: the page. PUT_BACK: 1 where it had a pin, and 2 where it was put
+    uint64_t other;  /* SHARED: the virtual page of the alias. ISOLATED: the page. PUT_BACK: 1 where the page had a pin, 2 where it was put
                         back without a copy. TAKEN, GIVEN: the order. */
     uint64_t value;  /* STORED, LOADED: the value */
-} compactd_noted;
+    uint64_t reserved[2];
+} compactd_record;
 
 /* Opening and closing. */
 
 /* The version of the library. */
 uint32_t compactd_version(void);
 
-/* Opens a closed pool, whose pages have 8 words of 64 bits (64 bytes) or 512 (4 KiB), and which has 1 to 8 pageblocks of 512 frames.
- * It keeps no records, and has room for 2^53 calls that would be recorded.
+/* Opens a closed pool. Its pages have 8 words of 64 bits (64 bytes) or 512 (4 KiB); it has 1 to 8 pageblocks of 512 frames. It keeps no
+ * records, and has room for 2^53 calls that would be recorded.
  * Refused: OPEN where the pool is open; RANGE; MEMORY. */
-uint32_t compactd_open(compactd_pool *pool, uint32_t page_words, uint32_t blocks);
+uint32_t compactd_open(compactd_pool *pool, uint32_t page_words, uint32_t blocks) COMPACTD_CALL;
 
-/* The same of a pool that keeps a record of each accepted call but those that say otherwise, in its journal of 1 to 65,536 places. When
- * these are used up, calls that would be recorded are refused as JOURNAL_FULL. A page that is moving has two places.
+/* Like compactd_open, but journals accepted calls (those documented as unrecorded excepted). The journal has 1 to 65,536 places. When only
+ * the places reserved for ending moves are left, one for each moving page, recorded calls are refused as JOURNAL_FULL.
  * Refused: OPEN; RANGE; MEMORY. */
-uint32_t compactd_open_journal(compactd_pool *pool, uint32_t page_words, uint32_t blocks, uint32_t places);
+uint32_t compactd_open_journal(compactd_pool *pool, uint32_t page_words, uint32_t blocks, uint32_t places) COMPACTD_CALL;
 
-/* Closes a pool: its memory is given back, with that of pages, blocks and journal.
+/* Closes a pool and gives back its memory: that of its pages, its blocks and its journal.
  * Refused: CLOSED. */
-uint32_t compactd_close(compactd_pool *pool);
+uint32_t compactd_close(compactd_pool *pool) COMPACTD_NOT_NULL;
 
-/* Pages and addresses. A call is made for a client, whose number stands in its record and means nothing else. */
+/* Pages and addresses. Each call is made for a client. Its number is stored in the record and has no other meaning. */
 
-/* Makes an address name a fresh page of zeros in the lowest free frame, and tells this frame. A page may be unmovable: then no round
+/* Makes an address name a fresh page of zeros in the lowest free frame, and gets this frame. A page may be unmovable: then no round
  * moves it.
  * Refused: CLOSED; RANGE; JOURNAL_FULL; OCCUPIED; NO_FRAME. */
-uint32_t compactd_map(compactd_pool *pool, uint32_t client, uint32_t space, uint32_t vpage, compactd_bool unmovable, uint32_t *frame);
+uint32_t compactd_map(compactd_pool *pool, uint32_t client, uint32_t space, uint32_t vpage, compactd_bool unmovable, uint32_t *frame)
+    COMPACTD_CALL;
 
-/* The same in a frame that is given.
+/* Like compactd_map, but in the given frame.
  * Refused: CLOSED; RANGE; JOURNAL_FULL; OCCUPIED; NO_FRAME where the frame isn't free. */
-uint32_t compactd_map_at(compactd_pool *pool, uint32_t client, uint32_t space, uint32_t vpage, compactd_bool unmovable, uint32_t frame);
+uint32_t compactd_map_at(compactd_pool *pool, uint32_t client, uint32_t space, uint32_t vpage, compactd_bool unmovable, uint32_t frame)
+    COMPACTD_CALL;
 
 /* Reads a word of a page.
  * Refused: CLOSED; RANGE; JOURNAL_FULL; UNMAPPED; MOVING. */
-uint32_t compactd_load(compactd_pool *pool, uint32_t client, uint32_t space, uint32_t vpage, uint32_t word, uint64_t *value);
+uint32_t compactd_load(compactd_pool *pool, uint32_t client, uint32_t space, uint32_t vpage, uint32_t word, uint64_t *value) COMPACTD_CALL;
 
 /* Writes a word of a page.
  * Refused: CLOSED; RANGE; JOURNAL_FULL; UNMAPPED; MOVING. */
-uint32_t compactd_store(compactd_pool *pool, uint32_t client, uint32_t space, uint32_t vpage, uint32_t word, uint64_t value);
+uint32_t compactd_store(compactd_pool *pool, uint32_t client, uint32_t space, uint32_t vpage, uint32_t word, uint64_t value) COMPACTD_CALL;
 
-/* Reads words of a page, from one on, as loads of these words one after the other do. Each has a record. The words have to lie in the
- * page. The pointer isn't null, also where the count is 0.
- * Refused: CLOSED; RANGE, also where they go past the page; JOURNAL_FULL where there aren't places for all; UNMAPPED; MOVING. */
-uint32_t compactd_read(compactd_pool *pool, uint32_t client, uint32_t space, uint32_t vpage, uint32_t from, uint64_t *values, size_t count);
+/* Reads `count` words from word `from`, as that many compactd_load calls would. Each word has a record.
+ * Refused: CLOSED; RANGE, also where the words go past the page; JOURNAL_FULL where there aren't places for all; UNMAPPED; MOVING. */
+uint32_t compactd_read(compactd_pool *pool, uint32_t client, uint32_t space, uint32_t vpage, uint32_t from, uint64_t *values, size_t count)
+    COMPACTD_CALL_WITH_WORDS;
 
-/* Writes words of a page, from one on, as stores of these values one after the other do.
+/* Writes `count` words from word `from`, as that many compactd_store calls would.
  * Refused: as compactd_read is. */
 uint32_t compactd_write(compactd_pool *pool, uint32_t client, uint32_t space, uint32_t vpage, uint32_t from, const uint64_t *values,
-                        size_t count);
+                        size_t count) COMPACTD_CALL_WITH_WORDS;
 
 /* Makes an alias name the page of an address too.
  * Refused: CLOSED; RANGE; JOURNAL_FULL; UNMAPPED; MOVING; OCCUPIED where the alias names a page; SHARE_FULL. */
-uint32_t compactd_share(compactd_pool *pool, uint32_t client, uint32_t space, uint32_t vpage, uint32_t alias_space, uint32_t alias_vpage);
+uint32_t compactd_share(compactd_pool *pool, uint32_t client, uint32_t space, uint32_t vpage, uint32_t alias_space, uint32_t alias_vpage)
+    COMPACTD_CALL;
 
-/* Makes an address name no page any more. A page that has no address left is gone, and its frame is free.
+/* Makes an address name no page any more. When a page has no address left, it is gone and its frame is free.
  * Refused: CLOSED; RANGE; JOURNAL_FULL; UNMAPPED; MOVING; PINNED. */
-uint32_t compactd_unmap(compactd_pool *pool, uint32_t client, uint32_t space, uint32_t vpage);
+uint32_t compactd_unmap(compactd_pool *pool, uint32_t client, uint32_t space, uint32_t vpage) COMPACTD_CALL;
 
-/* Pins a page: until each of its pins is taken off no round takes it, and one that is moving is put back when it is committed.
+/* Pins a page. While a page has a pin, no round isolates it, and a commit of its move puts it back.
  * Refused: CLOSED; RANGE; JOURNAL_FULL; UNMAPPED; PIN_FULL. */
-uint32_t compactd_pin(compactd_pool *pool, uint32_t client, uint32_t space, uint32_t vpage);
+uint32_t compactd_pin(compactd_pool *pool, uint32_t client, uint32_t space, uint32_t vpage) COMPACTD_CALL;
 
 /* Takes a pin off a page.
  * Refused: CLOSED; RANGE; JOURNAL_FULL; UNMAPPED; NOT_PINNED. */
-uint32_t compactd_unpin(compactd_pool *pool, uint32_t client, uint32_t space, uint32_t vpage);
+uint32_t compactd_unpin(compactd_pool *pool, uint32_t client, uint32_t space, uint32_t vpage) COMPACTD_CALL;
 
 /* Blocks of 2^order frames, 8 to 512, which are aligned to their size. */
 
-/* Hands out the lowest block whose frames are all free, and tells its first frame. Its words are zeros.
+/* Hands out the lowest block whose frames are all free, and gets its first frame. Its words are zeros.
  * Refused: CLOSED; RANGE; JOURNAL_FULL; NO_BLOCK. */
-uint32_t compactd_take_order(compactd_pool *pool, uint32_t order, uint32_t *first);
+uint32_t compactd_take_order(compactd_pool *pool, uint32_t order, uint32_t *first) COMPACTD_CALL;
 
-/* Takes back a block that was handed out, by its first frame and its order.
- * Refused: CLOSED; RANGE, also where the frame isn't a multiple of 2^order or the block doesn't end in the pool; JOURNAL_FULL; NOT_HUGE. */
-uint32_t compactd_give_order(compactd_pool *pool, uint32_t first, uint32_t order);
+/* Gives back a block that was handed out, by its first frame and its order.
+ * Refused: CLOSED; RANGE, also where the frame isn't a multiple of 2^order or the block goes past the pool; JOURNAL_FULL; NOT_HUGE. */
+uint32_t compactd_give_order(compactd_pool *pool, uint32_t first, uint32_t order) COMPACTD_CALL;
 
-/* Reads words of a block that is handed out, from one on: it has 2^order times the words of a page. No record is written, so this may be
- * called where the journal is full. The pointer isn't null, also where the count is 0.
+/* Reads `count` words of a block that is handed out, from word `from`. A block has 2^order times the words of a page. The call is
+ * unrecorded, so it is accepted also where the journal is full.
  * Refused: CLOSED; RANGE where the frame is above 4095 or the order out of its range; NOT_HUGE; RANGE where the words go past the block. */
-uint32_t compactd_read_block(compactd_pool *pool, uint32_t first, uint32_t order, size_t from, uint64_t *values, size_t count);
+uint32_t compactd_read_block(compactd_pool *pool, uint32_t first, uint32_t order, size_t from, uint64_t *values, size_t count)
+    COMPACTD_CALL_WITH_WORDS;
 
-/* Writes words of a block that is handed out, from one on.
+/* Writes `count` words of a block that is handed out, from word `from`. The call is unrecorded.
  * Refused: as compactd_read_block is. */
-uint32_t compactd_write_block(compactd_pool *pool, uint32_t first, uint32_t order, size_t from, const uint64_t *values, size_t count);
+uint32_t compactd_write_block(compactd_pool *pool, uint32_t first, uint32_t order, size_t from, const uint64_t *values, size_t count)
+    COMPACTD_CALL_WITH_WORDS;
 
-/* Marks a pageblock: rounds take no page from it and put none into it.
+/* Marks a pageblock: rounds isolate no page of it and move none into it.
  * Refused: CLOSED; RANGE; JOURNAL_FULL; MARKED. */
-uint32_t compactd_mark(compactd_pool *pool, uint32_t block);
+uint32_t compactd_mark(compactd_pool *pool, uint32_t block) COMPACTD_CALL;
 
-/* Takes the mark of a pageblock off.
+/* Takes the mark off a pageblock.
  * Refused: CLOSED; RANGE; JOURNAL_FULL; NOT_MARKED. */
-uint32_t compactd_unmark(compactd_pool *pool, uint32_t block);
+uint32_t compactd_unmark(compactd_pool *pool, uint32_t block) COMPACTD_CALL;
 
-/* Questions. No record of them is written. */
+/* Questions. They only read the pool, and they are unrecorded. */
 
-/* Tells the counts.
+/* Gets the counts.
  * Refused: CLOSED. */
-uint32_t compactd_info(compactd_pool *pool, compactd_counts *counts);
+uint32_t compactd_info(compactd_pool *pool, compactd_counts *counts) COMPACTD_CALL;
 
-/* Tells what is known of the page that an address names.
+/* Gets what the pool was opened with.
+ * Refused: CLOSED. */
+uint32_t compactd_describe(compactd_pool *pool, compactd_geometry *geometry) COMPACTD_CALL;
+
+/* Gets how many free runs of 2^order frames there are, as /proc/buddyinfo counts them: runs that are aligned to their size and lie in no
+ * larger free run of the orders up to 9. Frames of marked pageblocks count too. The sum of runs * 2^order over all orders is the number
+ * of free frames.
+ * Refused: CLOSED; RANGE where the order is above 9. */
+uint32_t compactd_free_runs(compactd_pool *pool, uint32_t order, uint32_t *runs) COMPACTD_CALL;
+
+/* Gets the fragmentation index of an order in thousandths, as Linux has it in /sys/kernel/debug/extfrag/extfrag_index: -1000 where a run of
+ * 2^order frames is free; 0 where no frame is free; else 1000 - (1000 + free * 1000 / 2^order) / runs, with whole divisions, where `free` is
+ * the number of free frames and `runs` the sum of compactd_free_runs over the orders 0 to 9. Near 0 frames are lacking, near 1000 the
+ * free frames are fragmented.
+ * Refused: CLOSED; RANGE where the order is above 9. */
+uint32_t compactd_fragmentation(compactd_pool *pool, uint32_t order, int32_t *index) COMPACTD_CALL;
+
+/* Gets what the pool knows of the page that an address names.
  * Refused: CLOSED; RANGE; UNMAPPED. */
-uint32_t compactd_look(compactd_pool *pool, uint32_t space, uint32_t vpage, compactd_seen *seen);
+uint32_t compactd_look(compactd_pool *pool, uint32_t space, uint32_t vpage, compactd_page_info *info) COMPACTD_CALL;
 
-/* Tells whether a pageblock is marked.
+/* Gets whether a pageblock is marked.
  * Refused: CLOSED; RANGE. */
-uint32_t compactd_marked(compactd_pool *pool, uint32_t block, compactd_bool *marked);
+uint32_t compactd_marked(compactd_pool *pool, uint32_t block, compactd_bool *marked) COMPACTD_CALL;
 
-/* Tells whether the latest round is quiet: when it began no page was moving, and in pageblocks that aren't marked no page was pinned or
- * unmovable and no block handed out; and since then pages were loaded, stored, taken and moved alone. Where the scanners of a quiet round
- * met and no page is moving, the pool is packed: in the pageblocks that aren't marked, each free frame is below each page.
+/* Gets whether the latest round is quiet: it started with no moving page and no obstacle outside marked pageblocks, and only loads, stores
+ * and moves followed. An obstacle is a page that has a pin or is unmovable, or a block that is handed out. When the scanners of a quiet
+ * round have met and no page is moving, the pool is packed: in the pageblocks that aren't marked, each free frame is below each page.
  * Refused: CLOSED. */
-uint32_t compactd_quiet(compactd_pool *pool, compactd_bool *quiet);
+uint32_t compactd_quiet(compactd_pool *pool, compactd_bool *quiet) COMPACTD_CALL;
 
-/* Tells what became of the pages that were taken in rounds: each was moved or put back.
- * Refused: CLOSED; OUT. */
-uint32_t compactd_audit(compactd_pool *pool, compactd_ends *ends);
+/* Gets how many pages rounds have isolated since the pool was opened, how many of them were moved, and how many put back.
+ * Refused: CLOSED; PAGES_MOVING. */
+uint32_t compactd_audit(compactd_pool *pool, compactd_round_counts *counts) COMPACTD_CALL;
 
-/* Tells how many records were written since the pool was opened, and how many places are left. A pool that keeps no records counts them
+/* Gets how many records were written since the pool was opened, and how many places are left. A pool that keeps no records counts them
  * too, and has room for 2^53.
  * Refused: CLOSED. */
-uint32_t compactd_journal(compactd_pool *pool, uint64_t *records, uint64_t *room);
+uint32_t compactd_journal(compactd_pool *pool, uint64_t *records, uint64_t *room) COMPACTD_CALL;
 
-/* Tells a record of a pool that keeps its journal. 0 is the oldest.
+/* Gets a record of a pool that keeps its journal. 0 is the oldest.
  * Refused: CLOSED; RANGE where there is no such record, or none is kept. */
-uint32_t compactd_record(compactd_pool *pool, size_t place, compactd_noted *record);
+uint32_t compactd_record_at(compactd_pool *pool, size_t place, compactd_record *record) COMPACTD_CALL;
 
-/* Rounds. A round takes the lowest page that can be moved, moves it to the highest free frame, and so on until the two meet. */
+/* Gets the moving page with the lowest source frame, of those whose source is the frame `from` or a higher one. The caller gets all of
+ * them from 0, then from the latest source + 1, and so on. So a page whose carrier was lost can be found and put back.
+ * Refused: CLOSED; RANGE where `from` is above 4095; NOT_MOVING. */
+uint32_t compactd_next_moving(compactd_pool *pool, uint32_t from, compactd_moving_page *page, compactd_move *move) COMPACTD_CALL;
 
-/* Makes a whole round on the thread that calls, and tells whether its scanners met; else the journal had no room for a further move, or
- * the pool has taken 2^32 - 1 pages in its rounds.
+/* Rounds. A round moves the lowest page that can be moved to the highest free frame, and so on until its two scanners meet. */
+
+/* Makes a whole round on the calling thread, and gets whether its scanners met. They don't where the journal has no room for a further
+ * move, or 2^32 - 1 pages were isolated.
  * Refused: CLOSED. */
-uint32_t compactd_compact(compactd_pool *pool, compactd_bool *met);
+uint32_t compactd_compact(compactd_pool *pool, compactd_bool *met) COMPACTD_CALL;
 
-/* A round whose pages the caller carries: compactd_begin_round, then compactd_isolate until it answers MET, and for each page
- * compactd_commit or compactd_put_back, by any thread and in any order. compactd_round.h does this with threads. */
+/* A round whose pages the caller moves: compactd_begin_round; then compactd_isolate until it answers MET; and for each page compactd_commit
+ * or compactd_put_back, by any thread and in any order. compactd_round.h makes such a round in slices. */
 
-/* Begins a round. One that was begun before ends there; pages that are moving stay so. No record is written.
+/* Begins a round. A round that was begun before ends; pages that are moving stay so. The call is unrecorded.
  * Refused: CLOSED. */
-uint32_t compactd_begin_round(compactd_pool *pool);
+uint32_t compactd_begin_round(compactd_pool *pool) COMPACTD_CALL;
 
-/* Isolates the next page of the round, and copies its words, of which there has to be room for as many as a page has. The page is moving
- * from here on, until it is committed or put back.
- * Refused: CLOSED; RANGE where the count isn't that of a page; JOURNAL_FULL where there aren't two places, or 2^32 - 1 pages were taken; MET,
- * also where no round was begun. */
-uint32_t compactd_isolate(compactd_pool *pool, compactd_carried *carried, uint64_t *words, size_t count);
+/* Isolates the next page of the round and copies its words. `count` is the number of words of a page, and `words` has room for them. The
+ * page is moving until it is committed or put back.
+ * Refused: CLOSED; RANGE where the count isn't that of a page; JOURNAL_FULL where there aren't two places, or 2^32 - 1 pages were isolated;
+ * MET, also where no round was begun. */
+uint32_t compactd_isolate(compactd_pool *pool, compactd_moving_page *page, uint64_t *words, size_t count) COMPACTD_CALL;
 
-/* Ends the move of a page with a copy of its words: it is in its new frame, or in its old one where it has a pin. Tells whether it was
- * moved. The words are compared with those of the page.
+/* Ends the move of a page with a copy of its words, which are compared with those of the page. Gets whether the page was moved to its new
+ * frame; else it has a pin and is in its old frame.
  * Refused: CLOSED; RANGE where the count isn't that of a page; STRANGER where no page with this number is moving under this serial, or
- * its words are others. */
-uint32_t compactd_commit(compactd_pool *pool, uint32_t serial, uint32_t number, const uint64_t *words, size_t count,
-                         compactd_bool *moved);
+ * its words differ. */
+uint32_t compactd_commit(compactd_pool *pool, const compactd_moving_page *page, const uint64_t *words, size_t count, compactd_bool *moved)
+    COMPACTD_CALL;
 
-/* Ends the move of a page without its copy, by its serial and its number: it is in its old frame, with its words.
+/* Ends the move of a page without a copy: the page is in its old frame, with its words.
  * Refused: CLOSED; STRANGER. */
-uint32_t compactd_put_back(compactd_pool *pool, uint32_t serial, uint32_t number);
+uint32_t compactd_put_back(compactd_pool *pool, const compactd_moving_page *page) COMPACTD_CALL;
 
 #ifdef __cplusplus
 }

@@ -1,11 +1,13 @@
 // The page pool for C++, from C++11 on, over compactd.h. A call that is refused throws compactd::Error, which has the number of the
 // refusal, and changes nothing.
 //
-// A Pool can be moved and not copied, and closes when it is destroyed. A Huge is a block that a pool handed out. It can be moved and not
-// copied, and gives the block back when it is destroyed. It keeps the pool's memory until then, also where the Pool was destroyed before.
+// A Pool can be moved and not copied, and closes when it is destroyed. A Huge is a block that a pool handed out, and a Moving is a page
+// that is moving. Both can be moved and not copied. When a Huge is destroyed, it gives its block back; when a Moving is destroyed, it
+// puts its page back. Both keep the pool's memory until then, also where the Pool is destroyed before.
 //
-// As in C, one call at a time is made on one pool. To destroy a Pool or a Huge is such a call. Threads that share a pool make each call
-// under a lock of their own. This header isn't proved. It passes what it is given to calls that are.
+// As in C, calls on one pool don't overlap, unless all of them are questions. Destroying a Pool, a Huge or a Moving is a call on its pool
+// that isn't a question. Threads that share a pool make each call under a lock of their own, destructors included. This header isn't
+// proved. It passes what it is given to calls that are.
 #ifndef COMPACTD_HPP
 #define COMPACTD_HPP
 
@@ -17,45 +19,22 @@
 #include <stdexcept>
 #include <string>
 #include <utility>
+#include <vector>
 
 namespace compactd {
 
 // A refused call.
 class Error : public std::runtime_error {
 public:
-    explicit Error(std::uint32_t refusal) : std::runtime_error(text(refusal)), refusal_(refusal) {}
+    explicit Error(std::uint32_t refusal)
+        : std::runtime_error(std::string("compactd: ") + compactd_refusal_text(refusal)), refusal_(refusal)
+    {
+    }
 
     // Its number: one of enum compactd_refusal.
     std::uint32_t refusal() const noexcept { return refusal_; }
 
 private:
-    static std::string text(std::uint32_t refusal)
-    {
-        switch (refusal) {
-        case COMPACTD_RANGE: return "compactd: an argument is out of its range";
-        case COMPACTD_JOURNAL_FULL: return "compactd: the journal has no place left";
-        case COMPACTD_UNMAPPED: return "compactd: the address names no page";
-        case COMPACTD_MOVING: return "compactd: the page is moving";
-        case COMPACTD_OCCUPIED: return "compactd: the address names a page already";
-        case COMPACTD_NO_FRAME: return "compactd: no frame is free, or the frame isn't";
-        case COMPACTD_SHARE_FULL: return "compactd: the page has 4 addresses already";
-        case COMPACTD_PIN_FULL: return "compactd: the page has 255 pins already";
-        case COMPACTD_NOT_PINNED: return "compactd: the page has no pin";
-        case COMPACTD_PINNED: return "compactd: the page has a pin and this is its last address";
-        case COMPACTD_NO_BLOCK: return "compactd: no block of this order has only free frames";
-        case COMPACTD_NOT_HUGE: return "compactd: no such block is handed out";
-        case COMPACTD_STRANGER: return "compactd: no such page is moving in this pool";
-        case COMPACTD_MEMORY: return "compactd: there isn't enough memory";
-        case COMPACTD_OUT: return "compactd: a page is moving";
-        case COMPACTD_MARKED: return "compactd: the pageblock is marked already";
-        case COMPACTD_NOT_MARKED: return "compactd: the pageblock isn't marked";
-        case COMPACTD_CLOSED: return "compactd: the pool is closed";
-        case COMPACTD_OPEN: return "compactd: the pool is open already";
-        case COMPACTD_MET: return "compactd: the round has come to its end";
-        default: return "compactd: refused " + std::to_string(refusal);
-        }
-    }
-
     std::uint32_t refusal_;
 };
 
@@ -74,6 +53,9 @@ inline void done(std::uint32_t answer)
     if (answer != COMPACTD_OK)
         throw Error(answer);
 }
+
+// For destructors, which can't throw.
+inline void ignore(std::uint32_t) noexcept {}
 
 // A handle that closes itself. It stays where it is while it is open.
 struct Handle {
@@ -112,7 +94,7 @@ public:
     std::uint32_t first() const noexcept { return first_; }
     std::uint32_t order() const noexcept { return order_; }
 
-    // Reads and writes its words, from one on. It has those of its frames.
+    // Reads and writes `count` of its words, from word `from`. It has 2^order times the words of a page.
     void read(std::size_t from, std::uint64_t *values, std::size_t count) const
     {
         detail::done(compactd_read_block(raw(), first_, order_, from, values, count));
@@ -148,13 +130,87 @@ private:
     void let_go() noexcept
     {
         if (handle_)
-            compactd_give_order(&handle_->raw, first_, order_);
+            detail::ignore(compactd_give_order(&handle_->raw, first_, order_));
         handle_.reset();
     }
 
     std::shared_ptr<detail::Handle> handle_;
     std::uint32_t first_;
     std::uint32_t order_;
+};
+
+// A page that is moving, with a copy of its words. One that is empty has no page: isolate returns it where the scanners have met.
+class Moving {
+public:
+    Moving() noexcept : page_() {}
+
+    Moving(Moving &&other) noexcept = default;
+
+    Moving &operator=(Moving &&other) noexcept
+    {
+        if (this != &other) {
+            let_go();
+            handle_ = std::move(other.handle_);
+            page_ = other.page_;
+            words_ = std::move(other.words_);
+        }
+        return *this;
+    }
+
+    Moving(const Moving &) = delete;
+    Moving &operator=(const Moving &) = delete;
+
+    // Puts the page back, where its move hasn't ended.
+    ~Moving() { let_go(); }
+
+    // Whether it has a page.
+    explicit operator bool() const noexcept { return handle_ != nullptr; }
+
+    const compactd_moving_page &page() const noexcept { return page_; }
+    const std::vector<std::uint64_t> &words() const noexcept { return words_; }
+
+    // Ends the move with the words, and returns whether the page was moved; else it has a pin and is in its old frame. This is empty then.
+    bool commit()
+    {
+        bool moved = false;
+        detail::done(compactd_commit(raw(), &page_, words_.data(), words_.size(), &moved));
+        handle_.reset();
+        return moved;
+    }
+
+    // Ends the move without the words: the page is in its old frame. This is empty then.
+    void put_back()
+    {
+        detail::done(compactd_put_back(raw(), &page_));
+        handle_.reset();
+    }
+
+private:
+    friend class Pool;
+
+    Moving(std::shared_ptr<detail::Handle> handle, const compactd_moving_page &page, std::vector<std::uint64_t> words) noexcept
+        : handle_(std::move(handle)), page_(page), words_(std::move(words))
+    {
+    }
+
+    compactd_pool *raw() const
+    {
+        if (!handle_)
+            throw Error(COMPACTD_STRANGER);
+        return &handle_->raw;
+    }
+
+    // A refusal says that the move has ended already.
+    void let_go() noexcept
+    {
+        if (handle_)
+            detail::ignore(compactd_put_back(&handle_->raw, &page_));
+        handle_.reset();
+    }
+
+    std::shared_ptr<detail::Handle> handle_;
+    compactd_moving_page page_;
+    std::vector<std::uint64_t> words_;
 };
 
 // An open pool. One that was moved from is closed: its calls throw CLOSED.
@@ -243,55 +299,88 @@ public:
 
     void unmark(std::uint32_t block) { detail::done(compactd_unmark(raw(), block)); }
 
-    bool marked(std::uint32_t block)
+    // Questions.
+
+    bool marked(std::uint32_t block) const
     {
-        bool told = false;
-        detail::done(compactd_marked(raw(), block, &told));
-        return told;
+        bool is_marked = false;
+        detail::done(compactd_marked(raw(), block, &is_marked));
+        return is_marked;
     }
 
-    compactd_counts info()
+    compactd_counts info() const
     {
         compactd_counts counts = compactd_counts();
         detail::done(compactd_info(raw(), &counts));
         return counts;
     }
 
-    compactd_seen look(Address at)
+    compactd_geometry describe() const
     {
-        compactd_seen seen = compactd_seen();
-        detail::done(compactd_look(raw(), at.space, at.vpage, &seen));
-        return seen;
+        compactd_geometry geometry = compactd_geometry();
+        detail::done(compactd_describe(raw(), &geometry));
+        return geometry;
     }
 
-    compactd_ends audit()
+    // How many free runs of 2^order frames there are, and the fragmentation index of an order, 0 to 9.
+    std::uint32_t free_runs(std::uint32_t order) const
     {
-        compactd_ends ends = compactd_ends();
-        detail::done(compactd_audit(raw(), &ends));
-        return ends;
+        std::uint32_t runs = 0;
+        detail::done(compactd_free_runs(raw(), order, &runs));
+        return runs;
+    }
+
+    std::int32_t fragmentation(std::uint32_t order) const
+    {
+        std::int32_t index = 0;
+        detail::done(compactd_fragmentation(raw(), order, &index));
+        return index;
+    }
+
+    compactd_page_info look(Address at) const
+    {
+        compactd_page_info info = compactd_page_info();
+        detail::done(compactd_look(raw(), at.space, at.vpage, &info));
+        return info;
+    }
+
+    compactd_round_counts audit() const
+    {
+        compactd_round_counts counts = compactd_round_counts();
+        detail::done(compactd_audit(raw(), &counts));
+        return counts;
     }
 
     // How many records were written, and how many places are left.
-    std::pair<std::uint64_t, std::uint64_t> journal()
+    std::pair<std::uint64_t, std::uint64_t> journal() const
     {
-        std::pair<std::uint64_t, std::uint64_t> told;
-        detail::done(compactd_journal(raw(), &told.first, &told.second));
-        return told;
+        std::pair<std::uint64_t, std::uint64_t> counted;
+        detail::done(compactd_journal(raw(), &counted.first, &counted.second));
+        return counted;
     }
 
-    compactd_noted record(std::size_t place)
+    compactd_record record_at(std::size_t place) const
     {
-        compactd_noted noted = compactd_noted();
-        detail::done(compactd_record(raw(), place, &noted));
-        return noted;
+        compactd_record record = compactd_record();
+        detail::done(compactd_record_at(raw(), place, &record));
+        return record;
     }
 
-    bool quiet()
+    bool quiet() const
     {
-        bool told = false;
-        detail::done(compactd_quiet(raw(), &told));
-        return told;
+        bool is_quiet = false;
+        detail::done(compactd_quiet(raw(), &is_quiet));
+        return is_quiet;
     }
+
+    // Gets the moving page with the lowest source frame from a frame on, and returns whether there is one. A page whose carrier was lost can
+    // be found so, and put back.
+    bool next_moving(std::uint32_t from, compactd_moving_page &page, compactd_move &move) const
+    {
+        return is_there(compactd_next_moving(raw(), from, &page, &move), COMPACTD_NOT_MOVING);
+    }
+
+    // Rounds.
 
     // Makes a whole round on this thread. Returns whether its scanners met; else the journal had no room for a further move, or the pool has
     // taken 2^32 - 1 pages in its rounds.
@@ -302,31 +391,46 @@ public:
         return met;
     }
 
-    // A round whose pages the caller carries: begin_round, then isolate until it returns false, and for each page commit or put_back.
+    // A round whose pages the caller moves: begin_round, then isolate until it returns an empty Moving, and for each page its commit.
     void begin_round() { detail::done(compactd_begin_round(raw())); }
 
-    // Isolates the next page of the round, and copies its words, of which there has to be room for as many as a page has. Returns whether
-    // there was a page. It is moving from here on.
-    bool isolate(compactd_carried &page, std::uint64_t *words, std::size_t count)
+    // Isolates the next page of the round. It allocates the words of the page.
+    Moving isolate()
     {
-        const std::uint32_t answer = compactd_isolate(raw(), &page, words, count);
-        if (answer != COMPACTD_MET)
+        std::vector<std::uint64_t> words(describe().page_words);
+        compactd_moving_page page = compactd_moving_page();
+        if (!isolate(page, words.data(), words.size()))
+            return Moving();
+        return Moving(handle_, page, std::move(words));
+    }
+
+    // The same without an allocation, with words of the caller's: `count` is the number of words of a page. Returns whether there was a
+    // page. It is moving until commit or put_back of this class ends its move: no destructor does.
+    bool isolate(compactd_moving_page &page, std::uint64_t *words, std::size_t count)
+    {
+        return is_there(compactd_isolate(raw(), &page, words, count), COMPACTD_MET);
+    }
+
+    // Ends the move of a page with a copy of its words. Returns whether the page was moved; else it has a pin and is in its old frame.
+    bool commit(const compactd_moving_page &page, const std::uint64_t *words, std::size_t count)
+    {
+        bool moved = false;
+        detail::done(compactd_commit(raw(), &page, words, count, &moved));
+        return moved;
+    }
+
+    // Ends the move of a page without a copy: the page is in its old frame.
+    void put_back(const compactd_moving_page &page) { detail::done(compactd_put_back(raw(), &page)); }
+
+private:
+    // Whether a call was done; where it was refused as `none`, there is nothing to get.
+    static bool is_there(std::uint32_t answer, std::uint32_t none)
+    {
+        if (answer != none)
             detail::done(answer);
         return answer == COMPACTD_OK;
     }
 
-    // Ends the move of a page with a copy of its words. Returns whether it was moved; else it is in its old frame, since it has a pin.
-    bool commit(const compactd_carried &page, const std::uint64_t *words, std::size_t count)
-    {
-        bool moved = false;
-        detail::done(compactd_commit(raw(), page.serial, page.number, words, count, &moved));
-        return moved;
-    }
-
-    // Ends the move of a page without its copy: it is in its old frame.
-    void put_back(const compactd_carried &page) { detail::done(compactd_put_back(raw(), page.serial, page.number)); }
-
-private:
     std::shared_ptr<detail::Handle> handle_;
 };
 

@@ -1,5 +1,5 @@
-/* Calls each function of the library, with pages of both sizes, and gets each refusal. A call that answers another number is told with its
- * line, and the status is then 1. */
+/* Calls each function of the library, with pages of both sizes, and gets each refusal and its text. Prints each call that answers another
+ * number, with its line; the status is then 1. */
 #include "compactd.h"
 
 #include <stdio.h>
@@ -25,11 +25,15 @@ static uint64_t value;
 static uint64_t words[512];
 static compactd_bool is_so;
 static compactd_counts counts;
-static compactd_seen seen;
-static compactd_ends ends;
-static compactd_carried page;
-static compactd_noted noted;
+static compactd_geometry geometry;
+static compactd_page_info info;
+static compactd_round_counts round_counts;
+static compactd_moving_page page;
+static compactd_move move;
+static compactd_record record;
 static uint64_t records, room;
+static uint32_t runs;
+static int32_t fragmentation;
 
 /* Each call on a pool that is closed: from the beginning, or by compactd_close. */
 static void closed(compactd_pool *pool)
@@ -52,16 +56,20 @@ static void closed(compactd_pool *pool)
     IS(CLOSED, compactd_unmark(pool, 0));
     IS(CLOSED, compactd_marked(pool, 0, &is_so));
     IS(CLOSED, compactd_info(pool, &counts));
-    IS(CLOSED, compactd_look(pool, 0, 0, &seen));
+    IS(CLOSED, compactd_describe(pool, &geometry));
+    IS(CLOSED, compactd_free_runs(pool, 0, &runs));
+    IS(CLOSED, compactd_fragmentation(pool, 0, &fragmentation));
+    IS(CLOSED, compactd_next_moving(pool, 0, &page, &move));
+    IS(CLOSED, compactd_look(pool, 0, 0, &info));
     IS(CLOSED, compactd_quiet(pool, &is_so));
-    IS(CLOSED, compactd_audit(pool, &ends));
+    IS(CLOSED, compactd_audit(pool, &round_counts));
     IS(CLOSED, compactd_journal(pool, &records, &room));
-    IS(CLOSED, compactd_record(pool, 0, &noted));
+    IS(CLOSED, compactd_record_at(pool, 0, &record));
     IS(CLOSED, compactd_compact(pool, &is_so));
     IS(CLOSED, compactd_begin_round(pool));
     IS(CLOSED, compactd_isolate(pool, &page, words, 8));
-    IS(CLOSED, compactd_commit(pool, 0, 0, words, 8, &is_so));
-    IS(CLOSED, compactd_put_back(pool, 0, 0));
+    IS(CLOSED, compactd_commit(pool, &page, words, 8, &is_so));
+    IS(CLOSED, compactd_put_back(pool, &page));
     IS(CLOSED, compactd_close(pool));
     IS(CLOSED, compactd_close(pool));
 }
@@ -97,10 +105,16 @@ static void ranges(compactd_pool *pool, uint32_t page_words)
     IS(RANGE, compactd_mark(pool, 1));
     IS(RANGE, compactd_unmark(pool, 8));
     IS(RANGE, compactd_marked(pool, 1, &is_so));
-    IS(RANGE, compactd_look(pool, 0, 4096, &seen));
-    IS(RANGE, compactd_record(pool, 0, &noted));
+    IS(RANGE, compactd_look(pool, 0, 4096, &info));
+    IS(RANGE, compactd_record_at(pool, 0, &record));
+    IS(RANGE, compactd_free_runs(pool, 10, &runs));
+    IS(RANGE, compactd_free_runs(pool, far, &runs));
+    IS(RANGE, compactd_fragmentation(pool, 10, &fragmentation));
+    IS(RANGE, compactd_fragmentation(pool, far, &fragmentation));
+    IS(RANGE, compactd_next_moving(pool, 4096, &page, &move));
+    IS(RANGE, compactd_next_moving(pool, far, &page, &move));
     IS(RANGE, compactd_isolate(pool, &page, words, page_words - 1));
-    IS(RANGE, compactd_commit(pool, 0, 0, words, 1, &is_so));
+    IS(RANGE, compactd_commit(pool, &page, words, 1, &is_so));
 }
 
 static void pages(compactd_pool *pool, uint32_t page_words)
@@ -112,7 +126,7 @@ static void pages(compactd_pool *pool, uint32_t page_words)
     IS(OCCUPIED, compactd_map(pool, 0, 7, 4095, 0, &frame));
     IS(NO_FRAME, compactd_map_at(pool, 0, 0, 0, 0, 0));
     IS(UNMAPPED, compactd_load(pool, 0, 0, 0, 0, &value));
-    IS(UNMAPPED, compactd_look(pool, 0, 0, &seen));
+    IS(UNMAPPED, compactd_look(pool, 0, 0, &info));
     OK(compactd_store(pool, 0, 7, 4095, page_words - 1, 0xFFFFFFFFFFFFFFFFu));
     OK(compactd_load(pool, 0, 7, 4095, page_words - 1, &value));
     HOLDS(value == 0xFFFFFFFFFFFFFFFFu);
@@ -124,6 +138,8 @@ static void pages(compactd_pool *pool, uint32_t page_words)
     HOLDS(words[0] == 0 && words[1] == 3 && words[2] == 4);
     OK(compactd_read(pool, 0, 7, 4095, page_words - 1, words, 0));
     OK(compactd_write(pool, 0, 7, 4095, page_words - 1, words, 0));
+    OK(compactd_read(pool, 0, 7, 4095, 0, NULL, 0));
+    OK(compactd_write(pool, 0, 7, 4095, 0, NULL, 0));
     OK(compactd_share(pool, 0, 7, 4095, 0, 1));
     OK(compactd_share(pool, 0, 0, 1, 0, 2));
     OK(compactd_share(pool, 0, 0, 1, 0, 3));
@@ -137,14 +153,15 @@ static void pages(compactd_pool *pool, uint32_t page_words)
     OK(compactd_unmap(pool, 0, 0, 2));
     OK(compactd_unmap(pool, 0, 0, 3));
     IS(PINNED, compactd_unmap(pool, 0, 7, 4095));
-    OK(compactd_look(pool, 7, 4095, &seen));
-    HOLDS(seen.place == 0 && seen.flags == COMPACTD_DIRTY && seen.pins == 255 && seen.maps == 1 && !seen.moving);
+    OK(compactd_look(pool, 7, 4095, &info));
+    HOLDS(info.serial == 0 && info.frame == 0 && info.flags == COMPACTD_DIRTY);
+    HOLDS(info.pins == 255 && info.maps == 1 && !info.moving);
     for (pins = 0; pins < 255; pins++)
         OK(compactd_unpin(pool, 0, 7, 4095));
     OK(compactd_unmap(pool, 0, 7, 4095));
     OK(compactd_map_at(pool, 0, 0, 0, 1, 511));
-    OK(compactd_look(pool, 0, 0, &seen));
-    HOLDS(seen.place == 511 && seen.flags == COMPACTD_UNMOVABLE);
+    OK(compactd_look(pool, 0, 0, &info));
+    HOLDS(info.frame == 511 && info.flags == COMPACTD_UNMOVABLE);
     OK(compactd_unmap(pool, 0, 0, 0));
 }
 
@@ -166,6 +183,8 @@ static void blocks(compactd_pool *pool, uint32_t page_words)
     IS(RANGE, compactd_read_block(pool, 0, 9, (size_t)-1, words, 2)); /* where they end wraps */
     IS(RANGE, compactd_write_block(pool, 0, 9, (size_t)-1, words, 2));
     OK(compactd_read_block(pool, 0, 9, last + 1, words, 0));
+    OK(compactd_read_block(pool, 0, 9, 0, NULL, 0));
+    OK(compactd_write_block(pool, 0, 9, 0, NULL, 0));
     IS(RANGE, compactd_read_block(pool, 0, 9, last + 2, words, 0));
     IS(NOT_HUGE, compactd_read_block(pool, 0, 8, 0, words, 1));
     IS(NOT_HUGE, compactd_write_block(pool, 8, 3, 0, words, 1));
@@ -181,8 +200,29 @@ static void blocks(compactd_pool *pool, uint32_t page_words)
     IS(NOT_MARKED, compactd_unmark(pool, 0));
 }
 
+/* Whatever isn't the page that is moving is refused, by its serial, its number or its words. */
+static void strangers(compactd_pool *pool, uint32_t page_words)
+{
+    compactd_moving_page stranger = page;
+
+    words[1] ^= 1;
+    IS(STRANGER, compactd_commit(pool, &page, words, page_words, &is_so));
+    words[1] ^= 1;
+    stranger.serial++;
+    IS(STRANGER, compactd_commit(pool, &stranger, words, page_words, &is_so));
+    IS(STRANGER, compactd_put_back(pool, &stranger));
+    stranger.serial = page.serial + ((uint64_t)1 << 32); /* whose lower half is the page's */
+    IS(STRANGER, compactd_commit(pool, &stranger, words, page_words, &is_so));
+    IS(STRANGER, compactd_put_back(pool, &stranger));
+    stranger.serial = page.serial;
+    stranger.number = page.number + 1;
+    IS(STRANGER, compactd_put_back(pool, &stranger));
+    stranger.number = 0xFFFFFFFFu;
+    IS(STRANGER, compactd_commit(pool, &stranger, words, page_words, &is_so));
+}
+
 /* A round by hand: one page is moved, one is put back for its pin, and one without its copy. */
-static void carried(compactd_pool *pool, uint32_t page_words)
+static void moved_by_hand(compactd_pool *pool, uint32_t page_words)
 {
     uint32_t at;
 
@@ -200,37 +240,133 @@ static void carried(compactd_pool *pool, uint32_t page_words)
     IS(MOVING, compactd_share(pool, 0, 1, 0, 1, 9));
     IS(MOVING, compactd_read(pool, 0, 1, 0, 0, words, 0));
     IS(MOVING, compactd_write(pool, 0, 1, 0, 0, words, 1));
-    IS(OUT, compactd_audit(pool, &ends));
-    OK(compactd_look(pool, 1, 0, &seen));
-    HOLDS(seen.moving && seen.place == 0 && seen.flags == 0);
-    words[1] = 7;
-    IS(STRANGER, compactd_commit(pool, page.serial, page.number, words, page_words, &is_so));
-    words[1] = 6;
-    IS(STRANGER, compactd_commit(pool, page.serial + 1, page.number, words, page_words, &is_so));
-    IS(STRANGER, compactd_commit(pool, page.serial, 0xFFFFFFFFu, words, page_words, &is_so));
-    IS(STRANGER, compactd_put_back(pool, page.serial, page.number + 1));
-    OK(compactd_commit(pool, page.serial, page.number, words, page_words, &is_so));
+    IS(PAGES_MOVING, compactd_audit(pool, &round_counts));
+    OK(compactd_look(pool, 1, 0, &info));
+    HOLDS(info.moving && info.serial == 0 && info.frame == 0 && info.flags == 0);
+    strangers(pool, page_words);
+    OK(compactd_commit(pool, &page, words, page_words, &is_so));
     HOLDS(is_so);
-    IS(STRANGER, compactd_commit(pool, page.serial, page.number, words, page_words, &is_so));
+    IS(STRANGER, compactd_commit(pool, &page, words, page_words, &is_so));
     OK(compactd_isolate(pool, &page, words, page_words));
     OK(compactd_pin(pool, 0, 1, 1));
-    OK(compactd_commit(pool, page.serial, page.number, words, page_words, &is_so));
+    OK(compactd_commit(pool, &page, words, page_words, &is_so));
     HOLDS(!is_so);
     OK(compactd_isolate(pool, &page, words, page_words));
-    OK(compactd_put_back(pool, page.serial, page.number));
-    IS(STRANGER, compactd_put_back(pool, page.serial, page.number));
+    OK(compactd_put_back(pool, &page));
+    IS(STRANGER, compactd_put_back(pool, &page));
     IS(MET, compactd_isolate(pool, &page, words, page_words));
-    OK(compactd_audit(pool, &ends));
-    HOLDS(ends.isolated == 3 && ends.moved == 1 && ends.back == 2);
+    OK(compactd_audit(pool, &round_counts));
+    HOLDS(round_counts.isolated == 3 && round_counts.moved == 1 && round_counts.back == 2);
     OK(compactd_quiet(pool, &is_so));
     HOLDS(!is_so);
     OK(compactd_unpin(pool, 0, 1, 1));
     OK(compactd_compact(pool, &is_so));
     HOLDS(is_so);
-    OK(compactd_look(pool, 1, 0, &seen));
-    HOLDS(seen.place == 511);
+    OK(compactd_look(pool, 1, 0, &info));
+    HOLDS(info.frame == 511);
     OK(compactd_load(pool, 0, 1, 0, 1, &value));
     HOLDS(value == 6);
+}
+
+/* Two moving pages whose serials and numbers nobody kept are found, from any frame on, and put back. */
+static void lost(compactd_pool *pool, uint32_t page_words)
+{
+    IS(NOT_MOVING, compactd_next_moving(pool, 0, &page, &move));
+    OK(compactd_map_at(pool, 0, 2, 9, 0, 0));
+    OK(compactd_share(pool, 0, 2, 9, 2, 8));
+    OK(compactd_map_at(pool, 0, 2, 7, 0, 300));
+    OK(compactd_store(pool, 0, 2, 7, 0, 1));
+    OK(compactd_begin_round(pool));
+    OK(compactd_isolate(pool, &page, words, page_words));
+    OK(compactd_isolate(pool, &page, words, page_words));
+    IS(NOT_MOVING, compactd_next_moving(pool, 301, &page, &move));
+    IS(NOT_MOVING, compactd_next_moving(pool, 4095, &page, &move));
+    OK(compactd_next_moving(pool, 1, &page, &move));
+    HOLDS(move.source == 300 && move.target > 300 && move.space == 2 && move.vpage == 7 && page.flags == COMPACTD_DIRTY);
+    OK(compactd_next_moving(pool, 0, &page, &move));
+    HOLDS(move.source == 0 && move.target > 300 && move.space == 2 && move.vpage == 8 && page.flags == 0);
+    OK(compactd_put_back(pool, &page));
+    OK(compactd_next_moving(pool, 0, &page, &move));
+    HOLDS(move.source == 300);
+    OK(compactd_put_back(pool, &page));
+    IS(NOT_MOVING, compactd_next_moving(pool, 0, &page, &move));
+    OK(compactd_unmap(pool, 0, 2, 7));
+    OK(compactd_unmap(pool, 0, 2, 8));
+    OK(compactd_unmap(pool, 0, 2, 9));
+}
+
+/* A pageblock of which the frames 4, 5 and 6 alone are free: a run of 2 and one of 1. Then it is full, and then empty. */
+static void free_runs(void)
+{
+    compactd_pool pool = {0};
+    uint32_t at;
+
+    OK(compactd_open(&pool, 8, 1));
+    for (at = 0; at < 512; at++)
+        OK(compactd_map(&pool, 0, 0, at, 0, &frame));
+    OK(compactd_fragmentation(&pool, 0, &fragmentation));
+    HOLDS(fragmentation == 0);
+    for (at = 4; at < 7; at++)
+        OK(compactd_unmap(&pool, 0, 0, at));
+    OK(compactd_free_runs(&pool, 0, &runs));
+    HOLDS(runs == 1);
+    OK(compactd_free_runs(&pool, 1, &runs));
+    HOLDS(runs == 1);
+    OK(compactd_free_runs(&pool, 2, &runs));
+    HOLDS(runs == 0);
+    OK(compactd_fragmentation(&pool, 1, &fragmentation));
+    HOLDS(fragmentation == -1000);
+    OK(compactd_fragmentation(&pool, 2, &fragmentation)); /* 1000 - (1000 + 3 * 1000 / 4) / 2 */
+    HOLDS(fragmentation == 125);
+    for (at = 0; at < 512; at++)
+        if (at < 4 || at > 6)
+            OK(compactd_unmap(&pool, 0, 0, at));
+    OK(compactd_free_runs(&pool, 9, &runs));
+    HOLDS(runs == 1);
+    OK(compactd_free_runs(&pool, 0, &runs));
+    HOLDS(runs == 0);
+    OK(compactd_close(&pool));
+}
+
+/* A pool describes what it was opened with. */
+static void described(compactd_pool *pool, uint32_t page_words, uint32_t blocks, uint64_t places)
+{
+    memset(&geometry, 0xA5, sizeof geometry);
+    OK(compactd_describe(pool, &geometry));
+    HOLDS(geometry.page_words == page_words && geometry.blocks == blocks && geometry.places == places);
+    HOLDS(geometry.reserved[0] == 0 && geometry.reserved[1] == 0);
+}
+
+static void every_number_of_blocks(uint32_t page_words)
+{
+    uint32_t blocks;
+
+    for (blocks = 1; blocks <= 8; blocks++) {
+        compactd_pool pool = {0};
+
+        OK(compactd_open(&pool, page_words, blocks));
+        described(&pool, page_words, blocks, 0);
+        OK(compactd_info(&pool, &counts));
+        HOLDS(counts.free == 512 * blocks && counts.whole == blocks && counts.pages == 0);
+        OK(compactd_free_runs(&pool, 9, &runs));
+        HOLDS(runs == blocks);
+        OK(compactd_close(&pool));
+    }
+}
+
+/* Each number from 0 on has a text of its own, where it is that of a refusal. */
+static void texts(void)
+{
+    uint32_t refusal, other;
+
+    HOLDS(strcmp(compactd_refusal_text(COMPACTD_OK), "done") == 0);
+    HOLDS(strcmp(compactd_refusal_text(COMPACTD_NOT_MOVING), "no page is moving out of this frame or a higher one") == 0);
+    HOLDS(strcmp(compactd_refusal_text(15), "unknown refusal") == 0);
+    HOLDS(strcmp(compactd_refusal_text(0xFFFFFFFFu), "unknown refusal") == 0);
+    for (refusal = 0; refusal < 64; refusal++)
+        for (other = 0; other < refusal; other++)
+            HOLDS(strcmp(compactd_refusal_text(refusal), compactd_refusal_text(other)) != 0
+                  || strcmp(compactd_refusal_text(refusal), "unknown refusal") == 0);
 }
 
 /* A journal of four places: a map, two for the page that is moving, and then none. */
@@ -241,27 +377,28 @@ static void journal(uint32_t page_words)
     IS(RANGE, compactd_open_journal(&pool, page_words, 1, 0));
     IS(RANGE, compactd_open_journal(&pool, page_words, 1, 65537));
     OK(compactd_open_journal(&pool, page_words, 1, 4));
+    described(&pool, page_words, 1, 4);
     OK(compactd_map(&pool, 0, 0, 0, 0, &frame));
     OK(compactd_begin_round(&pool));
     OK(compactd_isolate(&pool, &page, words, page_words));
     OK(compactd_pin(&pool, 0, 0, 0));
     IS(JOURNAL_FULL, compactd_map(&pool, 0, 0, 1, 0, &frame));
     IS(JOURNAL_FULL, compactd_isolate(&pool, &page, words, page_words));
-    OK(compactd_commit(&pool, page.serial, page.number, words, page_words, &is_so));
+    OK(compactd_commit(&pool, &page, words, page_words, &is_so));
     IS(JOURNAL_FULL, compactd_load(&pool, 0, 0, 0, 0, &value));
     IS(JOURNAL_FULL, compactd_read(&pool, 0, 0, 0, 0, words, 1));
     OK(compactd_compact(&pool, &is_so));
     HOLDS(!is_so);
     OK(compactd_journal(&pool, &records, &room));
     HOLDS(records == 4 && room == 0);
-    OK(compactd_record(&pool, 0, &noted));
-    HOLDS(noted.kind == COMPACTD_WAS_MAPPED && noted.client == 0 && noted.space == 0 && noted.vpage == 0 && noted.number == page.number);
-    OK(compactd_record(&pool, 1, &noted));
-    HOLDS(noted.kind == COMPACTD_WAS_ISOLATED && noted.number == page.serial && noted.other == page.number);
-    OK(compactd_record(&pool, 3, &noted));
-    HOLDS(noted.kind == COMPACTD_WAS_PUT_BACK && noted.number == page.serial && noted.other == 1 && noted.value == 0);
-    IS(RANGE, compactd_record(&pool, 4, &noted));
-    IS(RANGE, compactd_record(&pool, (size_t)-1, &noted));
+    OK(compactd_record_at(&pool, 0, &record));
+    HOLDS(record.kind == COMPACTD_WAS_MAPPED && record.client == 0 && record.space == 0 && record.vpage == 0 && record.number == page.number);
+    OK(compactd_record_at(&pool, 1, &record));
+    HOLDS(record.kind == COMPACTD_WAS_ISOLATED && record.number == page.serial && record.other == page.number);
+    OK(compactd_record_at(&pool, 3, &record));
+    HOLDS(record.kind == COMPACTD_WAS_PUT_BACK && record.number == page.serial && record.other == 1 && record.value == 0);
+    IS(RANGE, compactd_record_at(&pool, 4, &record));
+    IS(RANGE, compactd_record_at(&pool, (size_t)-1, &record));
     OK(compactd_close(&pool));
 }
 
@@ -276,20 +413,25 @@ static void both_sizes(uint32_t page_words)
     IS(RANGE, compactd_open(&pool, page_words, 9));
     closed(&pool);
     OK(compactd_open(&pool, page_words, 1));
+    described(&pool, page_words, 1, 0);
     IS(OPEN, compactd_open(&pool, page_words, 1));
     IS(OPEN, compactd_open_journal(&pool, page_words, 1, 1));
     ranges(&pool, page_words);
     pages(&pool, page_words);
     blocks(&pool, page_words);
-    carried(&pool, page_words);
+    moved_by_hand(&pool, page_words);
+    lost(&pool, page_words);
     OK(compactd_close(&pool));
     closed(&pool);
     journal(page_words);
+    every_number_of_blocks(page_words);
 }
 
 int main(void)
 {
     HOLDS(compactd_version() == COMPACTD_VERSION);
+    texts();
+    free_runs();
     both_sizes(8);
     both_sizes(512);
     return wrong;

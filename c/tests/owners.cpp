@@ -1,8 +1,10 @@
-// Pools and huge pages that are moved, that outlive each other, and whose calls are refused, by compactd.hpp.
+// Pools, huge pages and moving pages that are moved, that outlive each other, and whose calls are refused, by compactd.hpp.
 #include "compactd.hpp"
 
 #include <cstdio>
 #include <memory>
+#include <stdexcept>
+#include <string>
 #include <type_traits>
 #include <utility>
 #include <vector>
@@ -10,12 +12,15 @@
 using compactd::Address;
 using compactd::Error;
 using compactd::Huge;
+using compactd::Moving;
 using compactd::PageSize;
 using compactd::Pool;
 
 static_assert(!std::is_copy_constructible<Pool>::value && !std::is_copy_assignable<Pool>::value, "a pool isn't copied");
 static_assert(!std::is_copy_constructible<Huge>::value && !std::is_copy_assignable<Huge>::value, "a huge page isn't copied");
+static_assert(!std::is_copy_constructible<Moving>::value && !std::is_copy_assignable<Moving>::value, "a moving page isn't copied");
 static_assert(std::is_nothrow_move_constructible<Pool>::value && std::is_nothrow_move_assignable<Huge>::value, "both are moved");
+static_assert(std::is_nothrow_move_constructible<Moving>::value && std::is_nothrow_move_assignable<Moving>::value, "a moving page too");
 
 namespace {
 
@@ -65,7 +70,7 @@ void pools()
     other.mark(0);
     HOLDS(other.marked(0) && other.compact() && other.audit().isolated == 0);
     other.unmark(0);
-    HOLDS(other.compact() && other.quiet() && other.audit().moved == 1 && other.look(alias).place == 511);
+    HOLDS(other.compact() && other.quiet() && other.audit().moved == 1 && other.look(alias).frame == 511);
     other.map_at(0, at, 7, true);
     HOLDS(other.look(at).flags == COMPACTD_UNMOVABLE);
 }
@@ -101,6 +106,13 @@ void moves_into_themselves()
     move_into_itself(pool);
     move_into_itself(huge);
     HOLDS(pool.info().huge == 1 && huge.order() == 3);
+    pool.map(0, {0, 0});
+    pool.begin_round();
+    Moving page = pool.isolate();
+    move_into_itself(page);
+    HOLDS(page && page.words().size() == 8 && pool.info().moving == 1);
+    page.put_back();
+    pool.unmap(0, {0, 0});
     huge.give();
     HOLDS(pool.info().free == 512);
 }
@@ -123,29 +135,92 @@ void pools_that_go()
     HOLDS(word == 4 && blocks[0].first() == 504);
 }
 
-void pages_by_hand()
+// A pool with pages in its frames 0 and 1, and a round that has begun. The first page has a 9 in its word 1.
+const Address low = {0, 0}, high = {0, 1};
+
+Pool with_round()
 {
     Pool pool(PageSize::bytes64, 1);
-    const Address low = {0, 0}, high = {0, 1};
     pool.map(0, low);
     pool.map(0, high);
     pool.store(0, low, 1, 9);
-    compactd_carried page;
-    std::uint64_t words[8];
-    HOLDS(!pool.isolate(page, words, 8)); // no round was begun
     pool.begin_round();
-    HOLDS(refusal([&] { pool.isolate(page, words, 7); }) == COMPACTD_RANGE);
+    return pool;
+}
+
+void pages_in_a_buffer()
+{
+    Pool pool = with_round();
+    compactd_moving_page page;
+    compactd_move move;
+    std::uint64_t words[8];
+    HOLDS(refusal([&] { pool.isolate(page, words, 7); }) == COMPACTD_RANGE && !pool.next_moving(0, page, move));
     HOLDS(pool.isolate(page, words, 8) && words[1] == 9);
-    HOLDS(refusal([&] { pool.audit(); }) == COMPACTD_OUT);
+    HOLDS(refusal([&] { pool.audit(); }) == COMPACTD_PAGES_MOVING);
     words[1] = 8;
     HOLDS(refusal([&] { pool.commit(page, words, 8); }) == COMPACTD_STRANGER);
     words[1] = 9;
     HOLDS(pool.commit(page, words, 8) && pool.isolate(page, words, 8));
     pool.put_back(page);
     HOLDS(refusal([&] { pool.put_back(page); }) == COMPACTD_STRANGER && !pool.isolate(page, words, 8));
-    HOLDS(pool.look(low).place == 511 && pool.look(high).place == 1 && pool.audit().back == 1);
+    HOLDS(pool.look(low).frame == 511 && pool.look(high).frame == 1 && pool.audit().back == 1);
     pool.begin_round();
-    HOLDS(pool.isolate(page, words, 8)); // the pool goes while a page of it is moving
+    HOLDS(pool.isolate(page, words, 8) && pool.next_moving(0, page, move) && move.source == 1 && move.vpage == 1);
+    HOLDS(!pool.next_moving(2, page, move) && refusal([&] { pool.next_moving(4096, page, move); }) == COMPACTD_RANGE);
+} // the pool goes while a page of it is moving
+
+void moving_pages()
+{
+    Pool pool(PageSize::bytes64, 1);
+    HOLDS(!pool.isolate()); // no round was begun
+    pool = with_round();
+    Moving first = pool.isolate();
+    HOLDS(first && first.words()[1] == 9 && first.page().flags == COMPACTD_DIRTY && pool.info().moving == 1);
+    HOLDS(first.commit() && !first && refusal([&] { first.commit(); }) == COMPACTD_STRANGER);
+    first = pool.isolate();
+    pool.pin(0, high);
+    HOLDS(!first.commit() && pool.look(high).frame == 1);
+    pool.unpin(0, high);
+    HOLDS(!pool.isolate()); // the scanners have met
+    pool.begin_round();
+    first = pool.isolate();
+    first.put_back();
+    HOLDS(!first && pool.audit().back == 2 && refusal([&] { first.put_back(); }) == COMPACTD_STRANGER);
+}
+
+// A page whose carrier goes is put back, also by an exception, by another page that takes its place, and where another ended its move.
+void carriers_that_go()
+{
+    Pool pool = with_round();
+    try {
+        const Moving page = pool.isolate();
+        throw std::runtime_error("the carrier fails");
+    } catch (const std::runtime_error &) {
+        HOLDS(pool.info().moving == 0 && pool.look(low).frame == 0 && pool.audit().back == 1);
+    }
+    pool.begin_round();
+    Moving page = pool.isolate();
+    page = pool.isolate();
+    HOLDS(pool.info().moving == 1 && pool.look(low).frame == 0 && pool.look(high).moving);
+    Moving other = std::move(page);
+    HOLDS(!page && other && pool.info().moving == 1);
+    pool.put_back(other.page());
+    HOLDS(refusal([&] { other.commit(); }) == COMPACTD_STRANGER && pool.audit().back == 3);
+    pool.begin_round();
+    other = pool.isolate();
+    pool = Pool(PageSize::bytes64, 1);
+    HOLDS(other && other.commit()); // its memory outlives the pool's object
+}
+
+void questions()
+{
+    const Pool pool(PageSize::bytes4096, 3), kept(PageSize::bytes64, 1, 77);
+    HOLDS(pool.describe().page_words == 512 && pool.describe().blocks == 3 && pool.describe().places == 0);
+    HOLDS(kept.describe().page_words == 8 && kept.describe().places == 77);
+    HOLDS(pool.free_runs(9) == 3 && pool.free_runs(0) == 0 && pool.fragmentation(9) == -1000);
+    HOLDS(refusal([&] { pool.free_runs(10); }) == COMPACTD_RANGE && refusal([&] { pool.fragmentation(10); }) == COMPACTD_RANGE);
+    HOLDS(std::string(Error(COMPACTD_NO_BLOCK).what()) == "compactd: no block of this order has only free frames");
+    HOLDS(std::string(Error(15).what()) == "compactd: unknown refusal");
 }
 
 void journals()
@@ -154,7 +229,7 @@ void journals()
     Huge huge = pool.take_huge(3);
     pool.map(2, {0, 3});
     HOLDS(pool.journal().first == 2 && pool.journal().second == 0);
-    HOLDS(pool.record(0).kind == COMPACTD_WAS_TAKEN && pool.record(1).vpage == 3 && pool.record(1).client == 2);
+    HOLDS(pool.record_at(0).kind == COMPACTD_WAS_TAKEN && pool.record_at(1).vpage == 3 && pool.record_at(1).client == 2);
     HOLDS(refusal([&] { huge.give(); }) == COMPACTD_JOURNAL_FULL && !pool.compact());
 }
 
@@ -166,8 +241,11 @@ int main()
     huge_pages();
     moves_into_themselves();
     pools_that_go();
-    pages_by_hand();
+    pages_in_a_buffer();
+    moving_pages();
+    carriers_that_go();
+    questions();
     journals();
-    std::printf("%s\n", is_well ? "pools and huge pages are owned as they should be" : "something is otherwise");
+    std::printf("%s\n", is_well ? "pools, huge pages and moving pages are owned as they should be" : "something is otherwise");
     return is_well ? 0 : 1;
 }

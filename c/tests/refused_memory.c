@@ -1,6 +1,6 @@
 /* Refuses each request for memory that an opening makes, one in each try. The opening has to answer MEMORY, to leave the pool closed, and
- * to give back what it had. No call on a pool that is open may ask for memory. It is linked with malloc, realloc and free wrapped. Prints
- * how many requests an opening makes. */
+ * to give back what it had. No other call may ask for memory, whether it is accepted or refused, on a pool that is open or closed. It is
+ * linked with malloc, realloc and free wrapped. Prints how many requests an opening makes. */
 #include "compactd.h"
 
 #include <stdio.h>
@@ -52,50 +52,112 @@ static uint32_t open_pool(compactd_pool *pool, uint32_t page_words, uint32_t pla
     return places ? compactd_open_journal(pool, page_words, 8, places) : compactd_open(pool, page_words, 8);
 }
 
-/* Makes each call on an open pool, but those that open and close. Where its journal is full some are refused. */
+/* How many of the calls below were accepted, and how many were refused. */
+static long accepted, refusals;
+
+static void made(uint32_t answer)
+{
+    if (answer == COMPACTD_OK)
+        accepted++;
+    else
+        refusals++;
+}
+
+static uint64_t words[512];
+static compactd_moving_page page;
+static compactd_bool is_so;
+
+static void make_calls_on_pages(compactd_pool *pool, uint32_t page_words)
+{
+    uint32_t vpage, frame;
+
+    for (vpage = 1; vpage < 1000; vpage++)
+        made(compactd_map(pool, 0, 0, vpage, 0, &frame));
+    made(compactd_map_at(pool, 0, 1, 0, 0, 4095));
+    made(compactd_share(pool, 0, 0, 1, 1, 1));
+    made(compactd_store(pool, 0, 0, 1, 7, 7));
+    made(compactd_load(pool, 0, 0, 1, 7, words));
+    made(compactd_write(pool, 0, 0, 2, 0, words, page_words));
+    made(compactd_read(pool, 0, 0, 2, 0, words, page_words));
+    made(compactd_pin(pool, 0, 0, 3));
+    made(compactd_unpin(pool, 0, 0, 3));
+    made(compactd_unmap(pool, 0, 0, 4));
+}
+
+static void make_rounds(compactd_pool *pool, uint32_t page_words)
+{
+    compactd_move move;
+
+    made(compactd_mark(pool, 7));
+    made(compactd_marked(pool, 7, &is_so));
+    made(compactd_unmark(pool, 7));
+    made(compactd_begin_round(pool));
+    made(compactd_isolate(pool, &page, words, page_words));
+    made(compactd_next_moving(pool, 0, &page, &move));
+    made(compactd_commit(pool, &page, words, page_words, &is_so));
+    made(compactd_isolate(pool, &page, words, page_words));
+    made(compactd_put_back(pool, &page));
+    made(compactd_compact(pool, &is_so));
+}
+
+static void make_calls_on_blocks(compactd_pool *pool, uint32_t page_words)
+{
+    uint32_t first = 0;
+
+    made(compactd_take_order(pool, 9, &first));
+    made(compactd_write_block(pool, first, 9, 0, words, page_words));
+    made(compactd_read_block(pool, first, 9, 0, words, page_words));
+    made(compactd_give_order(pool, first, 9));
+}
+
+static void ask(compactd_pool *pool)
+{
+    compactd_geometry geometry;
+    compactd_counts counts;
+    compactd_page_info info;
+    compactd_round_counts round_counts;
+    compactd_record record;
+    uint64_t records, room;
+    uint32_t runs;
+    int32_t index;
+
+    made(compactd_info(pool, &counts));
+    made(compactd_describe(pool, &geometry));
+    made(compactd_free_runs(pool, 3, &runs));
+    made(compactd_fragmentation(pool, 9, &index));
+    made(compactd_look(pool, 0, 1, &info));
+    made(compactd_quiet(pool, &is_so));
+    made(compactd_audit(pool, &round_counts));
+    made(compactd_journal(pool, &records, &room));
+    made(compactd_record_at(pool, 0, &record));
+}
+
+/* Makes each call but those that open and close. On a closed pool each one is refused, and where the journal is full many are. A second
+ * time many are refused by what the first one left. */
 static void make_calls(compactd_pool *pool, uint32_t page_words)
 {
-    static uint64_t words[512];
-    compactd_carried carried = {0, 0, 0};
-    compactd_counts counts;
-    compactd_noted noted;
-    compactd_seen seen;
-    compactd_ends ends;
-    compactd_bool is_so;
-    uint64_t records, room;
-    uint32_t page, first = 0;
+    int turn;
 
-    for (page = 1; page < 1000; page++)
-        compactd_map(pool, 0, 0, page, 0, &first);
-    compactd_map_at(pool, 0, 1, 0, 0, 4095);
-    compactd_share(pool, 0, 0, 1, 1, 1);
-    compactd_store(pool, 0, 0, 1, 7, 7);
-    compactd_load(pool, 0, 0, 1, 7, words);
-    compactd_write(pool, 0, 0, 2, 0, words, page_words);
-    compactd_read(pool, 0, 0, 2, 0, words, page_words);
-    compactd_pin(pool, 0, 0, 3);
-    compactd_unpin(pool, 0, 0, 3);
-    compactd_mark(pool, 7);
-    compactd_marked(pool, 7, &is_so);
-    compactd_unmark(pool, 7);
-    compactd_begin_round(pool);
-    if (compactd_isolate(pool, &carried, words, page_words) == COMPACTD_OK)
-        compactd_commit(pool, carried.serial, carried.number, words, page_words, &is_so);
-    if (compactd_isolate(pool, &carried, words, page_words) == COMPACTD_OK)
-        compactd_put_back(pool, carried.serial, carried.number);
-    compactd_unmap(pool, 0, 0, 4);
-    compactd_compact(pool, &is_so);
-    if (compactd_take_order(pool, 9, &first) == COMPACTD_OK) {
-        compactd_write_block(pool, first, 9, 0, words, page_words);
-        compactd_read_block(pool, first, 9, 0, words, page_words);
-        compactd_give_order(pool, first, 9);
+    for (turn = 0; turn < 2; turn++) {
+        make_calls_on_pages(pool, page_words);
+        make_rounds(pool, page_words);
+        make_calls_on_blocks(pool, page_words);
+        ask(pool);
     }
-    compactd_info(pool, &counts);
-    compactd_look(pool, 0, 1, &seen);
-    compactd_quiet(pool, &is_so);
-    compactd_audit(pool, &ends);
-    compactd_journal(pool, &records, &room);
-    compactd_record(pool, 0, &noted);
+}
+
+/* Whether calls on an open pool, and then on the closed one, ask for no memory, and nothing is lost. */
+static int asks_no_more(compactd_pool *pool, uint32_t page_words)
+{
+    const long opening = requests;
+
+    accepted = refusals = 0;
+    make_calls(pool, page_words);
+    if (compactd_close(pool) != COMPACTD_OK || held != 0)
+        return 0;
+    make_calls(pool, page_words);
+    printf("%ld requests, %ld after it, by %ld accepted calls and %ld refused ones\n", opening, requests - opening, accepted, refusals);
+    return requests == opening && held == 0 && accepted > 0 && refusals > 0;
 }
 
 static int try_each(uint32_t page_words, uint32_t places)
@@ -109,14 +171,8 @@ static int try_each(uint32_t page_words, uint32_t places)
         requests = 0;
         answer = open_pool(&pool, page_words, places);
         if (requests < refused) {
-            const long opening = requests;
-
-            if (answer != COMPACTD_OK || compactd_map(&pool, 0, 0, 0, 0, &frame) || frame != 0)
-                return 0;
             refused = 0;
-            make_calls(&pool, page_words);
-            printf("%ld requests, %ld after it, %ld held\n", opening, requests - opening, held);
-            return requests == opening && compactd_close(&pool) == COMPACTD_OK && held == 0;
+            return answer == COMPACTD_OK && asks_no_more(&pool, page_words);
         }
         if (answer != COMPACTD_MEMORY || held != 0)
             return 0;

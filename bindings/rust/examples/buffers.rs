@@ -7,7 +7,7 @@ use std::sync::mpsc::{sync_channel, Receiver, RecvError, SyncSender};
 use std::sync::{Arc, Mutex};
 use std::thread::{self, ScopedJoinHandle};
 
-use compactd::{Address, Error, Moving, PageSize, Pool};
+use compactd::{Address, Error, MovingGuard, PageSize, Pool};
 
 const BLOCKS: u32 = 4;
 const BUFFERS: u32 = 1024;
@@ -127,9 +127,9 @@ fn join_all(threads: Threads) -> Result<(), Error> {
 
 // Rounds.
 
-/// Isolates each page of a round and hands it over. Where all carriers have ended, one of them has the error.
-fn isolate_all(pool: &Mutex<Pool>, to: SyncSender<Moving>) -> Result<(), Error> {
-    while let Some(page) = with(pool, Pool::isolate)? {
+/// Isolates each page of a round and hands it over. Where all carriers have ended, one of them has the error, and the page is put back.
+fn isolate_all<'pool>(pool: &'pool Mutex<Pool>, to: SyncSender<MovingGuard<'pool>>) -> Result<(), Error> {
+    while let Some(page) = MovingGuard::isolate(pool)? {
         if to.send(page).is_err() {
             break;
         }
@@ -137,14 +137,14 @@ fn isolate_all(pool: &Mutex<Pool>, to: SyncSender<Moving>) -> Result<(), Error> 
     Ok(())
 }
 
-fn next(waiting: &Mutex<Receiver<Moving>>) -> Result<Moving, RecvError> {
+fn next<'pool>(waiting: &Mutex<Receiver<MovingGuard<'pool>>>) -> Result<MovingGuard<'pool>, RecvError> {
     waiting.lock().expect("no thread panics here").recv()
 }
 
 /// Brings pages to the pool until there are none and the round has ended. A page that is pinned goes back into its frame.
-fn carry(pool: &Mutex<Pool>, waiting: &Mutex<Receiver<Moving>>) -> Result<(), Error> {
+fn carry(waiting: &Mutex<Receiver<MovingGuard>>) -> Result<(), Error> {
     while let Ok(page) = next(waiting) {
-        with(pool, |pool| pool.commit(page))?;
+        page.commit()?;
     }
     Ok(())
 }
@@ -157,7 +157,7 @@ fn make_round(pool: &Mutex<Pool>) -> Result<(), Error> {
         // The carriers alone have this end, so that no page is handed over once all of them have ended.
         let shared = Arc::new(Mutex::new(waiting));
         let ends = vec![shared; CARRIERS];
-        let carriers = ends.into_iter().map(|waiting| threads.spawn(move || carry(pool, &waiting))).collect();
+        let carriers = ends.into_iter().map(|waiting| threads.spawn(move || carry(&waiting))).collect();
         isolate_all(pool, to).and(join_all(carriers))
     })
 }
@@ -206,8 +206,8 @@ fn main() -> Result<(), Error> {
     make_round(&pool)?;
     let mut pool = pool.into_inner().expect("no thread panicked");
     tell("after them and one more round", &mut pool)?;
-    let ends = pool.audit()?;
-    let is_so = if ends.moved + ends.back == ends.isolated { "yes" } else { "no" };
+    let counts = pool.audit()?;
+    let is_so = if counts.moved + counts.back == counts.isolated { "yes" } else { "no" };
     println!("each page that was taken in a round was moved or put back: {is_so}");
     println!("{} huge pages taken", take_huge_pages(&mut pool));
     Ok(())

@@ -6,7 +6,7 @@ use std::fmt;
 pub enum Error {
     /// An argument is out of its range.
     Range,
-    /// The journal has no place left, besides those for the ends of moving pages.
+    /// The journal has no place left but those for the ends of moves, or 2^32 - 1 pages were isolated.
     JournalFull,
     /// The address names no page.
     Unmapped,
@@ -14,7 +14,7 @@ pub enum Error {
     Moving,
     /// The address names a page already.
     Occupied,
-    /// No frame is free, or the frame isn't.
+    /// No frame is free, or the given frame isn't.
     NoFrame,
     /// The page has 4 addresses already.
     ShareFull,
@@ -28,91 +28,68 @@ pub enum Error {
     NoBlock,
     /// No such block is handed out by this pool.
     NotHuge,
-    /// No such page is moving in this pool, or its words are others.
+    /// No such page is moving in this pool, or its words differ.
     Stranger,
     /// There isn't enough memory.
     Memory,
-    /// A page is moving.
-    Out,
+    /// A page of the pool is moving.
+    PagesMoving,
     /// The pageblock is marked already.
     Marked,
     /// The pageblock isn't marked.
     NotMarked,
+    /// No page is moving out of this frame or a higher one.
+    NotMoving,
     /// The library answered a number that this crate doesn't know.
     Other(u32),
 }
 
+/// Each error but `Other`, with the number and the text that `compactd.h` has for it.
+const KNOWN: [(Error, u32, &str); 18] = [
+    (Error::Range, 1, "an argument is out of its range"),
+    (Error::JournalFull, 2, "the journal has no place left but those for the ends of moves, or 2^32 - 1 pages were isolated"),
+    (Error::Unmapped, 3, "the address names no page"),
+    (Error::Moving, 4, "the page is moving"),
+    (Error::Occupied, 5, "the address names a page already"),
+    (Error::NoFrame, 6, "no frame is free, or the given frame isn't"),
+    (Error::ShareFull, 7, "the page has 4 addresses already"),
+    (Error::PinFull, 8, "the page has 255 pins already"),
+    (Error::NotPinned, 9, "the page has no pin"),
+    (Error::Pinned, 10, "the page has a pin and this is its last address"),
+    (Error::NoBlock, 11, "no block of this order has only free frames"),
+    (Error::NotHuge, 12, "no block of this order that begins at this frame is handed out"),
+    (Error::Stranger, 13, "no such page is moving in this pool, or its words differ"),
+    (Error::Memory, 14, "there isn't enough memory"),
+    (Error::PagesMoving, 16, "a page of the pool is moving"),
+    (Error::Marked, 17, "the pageblock is marked already"),
+    (Error::NotMarked, 18, "the pageblock isn't marked"),
+    (Error::NotMoving, 54, "no page is moving out of this frame or a higher one"),
+];
+
 impl Error {
     pub(crate) fn of(number: u32) -> Error {
-        match number {
-            1 => Error::Range,
-            2 => Error::JournalFull,
-            3 => Error::Unmapped,
-            4 => Error::Moving,
-            5 => Error::Occupied,
-            6 => Error::NoFrame,
-            7 => Error::ShareFull,
-            8 => Error::PinFull,
-            9 => Error::NotPinned,
-            10 => Error::Pinned,
-            11 => Error::NoBlock,
-            12 => Error::NotHuge,
-            13 => Error::Stranger,
-            14 => Error::Memory,
-            16 => Error::Out,
-            17 => Error::Marked,
-            18 => Error::NotMarked,
-            other => Error::Other(other),
-        }
+        KNOWN.iter().find(|(_, known, _)| *known == number).map_or(Error::Other(number), |(error, ..)| *error)
     }
 
     /// The number that the library answers for it.
     pub fn number(self) -> u32 {
         match self {
-            Error::Range => 1,
-            Error::JournalFull => 2,
-            Error::Unmapped => 3,
-            Error::Moving => 4,
-            Error::Occupied => 5,
-            Error::NoFrame => 6,
-            Error::ShareFull => 7,
-            Error::PinFull => 8,
-            Error::NotPinned => 9,
-            Error::Pinned => 10,
-            Error::NoBlock => 11,
-            Error::NotHuge => 12,
-            Error::Stranger => 13,
-            Error::Memory => 14,
-            Error::Out => 16,
-            Error::Marked => 17,
-            Error::NotMarked => 18,
             Error::Other(number) => number,
+            known => known.row().map_or(0, |(_, number, _)| *number),
         }
+    }
+
+    fn row(self) -> Option<&'static (Error, u32, &'static str)> {
+        KNOWN.iter().find(|(error, ..)| *error == self)
     }
 }
 
 impl fmt::Display for Error {
     fn fmt(&self, f: &mut fmt::Formatter<'_>) -> fmt::Result {
-        f.write_str(match self {
-            Error::Range => "an argument is out of its range",
-            Error::JournalFull => "the journal has no place left",
-            Error::Unmapped => "the address names no page",
-            Error::Moving => "the page is moving",
-            Error::Occupied => "the address names a page already",
-            Error::NoFrame => "no frame is free, or the frame isn't",
-            Error::ShareFull => "the page has 4 addresses already",
-            Error::PinFull => "the page has 255 pins already",
-            Error::NotPinned => "the page has no pin",
-            Error::Pinned => "the page has a pin and this is its last address",
-            Error::NoBlock => "no block of this order has only free frames",
-            Error::NotHuge => "no such block is handed out by this pool",
-            Error::Stranger => "no such page is moving in this pool",
-            Error::Memory => "there isn't enough memory",
-            Error::Out => "a page is moving",
-            Error::Marked => "the pageblock is marked already",
-            Error::NotMarked => "the pageblock isn't marked",
-            Error::Other(number) => return write!(f, "the call was refused with number {number}"),
-        })
+        match self.row() {
+            Some((_, _, text)) => f.write_str(text),
+            None => write!(f, "unknown refusal {}", self.number()),
+        }
     }
 }
 

@@ -34,7 +34,8 @@
 //!
 //! # Threads
 //!
-//! A `Pool` may be sent to another thread. Threads that share one keep it in a `Mutex`.
+//! A `Pool` may be sent to another thread. Threads that share one keep it in a `Mutex`. A [`MovingGuard`] is a page of such a pool that is
+//! moving; it puts the page back when it is dropped.
 
 #![deny(missing_docs, unsafe_op_in_unsafe_fn)]
 
@@ -42,12 +43,15 @@ mod error;
 mod huge;
 mod moving;
 mod pool;
+mod questions;
 mod raw;
 mod record;
+mod rounds;
 
 pub use error::Error;
 pub use huge::{Huge, Kept};
-pub use moving::Moving;
-pub use pool::{version, Address, Look, PageSize, Place, Pool};
-pub use raw::{Counts, Ends};
+pub use moving::{Move, Moving, MovingGuard, MovingPage};
+pub use pool::{version, Address, PageSize, Pool};
+pub use questions::{Look, Place};
+pub use raw::{Counts, Geometry, RoundCounts};
 pub use record::Record;

@@ -3,13 +3,10 @@ use std::ptr::null_mut;
 use std::sync::atomic::{AtomicU64, Ordering};
 
 use crate::raw;
-use crate::{Counts, Ends, Error, Huge, Kept, Moving, Record};
+use crate::{Error, Huge, Kept};
 
 /// The number that the next pool gets, by which it knows its blocks again.
 static NEXT: AtomicU64 = AtomicU64::new(0);
-
-/// The answer of an isolation where the scanners have met.
-const MET: u32 = 53;
 
 /// How large the pages of a pool are.
 #[derive(Clone, Copy, Debug, PartialEq, Eq)]
@@ -46,36 +43,6 @@ impl Address {
     }
 }
 
-/// Where a page is.
-#[derive(Clone, Copy, Debug, PartialEq, Eq)]
-pub enum Place {
-    /// In this frame.
-    At {
-        /// The frame.
-        frame: u32,
-        /// Whether no round moves it.
-        unmovable: bool,
-        /// Whether it was written since it was mapped.
-        dirty: bool,
-    },
-    /// It is moving, under this serial.
-    Moving {
-        /// The serial.
-        serial: u32,
-    },
-}
-
-/// What is known of a page.
-#[derive(Clone, Copy, Debug, PartialEq, Eq)]
-pub struct Look {
-    /// Where it is.
-    pub place: Place,
-    /// How many pins it has, 0 to 255.
-    pub pins: u32,
-    /// How many addresses name it, 1 to 4.
-    pub maps: u32,
-}
-
 /// A pool, which is open until it is dropped.
 ///
 /// A client, 0 to 7, is a number that stands in the record of a call, where a journal is kept, and means nothing else.
@@ -89,8 +56,8 @@ pub struct Look {
 /// }
 /// ```
 pub struct Pool {
-    raw: raw::Handle,
-    number: u64,
+    pub(crate) raw: raw::Handle,
+    pub(crate) number: u64,
     page_size: PageSize,
 }
 
@@ -111,15 +78,15 @@ impl Drop for Pool {
 }
 
 /// Ok, or the error of a refused call.
-fn done(answer: u32) -> Result<(), Error> {
+pub(crate) fn done(answer: u32) -> Result<(), Error> {
     match answer {
         0 => Ok(()),
         number => Err(Error::of(number)),
     }
 }
 
-// SAFETY, of each call below: the handle was zeroed, and is this pool's, which is borrowed alone; each other pointer is to a value of its
-// type, or to as many words as the call is told, and no two overlap.
+// SAFETY, of each call of this crate on a pool: the handle was zeroed, and is this pool's, which is borrowed alone; each other pointer leads
+// to a value of its type, or to as many words as the count says, and no two overlap.
 impl Pool {
     /// Opens a pool with 1 to 8 pageblocks of 512 frames. It keeps no records.
     ///
@@ -128,8 +95,8 @@ impl Pool {
         Pool::of(page_size, |raw| unsafe { raw::compactd_open(raw, page_size.words(), blocks) })
     }
 
-    /// Opens a pool that keeps a record of each accepted call, in a journal of 1 to 65,536 places. When these are used up, calls are
-    /// refused as [`Error::JournalFull`].
+    /// Opens a pool that keeps a record of each accepted call, in a journal of 1 to 65,536 places. When only the places for the ends of
+    /// moves are left, calls are refused as [`Error::JournalFull`].
     ///
     /// Refused as [`Error::Range`] or [`Error::Memory`].
     pub fn open_journal(page_size: PageSize, blocks: u32, places: u32) -> Result<Pool, Error> {
@@ -148,8 +115,7 @@ impl Pool {
         self.page_size
     }
 
-    /// Makes an address name a fresh page of zeros in the lowest free frame, and tells this frame. No round moves a page that is
-    /// unmovable.
+    /// Makes an address name a fresh page of zeros in the lowest free frame, and returns this frame. No round moves an unmovable page.
     ///
     /// Refused as [`Error::Range`], [`Error::JournalFull`], [`Error::Occupied`] or [`Error::NoFrame`].
     pub fn map(&mut self, client: u32, at: Address, unmovable: bool) -> Result<u32, Error> {
@@ -158,7 +124,7 @@ impl Pool {
         Ok(frame)
     }
 
-    /// The same in a frame that is given.
+    /// Like [`Pool::map`], but in the given frame.
     ///
     /// Refused as [`Pool::map`] is.
     pub fn map_at(&mut self, client: u32, at: Address, unmovable: bool, frame: u32) -> Result<(), Error> {
@@ -189,14 +155,14 @@ impl Pool {
         done(unsafe { raw::compactd_share(&mut self.raw, client, at.space, at.vpage, alias.space, alias.vpage) })
     }
 
-    /// Makes an address name no page any more. A page that has no address left is gone.
+    /// Makes an address name no page any more. When a page has no address left, it is gone.
     ///
     /// Refused as [`Error::Range`], [`Error::JournalFull`], [`Error::Unmapped`], [`Error::Moving`] or [`Error::Pinned`].
     pub fn unmap(&mut self, client: u32, at: Address) -> Result<(), Error> {
         done(unsafe { raw::compactd_unmap(&mut self.raw, client, at.space, at.vpage) })
     }
 
-    /// Pins a page: no round moves it until each of its pins, 255 at most, is taken off.
+    /// Pins a page: while it has a pin, and it may have 255, no round moves it.
     ///
     /// Refused as [`Error::Range`], [`Error::JournalFull`], [`Error::Unmapped`] or [`Error::PinFull`].
     pub fn pin(&mut self, client: u32, at: Address) -> Result<(), Error> {
@@ -219,7 +185,7 @@ impl Pool {
         Ok(Huge { pool: self.number, first, order })
     }
 
-    /// Takes a block back. A block that is refused is handed back with the error.
+    /// Gives a block back to the pool. A refused block comes back with the error.
     ///
     /// Refused as [`Error::NotHuge`] where another pool handed it out, or [`Error::JournalFull`].
     pub fn give(&mut self, huge: Huge) -> Result<(), Kept<Huge>> {
@@ -235,21 +201,21 @@ impl Pool {
         }
     }
 
-    /// Marks a pageblock: rounds take no page from it and put none into it.
+    /// Marks a pageblock: rounds isolate no page of it and move none into it.
     ///
     /// Refused as [`Error::Range`], [`Error::JournalFull`] or [`Error::Marked`].
     pub fn mark(&mut self, block: u32) -> Result<(), Error> {
         done(unsafe { raw::compactd_mark(&mut self.raw, block) })
     }
 
-    /// Takes the mark of a pageblock off.
+    /// Takes the mark off a pageblock.
     ///
     /// Refused as [`Error::Range`], [`Error::JournalFull`] or [`Error::NotMarked`].
     pub fn unmark(&mut self, block: u32) -> Result<(), Error> {
         done(unsafe { raw::compactd_unmark(&mut self.raw, block) })
     }
 
-    /// Reads words of a page, from one on, as loads of these words one after the other do.
+    /// Reads words of a page from word `from`, as that many calls of [`Pool::load`] would.
     ///
     /// Refused as [`Error::Range`], also where they go past the page, [`Error::JournalFull`], [`Error::Unmapped`] or [`Error::Moving`].
     pub fn read(&mut self, client: u32, at: Address, from: u32, values: &mut [u64]) -> Result<(), Error> {
@@ -257,7 +223,7 @@ impl Pool {
         done(unsafe { raw::compactd_read(&mut self.raw, client, at.space, at.vpage, from, words, count) })
     }
 
-    /// Writes words of a page, from one on, as stores of these values one after the other do.
+    /// Writes words of a page from word `from`, as that many calls of [`Pool::store`] would.
     ///
     /// Refused as [`Pool::read`] is.
     pub fn write(&mut self, client: u32, at: Address, from: u32, values: &[u64]) -> Result<(), Error> {
@@ -265,7 +231,7 @@ impl Pool {
         done(unsafe { raw::compactd_write(&mut self.raw, client, at.space, at.vpage, from, words, count) })
     }
 
-    /// Reads words of a block, from one on. It has as many as its frames have.
+    /// Reads words of a block from word `from`. [`Pool::words_of`] says how many it has.
     ///
     /// Refused as [`Error::NotHuge`] where another pool handed it out, or as [`Error::Range`] where they go past the block.
     pub fn read_huge(&mut self, huge: &Huge, from: usize, values: &mut [u64]) -> Result<(), Error> {
@@ -274,7 +240,7 @@ impl Pool {
         done(unsafe { raw::compactd_read_block(&mut self.raw, huge.first, huge.order, from, words, count) })
     }
 
-    /// Writes words of a block, from one on.
+    /// Writes words of a block from word `from`.
     ///
     /// Refused as [`Pool::read_huge`] is.
     pub fn write_huge(&mut self, huge: &Huge, from: usize, values: &[u64]) -> Result<(), Error> {
@@ -287,148 +253,10 @@ impl Pool {
     pub fn words_of(&self, huge: &Huge) -> usize {
         huge.frames() as usize * self.page_size.words() as usize
     }
-
-    /// The counts.
-    pub fn info(&mut self) -> Counts {
-        let mut counts = Counts::default();
-        is_done(unsafe { raw::compactd_info(&mut self.raw, &mut counts) });
-        counts
-    }
-
-    /// What is known of the page that an address names.
-    ///
-    /// Refused as [`Error::Range`] or [`Error::Unmapped`].
-    pub fn look(&mut self, at: Address) -> Result<Look, Error> {
-        let mut seen = raw::Seen::default();
-        done(unsafe { raw::compactd_look(&mut self.raw, at.space, at.vpage, &mut seen) })?;
-        let place = match seen.moving {
-            true => Place::Moving { serial: seen.place },
-            false => Place::At { frame: seen.place, unmovable: seen.flags & 1 != 0, dirty: seen.flags & 2 != 0 },
-        };
-        Ok(Look { place, pins: seen.pins, maps: seen.maps })
-    }
-
-    /// Whether a pageblock is marked.
-    ///
-    /// Refused as [`Error::Range`].
-    pub fn marked(&mut self, block: u32) -> Result<bool, Error> {
-        let mut marked = false;
-        done(unsafe { raw::compactd_marked(&mut self.raw, block, &mut marked) })?;
-        Ok(marked)
-    }
-
-    /// Whether the latest round is quiet: when it began no page was moving, and in pageblocks that aren't marked no page was pinned or
-    /// unmovable and no block handed out; and since then pages were loaded, stored, taken and moved alone. Where its scanners met and no
-    /// page is moving, the pool is packed: in the pageblocks that aren't marked, each free frame is below each page.
-    pub fn quiet(&mut self) -> bool {
-        let mut quiet = false;
-        is_done(unsafe { raw::compactd_quiet(&mut self.raw, &mut quiet) });
-        quiet
-    }
-
-    /// What became of the pages that were taken in rounds.
-    ///
-    /// Refused as [`Error::Out`].
-    pub fn audit(&mut self) -> Result<Ends, Error> {
-        let mut ends = Ends::default();
-        done(unsafe { raw::compactd_audit(&mut self.raw, &mut ends) })?;
-        Ok(ends)
-    }
-
-    /// How many records were written since it was opened, and how many places are left. A pool that keeps no records counts them too.
-    pub fn journal(&mut self) -> (u64, u64) {
-        let (mut records, mut room) = (0, 0);
-        is_done(unsafe { raw::compactd_journal(&mut self.raw, &mut records, &mut room) });
-        (records, room)
-    }
-
-    /// A record of a pool that keeps its journal; 0 is the oldest.
-    ///
-    /// Refused as [`Error::Range`] where there is no such record, or none is kept.
-    pub fn record(&mut self, place: usize) -> Result<Record, Error> {
-        let mut noted = raw::Noted::default();
-        done(unsafe { raw::compactd_record(&mut self.raw, place, &mut noted) })?;
-        Ok(Record::of(noted))
-    }
-
-    /// Makes a whole round on this thread: it takes the lowest page that can be moved, moves it to the highest free frame, and so on
-    /// until the two meet.
-    ///
-    /// Refused as [`Error::JournalFull`] where the journal had no room for a further move, or the pool has taken 2^32 - 1 pages in its
-    /// rounds; the pages that were moved until then stay so.
-    pub fn compact(&mut self) -> Result<(), Error> {
-        let mut met = false;
-        is_done(unsafe { raw::compactd_compact(&mut self.raw, &mut met) });
-        if met {
-            Ok(())
-        } else {
-            Err(Error::JournalFull)
-        }
-    }
-
-    /// Begins a round whose pages the caller moves by [`Pool::isolate`] and [`Pool::commit`]. One that was begun before ends there; pages
-    /// that are moving stay so.
-    ///
-    /// ```
-    /// # use compactd::{Address, Error, PageSize, Pool};
-    /// # fn main() -> Result<(), Error> {
-    /// # let mut pool = Pool::open(PageSize::Bytes64, 1)?;
-    /// pool.map(0, Address::new(0, 0), false)?;
-    /// pool.begin_round();
-    /// while let Some(page) = pool.isolate()? {
-    ///     assert!(pool.commit(page)?);
-    /// }
-    /// assert_eq!(pool.audit()?.moved, 1);
-    /// # Ok(())
-    /// # }
-    /// ```
-    pub fn begin_round(&mut self) {
-        is_done(unsafe { raw::compactd_begin_round(&mut self.raw) });
-    }
-
-    /// Isolates the next page of the round, which is moving from here on; None where the scanners have met. It allocates the words.
-    ///
-    /// Refused as [`Error::JournalFull`] where there aren't two places for its move, or 2^32 - 1 pages were taken.
-    pub fn isolate(&mut self) -> Result<Option<Moving>, Error> {
-        let mut carried = raw::Carried::default();
-        let mut words = vec![0; self.page_size.words() as usize];
-        match unsafe { raw::compactd_isolate(&mut self.raw, &mut carried, words.as_mut_ptr(), words.len()) } {
-            MET => Ok(None),
-            answer => done(answer).map(|()| Some(Moving { pool: self.number, serial: carried.serial, number: carried.number, words })),
-        }
-    }
-
-    /// Ends the move of a page: it is in its new frame, or in its old one where it has a pin. Tells whether it was moved.
-    ///
-    /// Refused as [`Error::Stranger`] where the page is another pool's.
-    pub fn commit(&mut self, page: Moving) -> Result<bool, Kept<Moving>> {
-        let mut moved = false;
-        let (words, count) = (page.words.as_ptr(), page.words.len());
-        let ended = self
-            .own_page(&page)
-            .and_then(|()| done(unsafe { raw::compactd_commit(&mut self.raw, page.serial, page.number, words, count, &mut moved) }));
-        ended.map(|()| moved).map_err(|error| Kept { error, value: page })
-    }
-
-    /// Ends the move of a page without its words: it is in its old frame.
-    ///
-    /// Refused as [`Error::Stranger`] where the page is another pool's.
-    pub fn put_back(&mut self, page: Moving) -> Result<(), Kept<Moving>> {
-        let ended = self.own_page(&page).and_then(|()| done(unsafe { raw::compactd_put_back(&mut self.raw, page.serial, page.number) }));
-        ended.map_err(|error| Kept { error, value: page })
-    }
-
-    fn own_page(&self, page: &Moving) -> Result<(), Error> {
-        if page.pool == self.number {
-            Ok(())
-        } else {
-            Err(Error::Stranger)
-        }
-    }
 }
 
 /// A call on an open pool that isn't refused.
-fn is_done(answer: u32) {
+pub(crate) fn is_done(answer: u32) {
     debug_assert_eq!(answer, 0, "the call is never refused where the pool is open");
 }
 

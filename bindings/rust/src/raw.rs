@@ -13,7 +13,7 @@ pub struct Handle {
 pub struct Counts {
     /// Free frames.
     pub free: u32,
-    /// Pages in use, moving ones too.
+    /// Pages in use, moving pages included.
     pub pages: u32,
     /// Moving pages.
     pub moving: u32,
@@ -23,48 +23,77 @@ pub struct Counts {
     pub whole: u32,
     /// Frames of the blocks that are handed out.
     pub held: u32,
+    reserved: [u64; 2],
 }
 
-/// What became of the pages that were taken in rounds, since the pool was opened.
+/// What a pool was opened with.
 #[repr(C)]
 #[derive(Clone, Copy, Debug, Default, PartialEq, Eq)]
-pub struct Ends {
-    /// How many were taken.
-    pub isolated: u32,
-    /// How many were moved.
-    pub moved: u32,
-    /// How many were put back.
-    pub back: u32,
+pub struct Geometry {
+    /// Words of a page: 8 or 512.
+    pub page_words: u32,
+    /// Pageblocks: 1 to 8.
+    pub blocks: u32,
+    /// Places of its journal, used or not; 0 where it keeps none.
+    pub places: u64,
+    reserved: [u64; 2],
 }
 
 #[repr(C)]
 #[derive(Clone, Copy, Default)]
-pub struct Seen {
-    pub place: u32,
+pub struct PageInfo {
+    pub serial: u64,
+    pub frame: u32,
     pub flags: u32,
     pub pins: u32,
     pub maps: u32,
     pub moving: bool,
+    reserved: [u64; 2],
+}
+
+/// How many pages rounds isolated since the pool was opened, and how each of these moves ended.
+#[repr(C)]
+#[derive(Clone, Copy, Debug, Default, PartialEq, Eq)]
+pub struct RoundCounts {
+    /// Pages that were isolated.
+    pub isolated: u64,
+    /// Pages that were moved.
+    pub moved: u64,
+    /// Pages that were put back.
+    pub back: u64,
+    reserved: [u64; 2],
 }
 
 #[repr(C)]
-#[derive(Clone, Copy, Default)]
-pub struct Carried {
-    pub serial: u32,
+#[derive(Clone, Copy, Debug, Default, PartialEq, Eq)]
+pub struct MovingPage {
+    pub serial: u64,
     pub number: u32,
     pub flags: u32,
+    reserved: [u64; 2],
 }
 
 #[repr(C)]
 #[derive(Clone, Copy, Default)]
-pub struct Noted {
+pub struct Move {
+    pub source: u32,
+    pub target: u32,
+    pub space: u32,
+    pub vpage: u32,
+    reserved: [u64; 2],
+}
+
+#[repr(C)]
+#[derive(Clone, Copy, Default)]
+pub struct Record {
     pub kind: u32,
     pub client: u32,
     pub space: u32,
     pub vpage: u32,
-    pub number: u32,
-    pub other: u32,
+    pub number: u64,
+    pub other: u64,
     pub value: u64,
+    reserved: [u64; 2],
 }
 
 extern "C" {
@@ -88,16 +117,20 @@ extern "C" {
     pub fn compactd_read_block(pool: *mut Handle, first: u32, order: u32, from: usize, values: *mut u64, count: usize) -> u32;
     pub fn compactd_write_block(pool: *mut Handle, first: u32, order: u32, from: usize, values: *const u64, count: usize) -> u32;
     pub fn compactd_info(pool: *mut Handle, counts: *mut Counts) -> u32;
-    pub fn compactd_look(pool: *mut Handle, space: u32, vpage: u32, seen: *mut Seen) -> u32;
+    pub fn compactd_describe(pool: *mut Handle, geometry: *mut Geometry) -> u32;
+    pub fn compactd_free_runs(pool: *mut Handle, order: u32, runs: *mut u32) -> u32;
+    pub fn compactd_fragmentation(pool: *mut Handle, order: u32, index: *mut i32) -> u32;
+    pub fn compactd_look(pool: *mut Handle, space: u32, vpage: u32, info: *mut PageInfo) -> u32;
     pub fn compactd_marked(pool: *mut Handle, block: u32, marked: *mut bool) -> u32;
     pub fn compactd_quiet(pool: *mut Handle, quiet: *mut bool) -> u32;
-    pub fn compactd_audit(pool: *mut Handle, ends: *mut Ends) -> u32;
+    pub fn compactd_audit(pool: *mut Handle, counts: *mut RoundCounts) -> u32;
     pub fn compactd_compact(pool: *mut Handle, met: *mut bool) -> u32;
     pub fn compactd_begin_round(pool: *mut Handle) -> u32;
-    pub fn compactd_isolate(pool: *mut Handle, carried: *mut Carried, words: *mut u64, count: usize) -> u32;
-    pub fn compactd_commit(pool: *mut Handle, serial: u32, number: u32, words: *const u64, count: usize, moved: *mut bool) -> u32;
-    pub fn compactd_put_back(pool: *mut Handle, serial: u32, number: u32) -> u32;
+    pub fn compactd_isolate(pool: *mut Handle, page: *mut MovingPage, words: *mut u64, count: usize) -> u32;
+    pub fn compactd_commit(pool: *mut Handle, page: *const MovingPage, words: *const u64, count: usize, moved: *mut bool) -> u32;
+    pub fn compactd_put_back(pool: *mut Handle, page: *const MovingPage) -> u32;
+    pub fn compactd_next_moving(pool: *mut Handle, from: u32, page: *mut MovingPage, at: *mut Move) -> u32;
     pub fn compactd_journal(pool: *mut Handle, records: *mut u64, room: *mut u64) -> u32;
-    pub fn compactd_record(pool: *mut Handle, place: usize, record: *mut Noted) -> u32;
+    pub fn compactd_record_at(pool: *mut Handle, place: usize, record: *mut Record) -> u32;
     pub fn compactd_version() -> u32;
 }

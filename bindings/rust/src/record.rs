@@ -1,7 +1,7 @@
-use crate::raw::Noted;
+use crate::raw;
 use crate::Address;
 
-/// A record of a journal. Its numbers are those that the call was given or that it told.
+/// A record of a journal. Its numbers are those that the call was given, or those that it returned.
 #[derive(Clone, Copy, Debug, PartialEq, Eq)]
 #[non_exhaustive]
 #[allow(missing_docs)] // the names of the fields say what they are
@@ -21,11 +21,11 @@ pub enum Record {
     /// A pin of the page was taken off.
     Unpin { client: u32, address: Address },
     /// The page was isolated, under this serial.
-    Isolate { serial: u32, page: u32 },
+    Isolate { serial: u64, page: u32 },
     /// The page that was isolated under this serial is in its new frame.
-    Moved { serial: u32 },
+    Moved { serial: u64 },
     /// It is in its old frame: it had a pin, or it was put back without its words.
-    Back { serial: u32, had_pin: bool },
+    Back { serial: u64, had_pin: bool },
     /// A block was handed out.
     Take { first: u32, order: u32 },
     /// A block was taken back.
@@ -39,9 +39,11 @@ pub enum Record {
 }
 
 impl Record {
-    pub(crate) fn of(noted: Noted) -> Record {
-        let Noted { kind, client, space, vpage, number, other, value } = noted;
+    pub(crate) fn of(record: raw::Record) -> Record {
+        let raw::Record { kind, client, space, vpage, value, number: serial, .. } = record;
         let address = Address { space, vpage };
+        // Serials alone are wider in the library.
+        let (number, other) = (record.number as u32, record.other as u32);
         match kind {
             1 => Record::Map { client, address, page: number },
             2 => Record::Share { client, address, alias: Address { space: number, vpage: other } },
@@ -50,9 +52,9 @@ impl Record {
             5 => Record::Load { client, address, word: number, value },
             6 => Record::Pin { client, address },
             7 => Record::Unpin { client, address },
-            8 => Record::Isolate { serial: number, page: other },
-            9 => Record::Moved { serial: number },
-            10 => Record::Back { serial: number, had_pin: other == 1 },
+            8 => Record::Isolate { serial, page: other },
+            9 => Record::Moved { serial },
+            10 => Record::Back { serial, had_pin: other == 1 },
             11 => Record::Take { first: number, order: other },
             12 => Record::Give { first: number, order: other },
             13 => Record::Mark { block: number },

@@ -1,6 +1,8 @@
 //! What the types of this crate add to the library's calls.
 
-use compactd::{Address, Error, Kept, PageSize, Place, Pool, Record};
+use std::sync::Mutex;
+
+use compactd::{Address, Error, Kept, MovingGuard, PageSize, Place, Pool, Record};
 
 fn pool() -> Pool {
     Pool::open(PageSize::Bytes64, 1).expect("a pool of one pageblock can be opened")
@@ -58,15 +60,114 @@ fn goes_while_a_page_is_moving() {
 }
 
 #[test]
-fn keeps_a_page_moving_that_is_dropped() {
+fn finds_a_lost_page_and_puts_it_back() {
+    let (mut pool, mut other) = (pool(), pool());
+    pool.map_at(0, AT, false, 3).unwrap();
+    pool.map_at(0, Address::new(0, 1), false, 7).unwrap();
+    pool.store(0, Address::new(0, 1), 0, 1).unwrap();
+    pool.begin_round();
+    drop(pool.isolate().unwrap());
+    drop(pool.isolate().unwrap());
+    assert_eq!((pool.isolate(), pool.info().moving, pool.audit()), (Ok(None), 2, Err(Error::PagesMoving)));
+    pool.compact().unwrap();
+    assert_eq!(pool.unmap(0, AT), Err(Error::Moving));
+    let lost = pool.moving_pages();
+    assert_eq!(lost.iter().map(|it| (it.source, it.target, it.address.vpage)).collect::<Vec<_>>(), [(3, 511, 0), (7, 510, 1)]);
+    assert_eq!(lost.iter().map(|it| (it.page.serial(), it.page.is_dirty())).collect::<Vec<_>>(), [(0, false), (1, true)]);
+    assert_eq!(pool.next_moving(4).map(|it| it.page), Ok(lost[1].page));
+    assert_eq!((pool.next_moving(8).err(), pool.next_moving(4096).err()), (Some(Error::NotMoving), Some(Error::Range)));
+    assert_eq!(other.put_back_lost(lost[0].page), Err(Error::Stranger));
+    assert_eq!(pool.put_back_lost(lost[0].page), Ok(()));
+    assert_eq!(pool.put_back_lost(lost[0].page), Err(Error::Stranger));
+    assert_eq!(pool.put_back_lost(lost[1].page), Ok(()));
+    assert_eq!((pool.unmap(0, AT), pool.audit().unwrap().back, pool.moving_pages()), (Ok(()), 2, vec![]));
+}
+
+#[test]
+fn moves_pages_with_a_buffer_of_the_caller() {
+    let mut pool = pool();
+    pool.map(0, AT, false).unwrap();
+    pool.store(0, AT, 7, 6).unwrap();
+    pool.begin_round();
+    let mut words = [0; 8];
+    assert_eq!(pool.isolate_into(&mut words[1..]), Err(Error::Range));
+    let page = pool.isolate_into(&mut words).unwrap().unwrap();
+    assert_eq!(words, [0, 0, 0, 0, 0, 0, 0, 6]);
+    assert_eq!(pool.commit_copy(page, &[0; 8]), Err(Error::Stranger));
+    assert_eq!(pool.commit_copy(page, &[]), Err(Error::Range));
+    assert_eq!(pool.commit_copy(page, &words), Ok(true));
+    assert_eq!(pool.commit_copy(page, &words), Err(Error::Stranger));
+    assert_eq!(pool.isolate_into(&mut words), Ok(None));
+}
+
+/// A pool with a page in its frame 0 and a round that has begun.
+fn shared() -> Mutex<Pool> {
     let mut pool = pool();
     pool.map(0, AT, false).unwrap();
     pool.begin_round();
-    drop(pool.isolate().unwrap());
-    assert_eq!(pool.isolate(), Ok(None));
-    assert_eq!((pool.info().moving, pool.audit()), (1, Err(Error::Out)));
-    pool.compact().unwrap();
-    assert_eq!(pool.unmap(0, AT), Err(Error::Moving));
+    Mutex::new(pool)
+}
+
+#[test]
+fn puts_back_the_page_of_a_guard_that_is_dropped() {
+    let pool = shared();
+    drop(MovingGuard::isolate(&pool).unwrap().unwrap());
+    assert_eq!(pool.lock().unwrap().look(AT).unwrap().place, Place::At { frame: 0, unmovable: false, dirty: false });
+    pool.lock().unwrap().begin_round();
+    let guard = MovingGuard::isolate(&pool).unwrap().unwrap();
+    assert_eq!((guard.serial(), guard.words()), (1, &[0; 8][..]));
+    assert_eq!(guard.commit(), Ok(true));
+    assert!(MovingGuard::isolate(&pool).unwrap().is_none());
+    let counts = pool.lock().unwrap().audit().unwrap();
+    assert_eq!((counts.isolated, counts.moved, counts.back), (2, 1, 1));
+}
+
+#[test]
+fn puts_back_the_page_of_a_thread_that_panics() {
+    let pool = shared();
+    let ended = std::thread::scope(|threads| {
+        let carrier = threads.spawn(|| {
+            let _guard = MovingGuard::isolate(&pool).unwrap().unwrap();
+            panic!("the carrier fails");
+        });
+        carrier.join()
+    });
+    assert!(ended.is_err());
+    assert_eq!(pool.lock().unwrap().audit().unwrap().back, 1);
+}
+
+#[test]
+fn refuses_a_guard_whose_page_another_has_put_back() {
+    let pool = shared();
+    let guard = MovingGuard::isolate(&pool).unwrap().unwrap();
+    let found = pool.lock().unwrap().moving_pages();
+    assert_eq!(pool.lock().unwrap().put_back_lost(found[0].page), Ok(()));
+    assert_eq!(guard.put_back(), Err(Error::Stranger));
+    pool.lock().unwrap().begin_round();
+    let guard = MovingGuard::isolate(&pool).unwrap().unwrap();
+    let found = pool.lock().unwrap().moving_pages();
+    assert_eq!(pool.lock().unwrap().put_back_lost(found[0].page), Ok(()));
+    assert_eq!(guard.commit(), Err(Error::Stranger));
+    assert_eq!(pool.lock().unwrap().audit().unwrap().back, 2);
+}
+
+#[test]
+fn describes_itself() {
+    let mut pool = Pool::open_journal(PageSize::Bytes4096, 3, 77).unwrap();
+    let geometry = pool.geometry();
+    assert_eq!((geometry.page_words, geometry.blocks, geometry.places), (512, 3, 77));
+    assert_eq!(self::pool().geometry().places, 0);
+}
+
+#[test]
+fn counts_free_runs() {
+    let mut pool = pool();
+    pool.map_at(0, AT, false, 510).unwrap();
+    // 511 is a run of order 0, 508 of order 1, and so on down to 0, of order 8.
+    let runs: Vec<_> = (0..10).map(|order| pool.free_runs(order)).collect();
+    assert_eq!((&runs[..9], runs[9]), (&[Ok(1); 9][..], Ok(0)));
+    assert_eq!((pool.fragmentation(8), pool.fragmentation(9)), (Ok(-1000), Ok(1000 - (1000 + 511 * 1000 / 512) / 9)));
+    assert_eq!((pool.free_runs(10), pool.fragmentation(10)), (Err(Error::Range), Err(Error::Range)));
 }
 
 #[test]
@@ -86,7 +187,7 @@ fn carries_pages_on_other_threads() {
         pool.map(0, Address::new(0, page), false).unwrap();
         pool.store(0, Address::new(0, page), 7, u64::from(page)).unwrap();
     }
-    let pool = std::sync::Mutex::new(pool);
+    let pool = Mutex::new(pool);
     pool.lock().unwrap().begin_round();
     std::thread::scope(|threads| {
         for _ in 0..4 {
@@ -121,9 +222,9 @@ fn tells_its_journal() {
     pool.map(1, AT, false).unwrap();
     pool.store(2, AT, 3, 4).unwrap();
     assert_eq!(pool.journal(), (2, 1));
-    assert!(matches!(pool.record(0), Ok(Record::Map { client: 1, address: AT, .. })));
-    assert_eq!(pool.record(1), Ok(Record::Store { client: 2, address: AT, word: 3, value: 4 }));
-    assert_eq!(pool.record(2), Err(Error::Range));
+    assert!(matches!(pool.record_at(0), Ok(Record::Map { client: 1, address: AT, .. })));
+    assert_eq!(pool.record_at(1), Ok(Record::Store { client: 2, address: AT, word: 3, value: 4 }));
+    assert_eq!(pool.record_at(2), Err(Error::Range));
     assert_eq!(pool.compact(), Err(Error::JournalFull));
 }
 
@@ -133,4 +234,6 @@ fn tells_errors() {
     assert_eq!((error.number(), error.to_string().as_str()), (3, "the address names no page"));
     let told: Box<dyn std::error::Error> = Box::new(error);
     assert_eq!(told.to_string(), "the address names no page");
+    assert_eq!((Error::PagesMoving.number(), Error::Other(99).number()), (16, 99));
+    assert_eq!(Error::Other(99).to_string(), "unknown refusal 99");
 }

@@ -1,0 +1,124 @@
+use crate::pool::{done, is_done};
+use crate::raw;
+use crate::{Error, Kept, Moving, MovingPage, Pool};
+
+/// The answer of an isolation where the scanners have met.
+const MET: u32 = 53;
+
+/// Rounds.
+impl Pool {
+    /// Makes a whole round on this thread: it moves the lowest page that can be moved to the highest free frame, and so on until its two
+    /// scanners meet.
+    ///
+    /// Refused as [`Error::JournalFull`] where the journal had no room for a further move, or 2^32 - 1 pages were isolated; the pages that
+    /// were moved until then stay in their new frames.
+    pub fn compact(&mut self) -> Result<(), Error> {
+        let mut met = false;
+        is_done(unsafe { raw::compactd_compact(&mut self.raw, &mut met) });
+        if met {
+            Ok(())
+        } else {
+            Err(Error::JournalFull)
+        }
+    }
+
+    /// Begins a round whose pages the caller moves by [`Pool::isolate`] and [`Pool::commit`]. A round that was begun before ends; pages
+    /// that are moving stay so.
+    ///
+    /// ```
+    /// # use compactd::{Address, Error, PageSize, Pool};
+    /// # fn main() -> Result<(), Error> {
+    /// # let mut pool = Pool::open(PageSize::Bytes64, 1)?;
+    /// pool.map(0, Address::new(0, 0), false)?;
+    /// pool.begin_round();
+    /// while let Some(page) = pool.isolate()? {
+    ///     assert!(pool.commit(page)?);
+    /// }
+    /// assert_eq!(pool.audit()?.moved, 1);
+    /// # Ok(())
+    /// # }
+    /// ```
+    pub fn begin_round(&mut self) {
+        is_done(unsafe { raw::compactd_begin_round(&mut self.raw) });
+    }
+
+    /// Isolates the next page of the round, which is moving from then on; None where the scanners have met. It allocates the words.
+    /// In a pool that threads share, [`MovingGuard::isolate`] is safer: it puts a page back that is dropped.
+    ///
+    /// Refused as [`Error::JournalFull`] where there aren't two places for its move, or 2^32 - 1 pages were isolated.
+    ///
+    /// [`MovingGuard::isolate`]: crate::MovingGuard::isolate
+    pub fn isolate(&mut self) -> Result<Option<Moving>, Error> {
+        let mut words = vec![0; self.page_size().words() as usize];
+        let page = self.isolate_into(&mut words)?;
+        Ok(page.map(|page| Moving { page, words }))
+    }
+
+    /// Isolates the next page of the round, and copies its words into a buffer of the caller's. It allocates nothing.
+    ///
+    /// Refused as [`Error::Range`] where the buffer has more or fewer words than a page, else as [`Pool::isolate`] is.
+    pub fn isolate_into(&mut self, words: &mut [u64]) -> Result<Option<MovingPage>, Error> {
+        let mut page = raw::MovingPage::default();
+        match unsafe { raw::compactd_isolate(&mut self.raw, &mut page, words.as_mut_ptr(), words.len()) } {
+            MET => Ok(None),
+            answer => done(answer).map(|()| Some(MovingPage { pool: self.number, raw: page })),
+        }
+    }
+
+    /// Ends the move of a page with its words. Returns whether the page was moved to its new frame; else it has a pin and is in its old
+    /// one.
+    ///
+    /// Refused as [`Error::Stranger`] where the page is another pool's, or isn't moving any more.
+    pub fn commit(&mut self, moving: Moving) -> Result<bool, Kept<Moving>> {
+        self.commit_copy(moving.page, &moving.words).map_err(|error| Kept { error, value: moving })
+    }
+
+    /// The same with a copy of the page's words in a buffer of the caller's. The words are compared with those of the page.
+    ///
+    /// Refused as [`Error::Range`] where the buffer has more or fewer words than a page, or as [`Error::Stranger`], also where the words
+    /// differ.
+    pub fn commit_copy(&mut self, page: MovingPage, words: &[u64]) -> Result<bool, Error> {
+        self.own_page(page)?;
+        let mut moved = false;
+        done(unsafe { raw::compactd_commit(&mut self.raw, &page.raw, words.as_ptr(), words.len(), &mut moved) })?;
+        Ok(moved)
+    }
+
+    /// Ends the move of a page without its words: the page is in its old frame.
+    ///
+    /// Refused as [`Error::Stranger`] where the page is another pool's, or isn't moving any more.
+    pub fn put_back(&mut self, moving: Moving) -> Result<(), Kept<Moving>> {
+        self.put_back_lost(moving.page).map_err(|error| Kept { error, value: moving })
+    }
+
+    /// Puts a page back whose [`Moving`] was lost. [`Pool::moving_pages`] finds it.
+    ///
+    /// ```
+    /// # use compactd::{Address, Error, PageSize, Pool};
+    /// # fn main() -> Result<(), Error> {
+    /// # let mut pool = Pool::open(PageSize::Bytes64, 1)?;
+    /// # pool.map(0, Address::new(0, 0), false)?;
+    /// pool.begin_round();
+    /// drop(pool.isolate()?);
+    /// for lost in pool.moving_pages() {
+    ///     pool.put_back_lost(lost.page)?;
+    /// }
+    /// assert_eq!(pool.info().moving, 0);
+    /// # Ok(())
+    /// # }
+    /// ```
+    ///
+    /// Refused as [`Error::Stranger`] where the page is another pool's, or isn't moving any more.
+    pub fn put_back_lost(&mut self, page: MovingPage) -> Result<(), Error> {
+        self.own_page(page)?;
+        done(unsafe { raw::compactd_put_back(&mut self.raw, &page.raw) })
+    }
+
+    fn own_page(&self, page: MovingPage) -> Result<(), Error> {
+        if page.pool == self.number {
+            Ok(())
+        } else {
+            Err(Error::Stranger)
+        }
+    }
+}
