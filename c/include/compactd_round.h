@@ -113,7 +113,9 @@ static uint32_t compactd_round_slices(compactd_round_state *round, pthread_mutex
 /* Initialises a lock that is handed to a thread that waits for it when it is let go: one with the protocol PTHREAD_PRIO_INHERIT. A default
  * lock isn't: between slices a round most often takes it again before a thread that waits is awake. So other threads get their turns with a
  * lock from here. It isn't initialised before, and pthread_mutex_destroy ends it. Answers 0 or a number of errno.h, as ENOTSUP where the
- * system has no such lock. */
+ * system has no such lock. A program that is compiled as strict ISO C, as by -std=c99, has this function only if it defines
+ * _POSIX_C_SOURCE. */
+#if defined(_POSIX_C_SOURCE) && _POSIX_C_SOURCE >= 199506L
 COMPACTD_ROUND_UNUSED
 static int compactd_round_lock(pthread_mutex_t *lock)
 {
@@ -128,6 +130,7 @@ static int compactd_round_lock(pthread_mutex_t *lock)
     pthread_mutexattr_destroy(&kind);
     return answer;
 }
+#endif
 
 /* Makes a round on a pool, whose calls are made under this lock, and lets the lock go after each so many pages, 1 or more. The caller
  * doesn't hold the lock, and no other round is made on the pool meanwhile. Taking 16 pages of 4 KiB takes some 30 microseconds on a
