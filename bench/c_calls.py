@@ -41,11 +41,18 @@ def run(*command, **how):
     return subprocess.run([str(word) for word in command], check=True, **how)
 
 
-def in_c(room, name, library, *options):
-    """The program in C over a library, compiled."""
-    built = room / name
+def folder():
+    """The folder of the library."""
+    found = pathlib.Path(os.environ.get("COMPACTD_DIR", LEFT)).resolve()
+    if not (found / "libcompactd.a").is_file():
+        sys.exit(f"there is no library in {found}: `./prove --c` builds it")
+    return found
+
+
+def in_c(built, source, library, *options):
+    """A program in C over a library, compiled."""
     words = ["-std=c89", "-D_POSIX_C_SOURCE=200809L", "-O2", *options, f"-I{ROOT / 'c/include'}"]
-    run("gcc", *words, "-o", built, BENCH / "c_calls.c", library, "-lpthread", "-ldl", "-lm")
+    run("gcc", *words, "-o", built, BENCH / source, library, "-lpthread", "-ldl", "-lm")
     return built
 
 
@@ -79,11 +86,12 @@ def rows_of(program):
 
 def programs(room, folder, baseline):
     """The programs that are measured, under the heads of their columns."""
-    found = {"from C": in_c(room, "c_calls", folder / "libcompactd.a")}
+    found = {"from C": in_c(room / "c_calls", "c_calls.c", folder / "libcompactd.a")}
     if shutil.which("cargo"):
         found["from Rust"] = in_rust(room, folder)
     if baseline:
-        found["plain Rust"] = in_c(room, "plain_calls", plain_library(room, pathlib.Path(baseline).resolve()), "-DPLAIN")
+        plain = plain_library(room, pathlib.Path(baseline).resolve())
+        found["plain Rust"] = in_c(room / "plain_calls", "c_calls.c", plain, "-DPLAIN")
     return found
 
 
@@ -98,14 +106,12 @@ def main():
     parser = argparse.ArgumentParser(description=__doc__, formatter_class=argparse.RawDescriptionHelpFormatter)
     parser.add_argument("--baseline", metavar="FOLDER", help="the sources of the plain Rust program")
     given = parser.parse_args()
-    folder = pathlib.Path(os.environ.get("COMPACTD_DIR", LEFT)).resolve()
-    if not (folder / "libcompactd.a").is_file():
-        sys.exit(f"there is no library in {folder}: `./prove --c` builds it")
+    library = folder()
     with tempfile.TemporaryDirectory() as room:
-        built = programs(pathlib.Path(room), folder, given.baseline)
+        built = programs(pathlib.Path(room), library, given.baseline)
         show({head: rows_of(program) for head, program in built.items()})
     for name in ("libcompactd.a", "libcompactd.so"):
-        print(f"{name}: {(folder / name).stat().st_size:,} bytes")
+        print(f"{name}: {(library / name).stat().st_size:,} bytes")
 
 
 if __name__ == "__main__":

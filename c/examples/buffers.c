@@ -1,11 +1,10 @@
 /* The buffers of a database. Each page is a buffer with a balance in its first word. Four threads transfer money between buffers: they pin
- * both, so that these stay where they are, read and write them, and take the pins off. Beside them rounds move pages on further
- * threads. Every call on the pool is made under one lock. A buffer that is moving is tried again. The sum of all balances stays. */
+ * both, so that these stay where they are, read and write them, and take the pins off. Beside them the main thread makes rounds in slices.
+ * Every call on the pool is made under one lock, which each slice lets go to a thread that waits. The sum of all balances stays. */
 #include "compactd.h"
 #include "compactd_round.h"
 
 #include <pthread.h>
-#include <sched.h>
 #include <stdio.h>
 
 #define PAGE_WORDS 512
@@ -14,11 +13,12 @@
 #define THREADS 4
 #define TRANSFERS 5000
 #define ROUNDS 20
+#define SLICE_PAGES 16
 #define OTHERS 100
 #define BALANCE 100
 
 static compactd_pool pool;
-static pthread_mutex_t lock = PTHREAD_MUTEX_INITIALIZER;
+static pthread_mutex_t lock;
 
 /* Every second page is a buffer, so that no pageblock is free as a whole. */
 static uint32_t page_of(uint32_t buffer)
@@ -45,24 +45,20 @@ static int open_buffers(void)
     return 1;
 }
 
-/* Adds an amount to the balance of a buffer that is pinned. While the page is moving the lock is let go: it is soon put back. */
+/* Adds an amount to the balance of a buffer that is pinned. */
 static int add(uint32_t client, uint32_t page, uint64_t amount)
 {
-    for (;;) {
-        uint64_t balance = 0;
-        uint32_t answer;
+    uint64_t balance = 0;
+    uint32_t answer;
 
-        pthread_mutex_lock(&lock);
-        answer = compactd_read(&pool, client, 0, page, 0, &balance, 1);
-        if (answer == COMPACTD_OK) {
-            balance += amount;
-            answer = compactd_write(&pool, client, 0, page, 0, &balance, 1);
-        }
-        pthread_mutex_unlock(&lock);
-        if (answer != COMPACTD_MOVING)
-            return answer == COMPACTD_OK;
-        sched_yield();
+    pthread_mutex_lock(&lock);
+    answer = compactd_read(&pool, client, 0, page, 0, &balance, 1);
+    if (answer == COMPACTD_OK) {
+        balance += amount;
+        answer = compactd_write(&pool, client, 0, page, 0, &balance, 1);
     }
+    pthread_mutex_unlock(&lock);
+    return answer == COMPACTD_OK;
 }
 
 static int set_pins(uint32_t client, uint32_t from, uint32_t to, uint32_t (*call)(compactd_pool *, uint32_t, uint32_t, uint32_t))
@@ -123,7 +119,7 @@ static uint64_t sum(void)
 
 static void tell(const char *when)
 {
-    compactd_counts counts = {0, 0, 0, 0, 0, 0};
+    compactd_counts counts = {0, 0, 0, 0, 0, 0, {0, 0}};
 
     compactd_info(&pool, &counts);
     printf("%s: %u buffers, %u moving, %u pageblocks free as a whole, sum %lu\n", when, (unsigned)counts.pages, (unsigned)counts.moving,
@@ -134,10 +130,9 @@ int main(void)
 {
     pthread_t threads[THREADS];
     uint32_t clients[THREADS], client, round, first;
-    compactd_round_ends round_ends;
-    compactd_ends ends;
+    compactd_round_counts counts;
     unsigned taken = 0;
-    int is_well = open_buffers();
+    int is_well = compactd_round_lock(&lock) == 0 && open_buffers();
 
     if (!is_well)
         return 1;
@@ -149,7 +144,7 @@ int main(void)
     }
     for (round = 0; round < ROUNDS; round++) {
         is_well &= set_others(round, 1);
-        is_well &= compactd_round(&pool, PAGE_WORDS, &lock, 2, &round_ends) == COMPACTD_OK;
+        is_well &= compactd_round(&pool, &lock, SLICE_PAGES, &counts) == COMPACTD_OK;
         is_well &= set_others(round, 0);
     }
     for (client = 0; client < THREADS; client++) {
@@ -161,13 +156,14 @@ int main(void)
     printf("%d transfers beside %d rounds: %s\n", THREADS * TRANSFERS, ROUNDS, is_well ? "no call was refused" : "a call was refused");
 
     /* Nobody has a pin now, so one more round packs the buffers. */
-    is_well &= compactd_round(&pool, PAGE_WORDS, &lock, 2, &round_ends) == COMPACTD_OK;
+    is_well &= compactd_round(&pool, &lock, SLICE_PAGES, &counts) == COMPACTD_OK;
     tell("after them and one more round");
-    is_well &= compactd_audit(&pool, &ends) == COMPACTD_OK;
-    printf("each page that was taken in a round was moved or put back: %s\n", ends.moved + ends.back == ends.isolated ? "yes" : "no");
+    is_well &= compactd_audit(&pool, &counts) == COMPACTD_OK;
+    printf("each page that was taken in a round was moved or put back: %s\n", counts.moved + counts.back == counts.isolated ? "yes" : "no");
     while (compactd_take_order(&pool, 9, &first) == COMPACTD_OK)
         taken++;
     printf("%u huge pages taken\n", taken);
     compactd_close(&pool);
+    pthread_mutex_destroy(&lock);
     return is_well ? 0 : 1;
 }

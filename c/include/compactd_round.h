@@ -1,298 +1,166 @@
-/* A round of compactd on POSIX threads: the caller takes pages off, copiers copy them, and a committer brings the copies to the pool.
- * Other threads may make calls on the pool meanwhile. Each call on the pool, theirs and the round's, is made under one lock.
+/* A round of compactd in slices. It is made on the thread that calls, under a lock that it lets go between slices, so that other threads
+ * can make calls on the pool meanwhile. compactd_compact makes a whole round in one call, for which these would wait.
  *
- * What is proved, and what isn't. Each call on the pool is proved. So, whatever these threads do as long as calls are made under the lock,
- * a page that is committed has the words that it had, a stranger is refused, and no page ends twice. This header isn't proved: that it
- * makes each call under the lock, that its queues lose no page, and that it ends is only tested. Where a round on one thread is enough,
- * compactd_compact is proved as a whole.
+ * Each page that a round takes is moved or put back before the lock is let go. So no call of another thread finds a page moving by it.
  *
- * One round at a time on one pool. A page that is moving answers MOVING to loads, stores, shares and unmaps: the caller tries again
- * later, without the lock in between. compactd_round returns once none of the pages that it took is moving. */
+ * A round isn't made on several threads, since that isn't faster: the calls that isolate and commit a page do nearly all of the work, and
+ * they are made under the lock. bench/c_rounds.py measures it.
+ *
+ * What is proved, and what isn't. Each call on the pool is proved. So, whatever other threads do as long as calls are made under the lock,
+ * a page that is committed has the words that it had, a stranger is refused, and no page ends twice. This header isn't proved: that it makes
+ * each call under the lock, leaves no page moving, and ends is only tested. */
 #ifndef COMPACTD_ROUND_H
 #define COMPACTD_ROUND_H
 
 #include "compactd.h"
 
 #include <pthread.h>
-#include <string.h>
 
 #ifdef __cplusplus
 extern "C" {
 #endif
 
-/* How many pages may wait for a copier, and how many copies for the committer. */
-#define COMPACTD_ROUND_PLACES 8
-
-/* How many copiers a round may have. */
-#define COMPACTD_ROUND_COPIERS 16
-
 /* How many words a page has at most. */
 #define COMPACTD_ROUND_WORDS 512
 
-/* What a round did: how many pages it took, and how many of these it moved and put back. */
-typedef struct compactd_round_ends {
-    uint32_t isolated, moved, back;
-} compactd_round_ends;
-
-/* A program may include this and call nothing of it. */
+/* A program may include this and call only some of it. */
 #ifdef __GNUC__
 #define COMPACTD_ROUND_UNUSED __attribute__((unused))
 #else
 #define COMPACTD_ROUND_UNUSED
 #endif
 
-/* A page on its way, with its words. */
-typedef struct compactd_round_page {
-    compactd_carried carried;
-    uint64_t words[COMPACTD_ROUND_WORDS];
-} compactd_round_page;
-
-/* Pages that wait in the order in which they came. */
-typedef struct compactd_round_queue {
-    compactd_round_page pages[COMPACTD_ROUND_PLACES];
-    unsigned first, count;
-    int is_closed;
-} compactd_round_queue;
-
-/* What the threads of a round share. */
-typedef struct compactd_round_crew {
+/* A round that was begun. */
+typedef struct compactd_round_state {
     compactd_pool *pool;
-    pthread_mutex_t *lock;      /* the caller's, for calls on the pool */
     size_t page_words;
-    pthread_mutex_t own;        /* for what follows */
-    pthread_cond_t changed;
-    compactd_round_queue taken;
-    compactd_round_queue copied;
-    unsigned copiers;           /* those that haven't ended, the caller among them */
-    compactd_round_ends ends;
-    uint32_t answer;            /* of the first commit that was refused, or 0 */
-} compactd_round_crew;
+    compactd_round_counts *counts;
+    uint32_t refused; /* the answer of the first commit that was refused, or 0 */
+} compactd_round_state;
 
-/* Copies a page with its words. */
-static void compactd_round_copy_page(compactd_round_crew *crew, compactd_round_page *to, const compactd_round_page *page)
+/* Ends the move of a page with its words, and without them where the pool doesn't take these. So the page isn't moving any more, whatever
+ * is answered. */
+static void compactd_round_end(compactd_round_state *round, const compactd_moving_page *page, const uint64_t *words)
 {
-    to->carried = page->carried;
-    memcpy(to->words, page->words, crew->page_words * sizeof page->words[0]);
-}
-
-/* Puts a page in, once there is a place. */
-static void compactd_round_put(compactd_round_crew *crew, compactd_round_queue *queue, const compactd_round_page *page)
-{
-    pthread_mutex_lock(&crew->own);
-    while (queue->count == COMPACTD_ROUND_PLACES)
-        pthread_cond_wait(&crew->changed, &crew->own);
-    compactd_round_copy_page(crew, &queue->pages[(queue->first + queue->count) % COMPACTD_ROUND_PLACES], page);
-    queue->count++;
-    pthread_cond_broadcast(&crew->changed);
-    pthread_mutex_unlock(&crew->own);
-}
-
-/* Takes the first page out, once there is one; 0 where there is none and the queue is closed. */
-static int compactd_round_take(compactd_round_crew *crew, compactd_round_queue *queue, compactd_round_page *page)
-{
-    int is_there;
-
-    pthread_mutex_lock(&crew->own);
-    while (queue->count == 0 && !queue->is_closed)
-        pthread_cond_wait(&crew->changed, &crew->own);
-    is_there = queue->count > 0;
-    if (is_there) {
-        compactd_round_copy_page(crew, page, &queue->pages[queue->first]);
-        queue->first = (queue->first + 1) % COMPACTD_ROUND_PLACES;
-        queue->count--;
-        pthread_cond_broadcast(&crew->changed);
-    }
-    pthread_mutex_unlock(&crew->own);
-    return is_there;
-}
-
-static void compactd_round_close(compactd_round_crew *crew, compactd_round_queue *queue)
-{
-    pthread_mutex_lock(&crew->own);
-    queue->is_closed = 1;
-    pthread_cond_broadcast(&crew->changed);
-    pthread_mutex_unlock(&crew->own);
-}
-
-/* A copier: it ends once no page waits and none can come. The last one to end closes the queue of copies. */
-static void *compactd_round_copy(void *shared)
-{
-    compactd_round_crew *crew = (compactd_round_crew *)shared;
-    compactd_round_page page;
-    int is_last;
-
-    while (compactd_round_take(crew, &crew->taken, &page))
-        compactd_round_put(crew, &crew->copied, &page);
-    pthread_mutex_lock(&crew->own);
-    is_last = --crew->copiers == 0;
-    pthread_mutex_unlock(&crew->own);
-    if (is_last)
-        compactd_round_close(crew, &crew->copied);
-    return NULL;
-}
-
-/* Ends the move of a page: it brings the copy to the pool, and has the page put back where the pool doesn't take it. So the page isn't
- * moving any more, whatever is answered. */
-static void compactd_round_end(compactd_round_crew *crew, const compactd_round_page *copy)
-{
-    const uint32_t serial = copy->carried.serial, number = copy->carried.number;
     compactd_bool moved = 0;
-    uint32_t answer, ended;
+    uint32_t answer = compactd_commit(round->pool, page, words, round->page_words, &moved);
 
-    pthread_mutex_lock(crew->lock);
-    answer = ended = compactd_commit(crew->pool, serial, number, copy->words, crew->page_words, &moved);
+    if (answer != COMPACTD_OK) {
+        if (round->refused == COMPACTD_OK)
+            round->refused = answer;
+        answer = compactd_put_back(round->pool, page);
+    }
     if (answer != COMPACTD_OK)
-        ended = compactd_put_back(crew->pool, serial, number);
-    pthread_mutex_unlock(crew->lock);
-    if (crew->answer == COMPACTD_OK)
-        crew->answer = answer;
-    if (ended == COMPACTD_OK && moved)
-        crew->ends.moved++;
-    else if (ended == COMPACTD_OK)
-        crew->ends.back++;
+        return;
+    if (moved)
+        round->counts->moved++;
+    else
+        round->counts->back++;
 }
 
-/* The committer. */
-static void *compactd_round_commit(void *shared)
+/* Takes the next page of a round and ends its move. Answers why there is none, or 0. */
+static uint32_t compactd_round_page(compactd_round_state *round)
 {
-    compactd_round_crew *crew = (compactd_round_crew *)shared;
-    compactd_round_page copy;
+    uint64_t words[COMPACTD_ROUND_WORDS];
+    compactd_moving_page page;
+    const uint32_t answer = compactd_isolate(round->pool, &page, words, round->page_words);
 
-    while (compactd_round_take(crew, &crew->copied, &copy))
-        compactd_round_end(crew, &copy);
-    return NULL;
-}
-
-/* Takes the next page of the round. */
-static uint32_t compactd_round_isolate(compactd_round_crew *crew, compactd_round_page *page)
-{
-    uint32_t answer;
-
-    pthread_mutex_lock(crew->lock);
-    answer = compactd_isolate(crew->pool, &page->carried, page->words, crew->page_words);
-    pthread_mutex_unlock(crew->lock);
-    return answer;
-}
-
-/* Takes each page of the round and puts it into a queue, or ends its move at once where there is no queue. Answers why it took no more. */
-static uint32_t compactd_round_take_pages(compactd_round_crew *crew, compactd_round_queue *queue)
-{
-    compactd_round_page page;
-    uint32_t answer;
-
-    while ((answer = compactd_round_isolate(crew, &page)) == COMPACTD_OK) {
-        crew->ends.isolated++;
-        if (queue)
-            compactd_round_put(crew, queue, &page);
-        else
-            compactd_round_end(crew, &page);
+    if (answer == COMPACTD_OK) {
+        round->counts->isolated++;
+        compactd_round_end(round, &page, words);
     }
     return answer;
 }
 
-/* Starts a copier, which counts before it runs. Whether there is one. */
-static int compactd_round_start(compactd_round_crew *crew, pthread_t *copier)
+/* Begins a round, under the lock. */
+static uint32_t compactd_round_begin(compactd_round_state *round, pthread_mutex_t *lock)
 {
-    int is_started;
-
-    pthread_mutex_lock(&crew->own);
-    is_started = pthread_create(copier, NULL, compactd_round_copy, crew) == 0;
-    if (is_started)
-        crew->copiers++;
-    pthread_mutex_unlock(&crew->own);
-    return is_started;
-}
-
-/* The caller's part beside a committer: it starts copiers, takes pages, and copies what still waits then. Where there is no copier its
- * pages go to the committer as they are. */
-static uint32_t compactd_round_lead(compactd_round_crew *crew, unsigned copiers)
-{
-    pthread_t threads[COMPACTD_ROUND_COPIERS];
-    unsigned begun = 0;
+    compactd_geometry geometry;
     uint32_t answer;
 
-    crew->copiers = 1; /* the caller */
-    while (begun < copiers && begun < COMPACTD_ROUND_COPIERS && compactd_round_start(crew, &threads[begun]))
-        begun++;
-    answer = compactd_round_take_pages(crew, begun > 0 ? &crew->taken : &crew->copied);
-    compactd_round_close(crew, &crew->taken);
-    compactd_round_copy(crew);
-    while (begun > 0)
-        pthread_join(threads[--begun], NULL);
+    pthread_mutex_lock(lock);
+    answer = compactd_describe(round->pool, &geometry);
+    if (answer == COMPACTD_OK) {
+        round->page_words = geometry.page_words;
+        answer = compactd_begin_round(round->pool);
+    }
+    pthread_mutex_unlock(lock);
     return answer;
 }
 
-/* A round that was begun, by threads where there is a committer, and else by the caller alone. */
-static uint32_t compactd_round_run(compactd_round_crew *crew, unsigned copiers)
+/* Takes so many pages under one hold of the lock, and fewer where there are no more. Answers why, or 0. */
+static uint32_t compactd_round_slice(compactd_round_state *round, pthread_mutex_t *lock, uint32_t pages)
 {
-    pthread_t committer;
-    uint32_t answer;
+    uint32_t answer = COMPACTD_OK;
 
-    if (copiers == 0 || pthread_create(&committer, NULL, compactd_round_commit, crew) != 0)
-        return compactd_round_take_pages(crew, NULL);
-    answer = compactd_round_lead(crew, copiers);
-    pthread_join(committer, NULL);
+    pthread_mutex_lock(lock);
+    for (; pages > 0 && answer == COMPACTD_OK; pages--)
+        answer = compactd_round_page(round);
+    pthread_mutex_unlock(lock);
     return answer;
 }
 
-/* Whether the crew has what its threads wait by. */
-static int compactd_round_prepare(compactd_round_crew *crew)
+/* Makes each slice of a round. Answers why it took no more pages. */
+static uint32_t compactd_round_slices(compactd_round_state *round, pthread_mutex_t *lock, uint32_t pages)
 {
-    if (pthread_mutex_init(&crew->own, NULL) != 0)
-        return 0;
-    if (pthread_cond_init(&crew->changed, NULL) == 0)
-        return 1;
-    pthread_mutex_destroy(&crew->own);
-    return 0;
-}
+    uint32_t answer = compactd_round_begin(round, lock);
 
-static uint32_t compactd_round_begin(compactd_round_crew *crew)
-{
-    uint32_t answer;
-
-    pthread_mutex_lock(crew->lock);
-    answer = compactd_begin_round(crew->pool);
-    pthread_mutex_unlock(crew->lock);
+    while (answer == COMPACTD_OK)
+        answer = compactd_round_slice(round, lock, pages);
     return answer;
 }
 
-/* Makes a round on a pool whose pages have so many words, and whose calls are made under this lock, with so many copiers, 16 at most,
- * besides the caller and a committer. The caller doesn't hold the lock.
- *
- * Answers 0 where the scanners of the round met, and else a number of enum compactd_refusal: RANGE where the pages have another number of
- * words; CLOSED; JOURNAL_FULL where the journal has no room for a further move; or STRANGER where the pool didn't take a copy, as where
- * another thread ended the move of its page. Tells what it did in each case, and no page that it took is moving then.
- *
- * Where a thread can't be started the round has fewer, and where there is no committer or no copier the caller does their work. The
- * queues are on the caller's stack: 70 kB. */
+/* Initialises a lock that is handed to a thread that waits for it when it is let go: one with the protocol PTHREAD_PRIO_INHERIT. A default
+ * lock isn't: between slices a round most often takes it again before a thread that waits is awake. So other threads get their turns with a
+ * lock from here. It isn't initialised before, and pthread_mutex_destroy ends it. Answers 0 or a number of errno.h, as ENOTSUP where the
+ * system has no such lock. A program that is compiled as strict ISO C, as by -std=c99, has this function only if it defines
+ * _POSIX_C_SOURCE. */
+#if defined(_POSIX_C_SOURCE) && _POSIX_C_SOURCE >= 199506L
 COMPACTD_ROUND_UNUSED
-static uint32_t compactd_round(compactd_pool *pool, uint32_t page_words, pthread_mutex_t *lock, unsigned copiers,
-                               compactd_round_ends *ends)
+static int compactd_round_lock(pthread_mutex_t *lock)
 {
-    compactd_round_crew crew;
-    uint32_t answer;
-    int has_threads;
+    pthread_mutexattr_t kind;
+    int answer = pthread_mutexattr_init(&kind);
 
-    ends->isolated = ends->moved = ends->back = 0;
-    if (page_words > COMPACTD_ROUND_WORDS)
+    if (answer != 0)
+        return answer;
+    answer = pthread_mutexattr_setprotocol(&kind, PTHREAD_PRIO_INHERIT);
+    if (answer == 0)
+        answer = pthread_mutex_init(lock, &kind);
+    pthread_mutexattr_destroy(&kind);
+    return answer;
+}
+#endif
+
+/* Makes a round on a pool, whose calls are made under this lock, and lets the lock go after each so many pages, 1 or more. The caller
+ * doesn't hold the lock, and no other round is made on the pool meanwhile. Taking 16 pages of 4 KiB takes some 30 microseconds on a
+ * processor of 2.5 GHz, and for so long another thread waits.
+ *
+ * Answers 0 where the scanners of the round met, and else a number of enum compactd_refusal: RANGE where no page is asked for at a time, and
+ * nothing changes then; CLOSED; JOURNAL_FULL where the journal has no room for a further move, or 2^32 - 1 pages were taken; or STRANGER
+ * where the pool didn't take the words of a page, and the round went on. In each case it tells what it did, and no page that it took is
+ * moving.
+ *
+ * The thread can't be cancelled until the round has ended, whatever its cancelability is. */
+COMPACTD_ROUND_UNUSED
+static uint32_t compactd_round(compactd_pool *pool, pthread_mutex_t *lock, uint32_t pages, compactd_round_counts *counts)
+{
+    static const compactd_round_counts none = {0, 0, 0, {0, 0}};
+    compactd_round_state round;
+    uint32_t answer;
+    int cancelability;
+
+    *counts = none;
+    if (pages == 0)
         return COMPACTD_RANGE;
-    crew.pool = pool;
-    crew.lock = lock;
-    crew.page_words = page_words;
-    crew.taken.first = crew.taken.count = crew.copied.first = crew.copied.count = 0;
-    crew.taken.is_closed = crew.copied.is_closed = 0;
-    crew.ends = *ends;
-    crew.answer = COMPACTD_OK;
-    has_threads = copiers > 0 && compactd_round_prepare(&crew);
-    answer = compactd_round_begin(&crew);
-    if (answer == COMPACTD_OK)
-        answer = compactd_round_run(&crew, has_threads ? copiers : 0);
-    if (has_threads) {
-        pthread_cond_destroy(&crew.changed);
-        pthread_mutex_destroy(&crew.own);
-    }
-    *ends = crew.ends;
-    return answer == COMPACTD_MET ? crew.answer : answer;
+    round.pool = pool;
+    round.page_words = 0;
+    round.counts = counts;
+    round.refused = COMPACTD_OK;
+    pthread_setcancelstate(PTHREAD_CANCEL_DISABLE, &cancelability);
+    answer = compactd_round_slices(&round, lock, pages);
+    pthread_setcancelstate(cancelability, &cancelability);
+    return answer == COMPACTD_MET ? round.refused : answer;
 }
 
 #ifdef __cplusplus

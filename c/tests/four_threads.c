@@ -1,5 +1,5 @@
-/* Four threads make all kinds of calls on one pool under one lock, beside a round on further threads, and on a pool of their own without
- * it. Each shared page is changed by adding to it, so that the sum at the end tells whether a call was lost. */
+/* Four threads make all kinds of calls on one pool under one lock, beside a round in slices, and on a pool of their own without it. Each
+ * shared page is changed by adding to it, so that the sum at the end tells whether a call was lost. */
 #include "compactd.h"
 
 #include <pthread.h>
@@ -17,10 +17,11 @@ static compactd_pool *seen(compactd_pool *pool)
     return pool;
 }
 
+#define compactd_describe(pool, geometry) compactd_describe(seen(pool), geometry)
 #define compactd_begin_round(pool) compactd_begin_round(seen(pool))
-#define compactd_isolate(pool, carried, words, count) compactd_isolate(seen(pool), carried, words, count)
-#define compactd_commit(pool, serial, number, words, count, moved) compactd_commit(seen(pool), serial, number, words, count, moved)
-#define compactd_put_back(pool, serial, number) compactd_put_back(seen(pool), serial, number)
+#define compactd_isolate(pool, page, words, count) compactd_isolate(seen(pool), page, words, count)
+#define compactd_commit(pool, page, words, count, moved) compactd_commit(seen(pool), page, words, count, moved)
+#define compactd_put_back(pool, page) compactd_put_back(seen(pool), page)
 #define compactd_load(pool, client, space, vpage, word, value) compactd_load(seen(pool), client, space, vpage, word, value)
 #define compactd_store(pool, client, space, vpage, word, value) compactd_store(seen(pool), client, space, vpage, word, value)
 #define compactd_map(pool, client, space, vpage, unmovable, frame) compactd_map(seen(pool), client, space, vpage, unmovable, frame)
@@ -35,7 +36,7 @@ static compactd_pool *seen(compactd_pool *pool)
 #define TURNS 4000
 #define PAGES 400
 
-static pthread_mutex_t lock = PTHREAD_MUTEX_INITIALIZER;
+static pthread_mutex_t lock;
 
 struct thread {
     pthread_t thread;
@@ -48,7 +49,7 @@ struct thread {
 static void take_turn(struct thread *self, uint32_t turn)
 {
     uint32_t page = (turn * 7 + self->client) % PAGES, other = 1000 + page, first, frame;
-    compactd_carried carried;
+    compactd_moving_page moving;
     uint64_t words[8], value;
     compactd_bool is_so;
 
@@ -67,8 +68,8 @@ static void take_turn(struct thread *self, uint32_t turn)
     }
     if (turn % 50 == 0)
         compactd_begin_round(&shared);
-    if (compactd_isolate(&shared, &carried, words, 8) == COMPACTD_OK)
-        self->is_well &= compactd_commit(&shared, carried.serial, carried.number, words, 8, &is_so) == COMPACTD_OK;
+    if (compactd_isolate(&shared, &moving, words, 8) == COMPACTD_OK)
+        self->is_well &= compactd_commit(&shared, &moving, words, 8, &is_so) == COMPACTD_OK;
 }
 
 static void *run(void *own)
@@ -96,9 +97,9 @@ int main(void)
 {
     struct thread threads[THREADS];
     uint64_t sum = 0, added = 0, value;
-    compactd_round_ends round_ends;
+    compactd_round_counts counts;
     uint32_t at, frame;
-    int is_well = compactd_open(&shared, 8, 2) == COMPACTD_OK;
+    int is_well = compactd_round_lock(&lock) == 0 && compactd_open(&shared, 8, 2) == COMPACTD_OK;
 
     for (at = 0; at < PAGES; at++)
         is_well &= compactd_map(&shared, 0, 0, at, 0, &frame) == COMPACTD_OK;
@@ -107,7 +108,7 @@ int main(void)
         threads[at].added = 0;
         is_well &= pthread_create(&threads[at].thread, NULL, run, &threads[at]) == 0;
     }
-    is_well &= compactd_round(&shared, 8, &lock, 3, &round_ends) == COMPACTD_OK;
+    is_well &= compactd_round(&shared, &lock, 3, &counts) == COMPACTD_OK;
     for (at = 0; at < THREADS; at++) {
         pthread_join(threads[at].thread, NULL);
         is_well &= threads[at].is_well;
@@ -118,6 +119,7 @@ int main(void)
         sum += value;
     }
     compactd_close(&shared);
+    pthread_mutex_destroy(&lock);
     printf("%s\n", is_well && sum == added && added > 0 ? "no call was lost" : "a call was lost");
     return is_well && sum == added && added > 0 ? 0 : 1;
 }
