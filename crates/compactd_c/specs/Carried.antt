@@ -13,7 +13,8 @@ use Rattle.state_core.specs.declared.error.ZoneError.TheVariants.{Range, Strange
 use Rattle.state_core.specs.declared.round.Pair.{Pair}
 use Rattle.frame_core.specs.Page.{IsolatedPage}
 use Rattle.compactd_c.specs.Answers.{number_for}
-use Rattle.compactd_c.specs.declared.carrying.Carried.{Carried}
+use Rattle.compactd_c.specs.Told.{reserved}
+use Rattle.compactd_c.specs.declared.carrying.MovingPage.{MovingPage}
 
 -- a page is moving under this serial
 abbrev pub is_moving : ZoneState → ℕ → ℕ → Bool
@@ -24,9 +25,9 @@ abbrev pub isolate_refused : ZoneState → ℕ → Option ZoneError
 isolate_refused z count = if nat_eq count z.page_size then isolate_refusal z else Some Range
 
 -- what C gets of the page of a pair, if there is one
-abbrev pub carried_of : ZoneState → Option Pair → Option Carried
-carried_of z None = None
-carried_of z (Some pair) = Some (record { serial = isolated z.records; number = pair.page; flags = (flags_of z pair.page).0 })
+abbrev pub moving_page_of : ZoneState → Option Pair → Option MovingPage
+moving_page_of z None = None
+moving_page_of z (Some pair) = Some (record { serial = isolated z.records; number = pair.page; flags = (flags_of z pair.page).0; reserved = reserved })
 
 -- the words that C has then: those of the page, and what was there before where there is none
 abbrev pub words_of : ZoneState → Option Pair → List ℕ → List ℕ
@@ -37,7 +38,7 @@ words_of z (Some pair) before = words_now z pair.page
 abbrev pub isolate_number : ZoneState → ℕ → ℕ
 isolate_number z count =
     if is_some (isolate_refused z count) then number_for (isolate_refused z count)
-    else if is_some (carried_of z (next_pair z)) then 0
+    else if is_some (moving_page_of z (next_pair z)) then 0
     else 53
 
 -- the copy of a page with this number and these words, under this serial

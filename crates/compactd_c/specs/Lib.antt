@@ -2,7 +2,9 @@ pub mod Answers
 pub mod Asked
 pub mod Carried
 pub mod Kinds
+pub mod Lent
 pub mod Looks
+pub mod Moving
 pub mod Owned
 pub mod Records
 pub mod Told

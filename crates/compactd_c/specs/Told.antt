@@ -1,10 +1,16 @@
 -- What C is told of a zone, as C sees it.
-use Rattle.std.specs.Prelude.{true, false, Option, Some, None}
+use Rattle.std.specs.Prelude.{ℕ, ◌+◌, true, false, List, [], ◌∷◌, length, nat_le, if◌then◌else◌, Option, Some, None}
 use Rattle.state_core.specs.declared.information.Info.{Info}
 use Rattle.state_core.specs.declared.information.Look.{Look}
 use Rattle.state_core.specs.declared.information.Look.TheVariants.{At, Moving}
+use Rattle.state_core.specs.ZoneState.{ZoneState}
 use Rattle.compactd_c.specs.declared.looking.Counts.{Counts}
-use Rattle.compactd_c.specs.declared.looking.Seen.{Seen}
+use Rattle.compactd_c.specs.declared.looking.Geometry.{Geometry}
+use Rattle.compactd_c.specs.declared.looking.PageInfo.{PageInfo}
+
+-- what the spare words of a structure hold
+abbrev pub reserved : List ℕ
+reserved = 0 ∷ 0 ∷ []
 
 -- the counts
 abbrev pub counts_of : Info → Counts
@@ -15,10 +21,21 @@ counts_of info = record {
   huge = info.huge;
   whole = info.whole;
   held = info.held;
+  reserved = reserved;
 }
 
+-- how many places the journal has, used or not: none where it isn't kept, which has more than 65,536
+abbrev pub places_of : ZoneState → ℕ
+places_of z = if nat_le (length z.records + z.room) 65536 then length z.records + z.room else 0
+
+-- what the pool was opened with
+abbrev pub geometry_of : ZoneState → Geometry
+geometry_of z = record { page_words = z.page_size; blocks = z.blocks; places = places_of z; reserved = reserved }
+
 -- what is known of a page, if it is in use
-abbrev pub seen_of : Option Look → Option Seen
-seen_of None = None
-seen_of (Some (At frame flags pins maps)) = Some (record { place = frame; flags = flags.0; pins = pins; maps = maps; moving = false })
-seen_of (Some (Moving serial pins maps)) = Some (record { place = serial; flags = 0; pins = pins; maps = maps; moving = true })
+abbrev pub page_info_of : Option Look → Option PageInfo
+page_info_of None = None
+page_info_of (Some (At frame flags pins maps)) =
+    Some (record { serial = 0; frame = frame; flags = flags.0; pins = pins; maps = maps; moving = false; reserved = reserved })
+page_info_of (Some (Moving serial pins maps)) =
+    Some (record { serial = serial; frame = 0; flags = 0; pins = pins; maps = maps; moving = true; reserved = reserved })

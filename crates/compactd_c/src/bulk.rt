@@ -10,7 +10,6 @@ ghost use Rattle.state_core.specs.ZoneState.{ZoneState};
 
 use crate::calls::{CLOSED, numbered};
 use crate::pool::Pool;
-use std::alloc::Global;
 
 /// Reads words of the page that an address names, from one on: as loads of these words do, one after the other.
 ///
@@ -18,7 +17,6 @@ use std::alloc::Global;
 /// CLOSED.
 #[unsafe(no_mangle)]
 pub extern "C" fn compactd_read(
-    alloc: Global,
     pool: &mut Pool,
     client: u32,
     space: u32,
@@ -31,11 +29,10 @@ pub extern "C" fn compactd_read(
     ensures values { (z : ZoneState) → pool.old.zone ≡ Some z → result ≡ 0 → values.new ≡ values_at z (address_of space vpage) from (length values.old) }
     ensures kept { ¬ (result ≡ 0) → values.new ≡ values.old }
 {
-    let Some(mut zone) = pool.take(alloc) else {
+    let Some(zone) = pool.zone() else {
         return CLOSED;
     };
     let answer = zone.read(client, space, vpage, from, values);
-    pool.put(alloc, zone);
     numbered(answer)
 }
 
@@ -44,7 +41,6 @@ pub extern "C" fn compactd_read(
 /// Refused as `compactd_read` is.
 #[unsafe(no_mangle)]
 pub extern "C" fn compactd_write(
-    alloc: Global,
     pool: &mut Pool,
     client: u32,
     space: u32,
@@ -55,11 +51,10 @@ pub extern "C" fn compactd_write(
     ensures answer { result ≡ answer pool.old.zone (λ z. ranged (is_client client && (is_address space vpage && nat_lt from z.page_size)) (bulk_refusal z (address_of space vpage) from (length values.now))) }
     ensures zone { pool.new.zone ≡ left pool.old.zone (λ z. ranged (is_client client && (is_address space vpage && nat_lt from z.page_size)) (bulk_refusal z (address_of space vpage) from (length values.now))) (λ z. stored_all z client (address_of space vpage) from values.now) }
 {
-    let Some(mut zone) = pool.take(alloc) else {
+    let Some(zone) = pool.zone() else {
         return CLOSED;
     };
     let answer = zone.write(client, space, vpage, from, values);
-    pool.put(alloc, zone);
     numbered(answer)
 }
 
@@ -69,7 +64,6 @@ pub extern "C" fn compactd_write(
 /// out, or as CLOSED.
 #[unsafe(no_mangle)]
 pub extern "C" fn compactd_read_block(
-    alloc: Global,
     pool: &mut Pool,
     first: u32,
     order: u32,
@@ -81,11 +75,10 @@ pub extern "C" fn compactd_read_block(
     ensures values { (z : ZoneState) → pool.old.zone ≡ Some z → result ≡ 0 → values.new ≡ contents_from z first from (length values.old) }
     ensures kept { ¬ (result ≡ 0) → values.new ≡ values.old }
 {
-    let Some(mut zone) = pool.take(alloc) else {
+    let Some(zone) = pool.zone() else {
         return CLOSED;
     };
     let answer = zone.read_block(first, order, from, values);
-    pool.put(alloc, zone);
     numbered(answer)
 }
 
@@ -94,7 +87,6 @@ pub extern "C" fn compactd_read_block(
 /// Refused as `compactd_read_block` is.
 #[unsafe(no_mangle)]
 pub extern "C" fn compactd_write_block(
-    alloc: Global,
     pool: &mut Pool,
     first: u32,
     order: u32,
@@ -104,10 +96,9 @@ pub extern "C" fn compactd_write_block(
     ensures answer { result ≡ answer pool.old.zone (λ z. ranged (is_block first order) (contents_refusal z first order from (length values.now))) }
     ensures zone { pool.new.zone ≡ left pool.old.zone (λ z. ranged (is_block first order) (contents_refusal z first order from (length values.now))) (λ z. contents_written z first from values.now) }
 {
-    let Some(mut zone) = pool.take(alloc) else {
+    let Some(zone) = pool.zone() else {
         return CLOSED;
     };
     let answer = zone.write_block(first, order, from, values);
-    pool.put(alloc, zone);
     numbered(answer)
 }

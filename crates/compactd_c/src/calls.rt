@@ -10,27 +10,20 @@ ghost use Rattle.state_core.specs.ZoneState.{ZoneState};
 use crate::asked::Asked;
 use crate::pool::Pool;
 use state_core::{ZoneAnswer, ZoneError};
-use std::alloc::Global;
 
 /// The number of a call on a closed pool.
 pub(crate) const CLOSED: u32 = 51;
 
 /// Makes the call that a client asks for. The error is the number of the refusal.
-pub(crate) fn make(
-    pool: &mut Pool,
-    alloc: Global,
-    client: u32,
-    asked: Asked,
-) -> Result<ZoneAnswer, u32>
+pub(crate) fn make(pool: &mut Pool, client: u32, asked: Asked) -> Result<ZoneAnswer, u32>
     ensures answer { number_in result ≡ answer pool.old.zone (refusal_for client asked) }
     ensures zone { pool.new.zone ≡ left pool.old.zone (refusal_for client asked) (after_asked client asked) }
     ensures told { (z : ZoneState) → pool.old.zone ≡ Some z → number_in result ≡ 0 → result ≡ Ok (answer_for asked z) }
 {
-    let Some(mut zone) = pool.take(alloc) else {
+    let Some(zone) = pool.zone() else {
         return Err(CLOSED);
     };
     let answer = zone.make(client, asked);
-    pool.put(alloc, zone);
     answer.map_err(number)
 }
 

@@ -2,7 +2,7 @@
 
 ghost use Rattle.std.specs.Prelude.{◌≡◌, ◌↔◌, length, IsTrue, None, Some};
 ghost use Rattle.compactd_c.specs.Answers.{left};
-ghost use Rattle.compactd_c.specs.Carried.{IsOwn, carried_of, words_of, isolate_number, isolate_refused, commit_refused};
+ghost use Rattle.compactd_c.specs.Carried.{IsOwn, moving_page_of, words_of, isolate_number, isolate_refused, commit_refused};
 ghost use Rattle.state_core.specs.Ending.{committed, ended_as};
 ghost use Rattle.state_core.specs.ErrorNumber.{number_of};
 ghost use Rattle.state_core.specs.Isolating.{next_state};
@@ -12,7 +12,6 @@ ghost use Rattle.state_core.specs.ZoneState.{ZoneState};
 use crate::calls::{CLOSED, number as number_for, told};
 use crate::pool::Pool;
 use state_core::Ended;
-use std::alloc::Global;
 
 /// The number of an isolation whose scanners have met.
 const MET: u32 = 53;
@@ -20,41 +19,36 @@ const MET: u32 = 53;
 /// A page that is moving. C has its words beside it.
 #[repr(C)]
 #[derive(Clone, Copy)]
-pub struct Carried {
+pub struct MovingPage {
     /// The number of its isolation.
-    pub serial: u32,
+    pub serial: u64,
     /// Its number in the zone.
     pub number: u32,
     /// 1 is unmovable, 2 is dirty.
     pub flags: u32,
+    pub reserved: [u64; 2],
 }
 
 /// Isolates the next page of a round, and copies its words. It is moving from here on. There have to be as many words as a page has.
 ///
 /// Refused as RANGE where they are more or fewer, as JOURNAL_FULL, as MET where the scanners have met, or as CLOSED.
 #[unsafe(no_mangle)]
-pub extern "C" fn compactd_isolate(
-    alloc: Global,
-    pool: &mut Pool,
-    carried: &mut Carried,
-    words: &mut [u64],
-) -> u32
+pub extern "C" fn compactd_isolate(pool: &mut Pool, page: &mut MovingPage, words: &mut [u64]) -> u32
     ensures closed { pool.old.zone ≡ None → result ≡ 51 }
     ensures answer { (z : ZoneState) → pool.old.zone ≡ Some z → result ≡ isolate_number z (length words.old) }
     ensures zone { pool.new.zone ≡ left pool.old.zone (λ z. isolate_refused z (length words.old)) (λ z. next_state z (next_pair z)) }
-    ensures carried { (z : ZoneState) → pool.old.zone ≡ Some z → result ≡ 0 → carried_of z (next_pair z) ≡ Some carried.new }
+    ensures page { (z : ZoneState) → pool.old.zone ≡ Some z → result ≡ 0 → moving_page_of z (next_pair z) ≡ Some page.new }
     ensures words { (z : ZoneState) → pool.old.zone ≡ Some z → result ≡ 0 → words.new ≡ words_of z (next_pair z) words.old }
     ensures met { (z : ZoneState) → pool.old.zone ≡ Some z → result ≡ 53 → HaveMet z }
-    ensures kept { ¬ (result ≡ 0) → (carried.new ≡ carried.old) × (words.new ≡ words.old) }
+    ensures kept { ¬ (result ≡ 0) → (page.new ≡ page.old) × (words.new ≡ words.old) }
 {
-    let Some(mut zone) = pool.take(alloc) else {
+    let Some(zone) = pool.zone() else {
         return CLOSED;
     };
     let answer = zone.isolate(words);
-    pool.put(alloc, zone);
     match answer {
-        Ok(Some(page)) => {
-            *carried = page;
+        Ok(Some(isolated)) => {
+            *page = isolated;
             0
         }
         Ok(None) => MET,
@@ -69,24 +63,21 @@ pub extern "C" fn compactd_isolate(
 /// under this serial, or as CLOSED.
 #[unsafe(no_mangle)]
 pub extern "C" fn compactd_commit(
-    alloc: Global,
     pool: &mut Pool,
-    serial: u32,
-    number: u32,
+    page: &MovingPage,
     words: &[u64],
     moved: &mut bool,
 ) -> u32
     ensures closed { pool.old.zone ≡ None → result ≡ 51 }
-    ensures own { (z : ZoneState) → pool.old.zone ≡ Some z → (result ≡ 0) ↔ IsOwn z serial number words.now }
+    ensures own { (z : ZoneState) → pool.old.zone ≡ Some z → (result ≡ 0) ↔ IsOwn z page.now.serial page.now.number words.now }
     ensures refused { (z : ZoneState) → pool.old.zone ≡ Some z → ¬ (result ≡ 0) → result ≡ number_of (commit_refused z (length words.now)) }
-    ensures zone { (z : ZoneState) → pool.old.zone ≡ Some z → result ≡ 0 → pool.new.zone ≡ Some (committed z serial number) }
-    ensures moved { (z : ZoneState) → pool.old.zone ≡ Some z → result ≡ 0 → IsTrue moved.new ↔ (ended_as z number ≡ Ended.Moved) }
+    ensures zone { (z : ZoneState) → pool.old.zone ≡ Some z → result ≡ 0 → pool.new.zone ≡ Some (committed z page.now.serial page.now.number) }
+    ensures moved { (z : ZoneState) → pool.old.zone ≡ Some z → result ≡ 0 → IsTrue moved.new ↔ (ended_as z page.now.number ≡ Ended.Moved) }
     ensures kept { ¬ (result ≡ 0) → (pool.new.zone ≡ pool.old.zone) × (moved.new ≡ moved.old) }
 {
-    let Some(mut zone) = pool.take(alloc) else {
+    let Some(zone) = pool.zone() else {
         return CLOSED;
     };
-    let answer = zone.commit(serial, number, words);
-    pool.put(alloc, zone);
+    let answer = zone.commit(page.serial, page.number, words);
     told(answer.map(|ended| ended == Ended::Moved), moved)
 }

@@ -37,8 +37,7 @@ pub extern "C" fn compactd_open(alloc: Global, pool: &mut Pool, page_words: u32,
     ensures zone { result ≡ 0 → pool.new.zone ≡ Some (opened_unrecorded page_words 0 blocks) }
     ensures kept { ¬ (result ≡ 0) → pool.new.zone ≡ pool.old.zone }
 {
-    if let Some(zone) = pool.take(alloc) {
-        pool.put(alloc, zone);
+    if let Some(_) = pool.zone() {
         return OPEN;
     }
     opened(
@@ -65,8 +64,7 @@ pub extern "C" fn compactd_open_journal(
     ensures zone { result ≡ 0 → pool.new.zone ≡ Some (opened_with page_words 0 blocks places) }
     ensures kept { ¬ (result ≡ 0) → pool.new.zone ≡ pool.old.zone }
 {
-    if let Some(zone) = pool.take(alloc) {
-        pool.put(alloc, zone);
+    if let Some(_) = pool.zone() {
         return OPEN;
     }
     opened(pool, alloc, Zone::open(alloc, page_words, blocks, places))
@@ -112,7 +110,6 @@ pub extern "C" fn compactd_close(alloc: Global, pool: &mut Pool) -> u32
 /// Refused as CLOSED, RANGE, JOURNAL_FULL, OCCUPIED or NO_FRAME.
 #[unsafe(no_mangle)]
 pub extern "C" fn compactd_map(
-    alloc: Global,
     pool: &mut Pool,
     client: u32,
     space: u32,
@@ -128,7 +125,6 @@ pub extern "C" fn compactd_map(
     framed(
         make(
             pool,
-            alloc,
             client,
             Asked::Map {
                 space,
@@ -145,7 +141,6 @@ pub extern "C" fn compactd_map(
 /// Refused as CLOSED, RANGE, JOURNAL_FULL, OCCUPIED or NO_FRAME.
 #[unsafe(no_mangle)]
 pub extern "C" fn compactd_map_at(
-    alloc: Global,
     pool: &mut Pool,
     client: u32,
     space: u32,
@@ -158,7 +153,6 @@ pub extern "C" fn compactd_map_at(
 {
     done(make(
         pool,
-        alloc,
         client,
         Asked::MapAt {
             space,
@@ -174,7 +168,6 @@ pub extern "C" fn compactd_map_at(
 /// Refused as CLOSED, RANGE, JOURNAL_FULL, UNMAPPED or MOVING.
 #[unsafe(no_mangle)]
 pub extern "C" fn compactd_load(
-    alloc: Global,
     pool: &mut Pool,
     client: u32,
     space: u32,
@@ -187,11 +180,10 @@ pub extern "C" fn compactd_load(
     ensures value { (z : ZoneState) → pool.old.zone ≡ Some z → result ≡ 0 → value.new ≡ value_at z (address_of space vpage) word }
     ensures kept { ¬ (result ≡ 0) → value.new ≡ value.old }
 {
-    let Some(mut zone) = pool.take(alloc) else {
+    let Some(zone) = pool.zone() else {
         return CLOSED;
     };
     let answer = zone.load(client, space, vpage, word);
-    pool.put(alloc, zone);
     told(answer, value)
 }
 
@@ -200,7 +192,6 @@ pub extern "C" fn compactd_load(
 /// Refused as CLOSED, RANGE, JOURNAL_FULL, UNMAPPED or MOVING.
 #[unsafe(no_mangle)]
 pub extern "C" fn compactd_store(
-    alloc: Global,
     pool: &mut Pool,
     client: u32,
     space: u32,
@@ -211,11 +202,10 @@ pub extern "C" fn compactd_store(
     ensures answer { result ≡ answer pool.old.zone (λ z. ranged (is_client client && (is_address space vpage && nat_lt word z.page_size)) (access_refusal z (address_of space vpage))) }
     ensures zone { pool.new.zone ≡ left pool.old.zone (λ z. ranged (is_client client && (is_address space vpage && nat_lt word z.page_size)) (access_refusal z (address_of space vpage))) (λ z. stored z client (address_of space vpage) word value) }
 {
-    let Some(mut zone) = pool.take(alloc) else {
+    let Some(zone) = pool.zone() else {
         return CLOSED;
     };
     let answer = zone.store(client, space, vpage, word, value);
-    pool.put(alloc, zone);
     numbered(answer)
 }
 
@@ -224,7 +214,6 @@ pub extern "C" fn compactd_store(
 /// Refused as CLOSED, RANGE, JOURNAL_FULL, UNMAPPED, MOVING, OCCUPIED or SHARE_FULL.
 #[unsafe(no_mangle)]
 pub extern "C" fn compactd_share(
-    alloc: Global,
     pool: &mut Pool,
     client: u32,
     space: u32,
@@ -237,7 +226,6 @@ pub extern "C" fn compactd_share(
 {
     done(make(
         pool,
-        alloc,
         client,
         Asked::Share {
             space,
@@ -252,100 +240,77 @@ pub extern "C" fn compactd_share(
 ///
 /// Refused as CLOSED, RANGE, JOURNAL_FULL, UNMAPPED, MOVING or PINNED.
 #[unsafe(no_mangle)]
-pub extern "C" fn compactd_unmap(
-    alloc: Global,
-    pool: &mut Pool,
-    client: u32,
-    space: u32,
-    vpage: u32,
-) -> u32
+pub extern "C" fn compactd_unmap(pool: &mut Pool, client: u32, space: u32, vpage: u32) -> u32
     ensures answer { result ≡ answer pool.old.zone (λ z. ranged (is_client client && is_address space vpage) (unmap_refusal z (address_of space vpage))) }
     ensures zone { pool.new.zone ≡ left pool.old.zone (λ z. ranged (is_client client && is_address space vpage) (unmap_refusal z (address_of space vpage))) (λ z. unmapped z client (address_of space vpage)) }
 {
-    done(make(pool, alloc, client, Asked::Unmap { space, vpage }))
+    done(make(pool, client, Asked::Unmap { space, vpage }))
 }
 
 /// Pins the page that an address names. No round moves it until each of its pins is taken off.
 ///
 /// Refused as CLOSED, RANGE, JOURNAL_FULL, UNMAPPED or PIN_FULL.
 #[unsafe(no_mangle)]
-pub extern "C" fn compactd_pin(
-    alloc: Global,
-    pool: &mut Pool,
-    client: u32,
-    space: u32,
-    vpage: u32,
-) -> u32
+pub extern "C" fn compactd_pin(pool: &mut Pool, client: u32, space: u32, vpage: u32) -> u32
     ensures answer { result ≡ answer pool.old.zone (λ z. ranged (is_client client && is_address space vpage) (pin_refusal z (address_of space vpage))) }
     ensures zone { pool.new.zone ≡ left pool.old.zone (λ z. ranged (is_client client && is_address space vpage) (pin_refusal z (address_of space vpage))) (λ z. pinned z client (address_of space vpage)) }
 {
-    done(make(pool, alloc, client, Asked::Pin { space, vpage }))
+    done(make(pool, client, Asked::Pin { space, vpage }))
 }
 
 /// Takes a pin off the page that an address names.
 ///
 /// Refused as CLOSED, RANGE, JOURNAL_FULL, UNMAPPED or NOT_PINNED.
 #[unsafe(no_mangle)]
-pub extern "C" fn compactd_unpin(
-    alloc: Global,
-    pool: &mut Pool,
-    client: u32,
-    space: u32,
-    vpage: u32,
-) -> u32
+pub extern "C" fn compactd_unpin(pool: &mut Pool, client: u32, space: u32, vpage: u32) -> u32
     ensures answer { result ≡ answer pool.old.zone (λ z. ranged (is_client client && is_address space vpage) (unpin_refusal z (address_of space vpage))) }
     ensures zone { pool.new.zone ≡ left pool.old.zone (λ z. ranged (is_client client && is_address space vpage) (unpin_refusal z (address_of space vpage))) (λ z. unpinned z client (address_of space vpage)) }
 {
-    done(make(pool, alloc, client, Asked::Unpin { space, vpage }))
+    done(make(pool, client, Asked::Unpin { space, vpage }))
 }
 
 /// Hands out the lowest free block of an order, 3 to 9, and tells its first frame.
 ///
 /// Refused as CLOSED, RANGE, JOURNAL_FULL or NO_BLOCK.
 #[unsafe(no_mangle)]
-pub extern "C" fn compactd_take_order(
-    alloc: Global,
-    pool: &mut Pool,
-    order: u32,
-    first: &mut u32,
-) -> u32
+pub extern "C" fn compactd_take_order(pool: &mut Pool, order: u32, first: &mut u32) -> u32
     ensures answer { result ≡ answer pool.old.zone (λ z. ranged (is_order order) (take_order_refusal z order)) }
     ensures zone { pool.new.zone ≡ left pool.old.zone (λ z. ranged (is_order order) (take_order_refusal z order)) (λ z. block_taken z (unwrap_or (lowest_run z order) 0) order) }
     ensures first { (z : ZoneState) → pool.old.zone ≡ Some z → result ≡ 0 → first.new ≡ unwrap_or (lowest_run z order) 0 }
     ensures kept { ¬ (result ≡ 0) → first.new ≡ first.old }
 {
-    framed(make(pool, alloc, 0, Asked::TakeOrder { order }), first)
+    framed(make(pool, 0, Asked::TakeOrder { order }), first)
 }
 
 /// Takes back a block that was handed out, by its first frame and its order.
 ///
 /// Refused as CLOSED, RANGE, JOURNAL_FULL or NOT_HUGE.
 #[unsafe(no_mangle)]
-pub extern "C" fn compactd_give_order(alloc: Global, pool: &mut Pool, first: u32, order: u32) -> u32
+pub extern "C" fn compactd_give_order(pool: &mut Pool, first: u32, order: u32) -> u32
     ensures answer { result ≡ answer pool.old.zone (λ z. ranged (nat_lt first 4096 && is_order order) (give_order_refusal z first order)) }
     ensures zone { pool.new.zone ≡ left pool.old.zone (λ z. ranged (nat_lt first 4096 && is_order order) (give_order_refusal z first order)) (λ z. block_given z first order) }
 {
-    done(make(pool, alloc, 0, Asked::GiveOrder { first, order }))
+    done(make(pool, 0, Asked::GiveOrder { first, order }))
 }
 
 /// Marks a pageblock: rounds take no frame of it.
 ///
 /// Refused as CLOSED, RANGE, JOURNAL_FULL or MARKED.
 #[unsafe(no_mangle)]
-pub extern "C" fn compactd_mark(alloc: Global, pool: &mut Pool, block: u32) -> u32
+pub extern "C" fn compactd_mark(pool: &mut Pool, block: u32) -> u32
     ensures answer { result ≡ answer pool.old.zone (λ z. ranged (nat_lt block 8) (mark_refusal z block)) }
     ensures zone { pool.new.zone ≡ left pool.old.zone (λ z. ranged (nat_lt block 8) (mark_refusal z block)) (λ z. block_marked z block) }
 {
-    done(make(pool, alloc, 0, Asked::Mark { block }))
+    done(make(pool, 0, Asked::Mark { block }))
 }
 
 /// Takes the mark of a pageblock off.
 ///
 /// Refused as CLOSED, RANGE, JOURNAL_FULL or NOT_MARKED.
 #[unsafe(no_mangle)]
-pub extern "C" fn compactd_unmark(alloc: Global, pool: &mut Pool, block: u32) -> u32
+pub extern "C" fn compactd_unmark(pool: &mut Pool, block: u32) -> u32
     ensures answer { result ≡ answer pool.old.zone (λ z. ranged (nat_lt block 8) (unmark_refusal z block)) }
     ensures zone { pool.new.zone ≡ left pool.old.zone (λ z. ranged (nat_lt block 8) (unmark_refusal z block)) (λ z. block_unmarked z block) }
 {
-    done(make(pool, alloc, 0, Asked::Unmark { block }))
+    done(make(pool, 0, Asked::Unmark { block }))
 }

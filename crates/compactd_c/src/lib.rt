@@ -1,8 +1,8 @@
 //! The pool for C: a handle, and the calls that C makes on it.
 //!
 //! Each call answers 0, or the number of its refusal: 1 to 18 as a zone numbers them, 51 where the pool is closed, 52 where it is
-//! open already, 53 where the scanners of a round have met. Comments name them as `c/include/compactd.h` does. A refused call changes
-//! nothing.
+//! open already, 53 where the scanners of a round have met, 54 where no page is moving. Comments name them as `c/include/compactd.h`
+//! does. A refused call changes nothing.
 #![tactic(auto)]
 
 mod asked;
@@ -10,7 +10,9 @@ mod bulk;
 mod calls;
 mod carrying;
 mod exports;
+mod free_runs;
 mod looking;
+mod moving;
 mod pool;
 mod records;
 mod rounds;

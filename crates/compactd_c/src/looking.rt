@@ -4,7 +4,7 @@ ghost use Rattle.std.specs.Prelude.{◌≡◌, ◌+◌, ◌&&◌, nat_lt, None, 
 ghost use Rattle.compactd_c.specs.Answers.{answer};
 ghost use Rattle.compactd_c.specs.Asked.{address_of, is_address, ranged};
 ghost use Rattle.compactd_c.specs.Looks.{look_refusal, audit_refusal};
-ghost use Rattle.compactd_c.specs.Told.{counts_of, seen_of};
+ghost use Rattle.compactd_c.specs.Told.{counts_of, geometry_of, page_info_of, reserved};
 ghost use Rattle.frame_core.specs.Moves.{isolated, moved, put_back};
 ghost use Rattle.state_core.specs.Looking.{look_of, info_of};
 ghost use Rattle.state_core.specs.Marking.{marked_of};
@@ -14,7 +14,9 @@ use crate::calls::{CLOSED, told};
 use crate::pool::Pool;
 use bitflags::Flags;
 use state_core::{Audit, Info, Look};
-use std::alloc::Global;
+
+/// What the spare words of each structure that C gets are filled with. A later version may give them a meaning.
+pub(crate) const RESERVED: [u64; 2] = [0; 2];
 
 /// The counts of a zone, in frames unless it says otherwise.
 #[repr(C)]
@@ -32,14 +34,30 @@ pub struct Counts {
     pub whole: u32,
     /// Frames of the blocks that are handed out.
     pub held: u32,
+    pub reserved: [u64; 2],
+}
+
+/// What a pool was opened with.
+#[repr(C)]
+#[derive(Clone, Copy)]
+pub struct Geometry {
+    /// How many words a page has, 8 or 512.
+    pub page_words: u32,
+    /// How many pageblocks it has, 1 to 8.
+    pub blocks: u32,
+    /// How many places its journal has, used or not; 0 where no record is kept.
+    pub places: u64,
+    pub reserved: [u64; 2],
 }
 
 /// What is known of the page that an address names.
 #[repr(C)]
 #[derive(Clone, Copy)]
-pub struct Seen {
-    /// Its frame, or its serial where it is moving.
-    pub place: u32,
+pub struct PageInfo {
+    /// The serial of its move, or 0 where it isn't moving.
+    pub serial: u64,
+    /// Its frame, or 0 where it is moving.
+    pub frame: u32,
     /// 1 is unmovable, 2 is dirty, 3 both; 0 where it is moving.
     pub flags: u32,
     /// How many pins it has, 0 to 255.
@@ -48,33 +66,34 @@ pub struct Seen {
     pub maps: u32,
     /// Whether it is moving.
     pub moving: bool,
+    pub reserved: [u64; 2],
 }
 
 /// What became of the pages that were isolated.
 #[repr(C)]
 #[derive(Clone, Copy)]
-pub struct Ends {
-    pub isolated: u32,
-    pub moved: u32,
+pub struct RoundCounts {
+    pub isolated: u64,
+    pub moved: u64,
     /// The pages that were put back.
-    pub back: u32,
+    pub back: u64,
+    pub reserved: [u64; 2],
 }
 
 /// Tells the counts of the zone.
 ///
 /// Refused as CLOSED.
 #[unsafe(no_mangle)]
-pub extern "C" fn compactd_info(alloc: Global, pool: &mut Pool, counts: &mut Counts) -> u32
+pub extern "C" fn compactd_info(pool: &mut Pool, counts: &mut Counts) -> u32
     ensures answer { result ≡ answer pool.old.zone (λ z. None) }
     ensures zone { pool.new.zone ≡ pool.old.zone }
     ensures counts { (z : ZoneState) → pool.old.zone ≡ Some z → counts.new ≡ counts_of (info_of z) }
     ensures kept { ¬ (result ≡ 0) → counts.new ≡ counts.old }
 {
-    let Some(zone) = pool.take(alloc) else {
+    let Some(zone) = pool.zone() else {
         return CLOSED;
     };
     *counts = counts_in(zone.info());
-    pool.put(alloc, zone);
     0
 }
 
@@ -88,7 +107,25 @@ fn counts_in(info: Info) -> Counts
         huge: info.huge,
         whole: info.whole,
         held: info.held,
+        reserved: RESERVED,
     }
+}
+
+/// Tells what the pool was opened with.
+///
+/// Refused as CLOSED.
+#[unsafe(no_mangle)]
+pub extern "C" fn compactd_describe(pool: &mut Pool, geometry: &mut Geometry) -> u32
+    ensures answer { result ≡ answer pool.old.zone (λ z. None) }
+    ensures zone { pool.new.zone ≡ pool.old.zone }
+    ensures geometry { (z : ZoneState) → pool.old.zone ≡ Some z → geometry.new ≡ geometry_of z }
+    ensures kept { ¬ (result ≡ 0) → geometry.new ≡ geometry.old }
+{
+    let Some(zone) = pool.zone() else {
+        return CLOSED;
+    };
+    *geometry = zone.geometry();
+    0
 }
 
 /// Tells whether the latest round is quiet: when it began nothing was stuck, and since then pages were loaded, stored, isolated and moved
@@ -96,17 +133,16 @@ fn counts_in(info: Info) -> Counts
 ///
 /// Refused as CLOSED.
 #[unsafe(no_mangle)]
-pub extern "C" fn compactd_quiet(alloc: Global, pool: &mut Pool, quiet: &mut bool) -> u32
+pub extern "C" fn compactd_quiet(pool: &mut Pool, quiet: &mut bool) -> u32
     ensures answer { result ≡ answer pool.old.zone (λ z. None) }
     ensures zone { pool.new.zone ≡ pool.old.zone }
     ensures quiet { (z : ZoneState) → pool.old.zone ≡ Some z → quiet.new ≡ is_quiet z }
     ensures kept { ¬ (result ≡ 0) → quiet.new ≡ quiet.old }
 {
-    let Some(zone) = pool.take(alloc) else {
+    let Some(zone) = pool.zone() else {
         return CLOSED;
     };
     *quiet = zone.quiet();
-    pool.put(alloc, zone);
     0
 }
 
@@ -114,22 +150,16 @@ pub extern "C" fn compactd_quiet(alloc: Global, pool: &mut Pool, quiet: &mut boo
 ///
 /// Refused as RANGE where the zone has no such pageblock, or as CLOSED.
 #[unsafe(no_mangle)]
-pub extern "C" fn compactd_marked(
-    alloc: Global,
-    pool: &mut Pool,
-    block: u32,
-    marked: &mut bool,
-) -> u32
+pub extern "C" fn compactd_marked(pool: &mut Pool, block: u32, marked: &mut bool) -> u32
     ensures answer { result ≡ answer pool.old.zone (λ z. ranged (nat_lt block 8 && nat_lt block z.blocks) None) }
     ensures zone { pool.new.zone ≡ pool.old.zone }
     ensures marked { (z : ZoneState) → pool.old.zone ≡ Some z → result ≡ 0 → marked_of z block ≡ Some marked.new }
     ensures kept { ¬ (result ≡ 0) → marked.new ≡ marked.old }
 {
-    let Some(zone) = pool.take(alloc) else {
+    let Some(zone) = pool.zone() else {
         return CLOSED;
     };
     let answer = zone.marked(block);
-    pool.put(alloc, zone);
     told(answer, marked)
 }
 
@@ -138,27 +168,25 @@ pub extern "C" fn compactd_marked(
 /// Refused as RANGE where a number is out of its range, as UNMAPPED where the address names no page, or as CLOSED.
 #[unsafe(no_mangle)]
 pub extern "C" fn compactd_look(
-    alloc: Global,
     pool: &mut Pool,
     space: u32,
     vpage: u32,
-    seen: &mut Seen,
+    info: &mut PageInfo,
 ) -> u32
     ensures answer { result ≡ answer pool.old.zone (λ z. ranged (is_address space vpage) (look_refusal z (address_of space vpage))) }
     ensures zone { pool.new.zone ≡ pool.old.zone }
-    ensures seen { (z : ZoneState) → pool.old.zone ≡ Some z → result ≡ 0 → seen_of (look_of z (address_of space vpage)) ≡ Some seen.new }
-    ensures kept { ¬ (result ≡ 0) → seen.new ≡ seen.old }
+    ensures info { (z : ZoneState) → pool.old.zone ≡ Some z → result ≡ 0 → page_info_of (look_of z (address_of space vpage)) ≡ Some info.new }
+    ensures kept { ¬ (result ≡ 0) → info.new ≡ info.old }
 {
-    let Some(zone) = pool.take(alloc) else {
+    let Some(zone) = pool.zone() else {
         return CLOSED;
     };
     let answer = zone.look(space, vpage);
-    pool.put(alloc, zone);
-    told(answer.map(seen_in), seen)
+    told(answer.map(page_info_in), info)
 }
 
-fn seen_in(look: Look) -> Seen
-    ensures { seen_of (Some look) ≡ Some result }
+fn page_info_in(look: Look) -> PageInfo
+    ensures { page_info_of (Some look) ≡ Some result }
 {
     match look {
         Look::At {
@@ -166,19 +194,23 @@ fn seen_in(look: Look) -> Seen
             flags,
             pins,
             maps,
-        } => Seen {
-            place: frame.get(),
+        } => PageInfo {
+            serial: 0,
+            frame: frame.get(),
             flags: u32::from(flags.bits()),
             pins: u32::from(pins),
             maps: u32::from(maps),
             moving: false,
+            reserved: RESERVED,
         },
-        Look::Moving { serial, pins, maps } => Seen {
-            place: serial,
+        Look::Moving { serial, pins, maps } => PageInfo {
+            serial: u64::from(serial),
+            frame: 0,
             flags: 0,
             pins: u32::from(pins),
             maps: u32::from(maps),
             moving: true,
+            reserved: RESERVED,
         },
     }
 }
@@ -187,39 +219,41 @@ fn seen_in(look: Look) -> Seen
 ///
 /// Refused as OUT while a page is moving, or as CLOSED.
 #[unsafe(no_mangle)]
-pub extern "C" fn compactd_audit(alloc: Global, pool: &mut Pool, ends: &mut Ends) -> u32
+pub extern "C" fn compactd_audit(pool: &mut Pool, counts: &mut RoundCounts) -> u32
     ensures answer { result ≡ answer pool.old.zone audit_refusal }
     ensures zone { pool.new.zone ≡ pool.old.zone }
-    ensures isolated { (z : ZoneState) → pool.old.zone ≡ Some z → result ≡ 0 → ends.new.isolated ≡ isolated z.records }
-    ensures moved { (z : ZoneState) → pool.old.zone ≡ Some z → result ≡ 0 → ends.new.moved ≡ moved z.records }
-    ensures back { (z : ZoneState) → pool.old.zone ≡ Some z → result ≡ 0 → ends.new.back ≡ put_back z.records }
-    ensures ends { result ≡ 0 → ends.new.moved + ends.new.back ≡ ends.new.isolated }
-    ensures kept { ¬ (result ≡ 0) → ends.new ≡ ends.old }
+    ensures isolated { (z : ZoneState) → pool.old.zone ≡ Some z → result ≡ 0 → counts.new.isolated ≡ isolated z.records }
+    ensures moved { (z : ZoneState) → pool.old.zone ≡ Some z → result ≡ 0 → counts.new.moved ≡ moved z.records }
+    ensures back { (z : ZoneState) → pool.old.zone ≡ Some z → result ≡ 0 → counts.new.back ≡ put_back z.records }
+    ensures sum { result ≡ 0 → counts.new.moved + counts.new.back ≡ counts.new.isolated }
+    ensures reserved { result ≡ 0 → counts.new.reserved ≡ reserved }
+    ensures kept { ¬ (result ≡ 0) → counts.new ≡ counts.old }
 {
-    let Some(zone) = pool.take(alloc) else {
+    let Some(zone) = pool.zone() else {
         return CLOSED;
     };
     let answer = zone.audit();
-    pool.put(alloc, zone);
-    told(answer.map(ends_in), ends)
+    told(answer.map(round_counts_in), counts)
 }
 
-fn ends_in(audit: Audit) -> Ends
+fn round_counts_in(audit: Audit) -> RoundCounts
     ensures isolated { result.isolated ≡ audit.isolated }
     ensures moved { result.moved ≡ audit.moved }
     ensures back { result.back ≡ audit.back }
+    ensures reserved { result.reserved ≡ reserved }
 {
-    Ends {
-        isolated: audit.isolated,
-        moved: audit.moved,
-        back: audit.back,
+    RoundCounts {
+        isolated: u64::from(audit.isolated),
+        moved: u64::from(audit.moved),
+        back: u64::from(audit.back),
+        reserved: RESERVED,
     }
 }
 
-/// The version of this library: 1.
+/// The version of this library, 0.2.0: 10,000 times its first number, 100 times its second, and its third.
 #[unsafe(no_mangle)]
 pub extern "C" fn compactd_version() -> u32
-    ensures { result ≡ 1 }
+    ensures { result ≡ 200 }
 {
-    1
+    200
 }

@@ -29,6 +29,20 @@ impl Model for Pool {
 unsafe impl Send for Pool {}
 
 impl Pool {
+    ghost use types.Logic.{sem};
+    ghost use Rattle.compactd_c.specs.Lent.{LendsZone};
+
+    /// The zone of an open pool, which stays where it is.
+    pub fn zone(&mut self) -> Option<&mut Zone>
+        ensures* follows { sem 𝓛 (LendsZone self.entry result) }
+        ensures zone { MatchOption result (self.old.zone ≡ None) (λ zone. self.old.zone ≡ Some zone.now) }
+    {
+        if self.at.is_null() {
+            return None;
+        }
+        unsafe { Some(&mut *(self.at as *mut Zone)) }
+    }
+
     /// Takes the zone out, and leaves the pool closed.
     pub fn take(&mut self, alloc: Global) -> Option<Box<Zone>>
         ensures zone { MatchOption result (self.old.zone ≡ None) (λ zone. self.old.zone ≡ Some zone.value) }

@@ -3,18 +3,18 @@
 ghost use Rattle.std.specs.Prelude.{◌≡◌, length, reverse, slice_get, None, Some};
 ghost use Rattle.std.specs.Option.{option_map};
 ghost use Rattle.compactd_c.specs.Answers.{answer};
-ghost use Rattle.compactd_c.specs.Records.{of_client, of_zone, cause_of, noted_of, record_refused};
+ghost use Rattle.compactd_c.specs.Records.{of_client, of_zone, cause_of, record_of, record_refused};
 ghost use Rattle.state_core.specs.ZoneState.{ZoneState};
 
 use crate::calls::{CLOSED, told};
+use crate::looking::RESERVED;
 use crate::pool::Pool;
-use frame_core::{Address, Cause, ClientNo, Record};
-use std::alloc::Global;
+use frame_core::{Address, Cause, ClientNo, Record as Entry};
 
 /// A record of the journal. Numbers that its kind doesn't have are 0.
 #[repr(C)]
 #[derive(Clone, Copy)]
-pub struct Noted {
+pub struct Record {
     /// 1 map, 2 share, 3 unmap, 4 store, 5 load, 6 pin, 7 unpin, 8 isolate, 9 moved, 10 put back, 11 take, 12 give, 13 mark, 14 unmark.
     pub kind: u32,
     pub client: u32,
@@ -22,36 +22,31 @@ pub struct Noted {
     pub vpage: u32,
     /// Of a map its page; of a share the space of its alias; of a store or a load its word; of an isolation, a move or a page that was put
     /// back its serial; of a block its first frame; of a mark its pageblock.
-    pub number: u32,
+    pub number: u64,
     /// Of a share the virtual page of its alias; of an isolation its page; of a page that was put back 1 where it had a pin, and 2 where
     /// it wasn't copied; of a block its order.
-    pub other: u32,
+    pub other: u64,
     /// The value of a store or a load.
     pub value: u64,
+    pub reserved: [u64; 2],
 }
 
 /// Tells how many records the journal has, and how many places are left. The records of a journal that isn't kept count too.
 ///
 /// Refused as CLOSED.
 #[unsafe(no_mangle)]
-pub extern "C" fn compactd_journal(
-    alloc: Global,
-    pool: &mut Pool,
-    records: &mut u64,
-    room: &mut u64,
-) -> u32
+pub extern "C" fn compactd_journal(pool: &mut Pool, records: &mut u64, room: &mut u64) -> u32
     ensures answer { result ≡ answer pool.old.zone (λ z. None) }
     ensures zone { pool.new.zone ≡ pool.old.zone }
     ensures records { (z : ZoneState) → pool.old.zone ≡ Some z → records.new ≡ length z.records }
     ensures room { (z : ZoneState) → pool.old.zone ≡ Some z → room.new ≡ z.room }
     ensures kept { ¬ (result ≡ 0) → (records.new ≡ records.old) × (room.new ≡ room.old) }
 {
-    let Some(zone) = pool.take(alloc) else {
+    let Some(zone) = pool.zone() else {
         return CLOSED;
     };
     *records = zone.journal().len();
     *room = zone.journal().room();
-    pool.put(alloc, zone);
     0
 }
 
@@ -59,62 +54,56 @@ pub extern "C" fn compactd_journal(
 ///
 /// Refused as RANGE where the journal has no such record or isn't kept, or as CLOSED.
 #[unsafe(no_mangle)]
-pub extern "C" fn compactd_record(
-    alloc: Global,
-    pool: &mut Pool,
-    place: usize,
-    noted: &mut Noted,
-) -> u32
+pub extern "C" fn compactd_record_at(pool: &mut Pool, place: usize, record: &mut Record) -> u32
     ensures answer { result ≡ answer pool.old.zone (λ z. record_refused z place) }
     ensures zone { pool.new.zone ≡ pool.old.zone }
-    ensures noted { (z : ZoneState) → pool.old.zone ≡ Some z → result ≡ 0 → option_map noted_of (slice_get (reverse z.records) place) ≡ Some noted.new }
-    ensures kept { ¬ (result ≡ 0) → noted.new ≡ noted.old }
+    ensures record { (z : ZoneState) → pool.old.zone ≡ Some z → result ≡ 0 → option_map record_of (slice_get (reverse z.records) place) ≡ Some record.new }
+    ensures kept { ¬ (result ≡ 0) → record.new ≡ record.old }
 {
-    let Some(zone) = pool.take(alloc) else {
+    let Some(zone) = pool.zone() else {
         return CLOSED;
     };
     let answer = zone.record(place);
-    pool.put(alloc, zone);
-    told(answer.map(numbers_of), noted)
+    told(answer.map(numbers_of), record)
 }
 
 /// A record, in numbers.
-fn numbers_of(entry: Record) -> Noted
-    ensures { result ≡ noted_of entry }
+fn numbers_of(entry: Entry) -> Record
+    ensures { result ≡ record_of entry }
 {
     match entry {
-        Record::Map {
+        Entry::Map {
             client,
             address,
             page,
         } => of_client(1, client, address, page.get(), 0, 0),
-        Record::Share {
+        Entry::Share {
             client,
             address,
             alias,
         } => of_client(2, client, address, alias.space.get(), alias.vpage.get(), 0),
-        Record::Unmap { client, address } => of_client(3, client, address, 0, 0, 0),
-        Record::Store {
+        Entry::Unmap { client, address } => of_client(3, client, address, 0, 0, 0),
+        Entry::Store {
             client,
             address,
             word,
             value,
         } => of_client(4, client, address, u32::from(word), 0, value),
-        Record::Load {
+        Entry::Load {
             client,
             address,
             word,
             value,
         } => of_client(5, client, address, u32::from(word), 0, value),
-        Record::Pin { client, address } => of_client(6, client, address, 0, 0, 0),
-        Record::Unpin { client, address } => of_client(7, client, address, 0, 0, 0),
-        Record::Isolate { serial, page } => of_zone(8, serial, page.get()),
-        Record::Moved { serial } => of_zone(9, serial, 0),
-        Record::Back { serial, cause } => of_zone(10, serial, cause_of(cause)),
-        Record::TakeHuge { frame, order } => of_zone(11, frame.get(), order.get()),
-        Record::GiveHuge { frame, order } => of_zone(12, frame.get(), order.get()),
-        Record::Mark { block } => of_zone(13, block.get(), 0),
-        Record::Unmark { block } => of_zone(14, block.get(), 0),
+        Entry::Pin { client, address } => of_client(6, client, address, 0, 0, 0),
+        Entry::Unpin { client, address } => of_client(7, client, address, 0, 0, 0),
+        Entry::Isolate { serial, page } => of_zone(8, serial, page.get()),
+        Entry::Moved { serial } => of_zone(9, serial, 0),
+        Entry::Back { serial, cause } => of_zone(10, serial, cause_of(cause)),
+        Entry::TakeHuge { frame, order } => of_zone(11, frame.get(), order.get()),
+        Entry::GiveHuge { frame, order } => of_zone(12, frame.get(), order.get()),
+        Entry::Mark { block } => of_zone(13, block.get(), 0),
+        Entry::Unmark { block } => of_zone(14, block.get(), 0),
     }
 }
 
@@ -126,32 +115,34 @@ fn of_client(
     number: u32,
     other: u32,
     value: u64,
-) -> Noted
+) -> Record
     ensures { result ≡ of_client kind client address number other value }
 {
-    Noted {
+    Record {
         kind,
         client: client.get(),
         space: address.space.get(),
         vpage: address.vpage.get(),
-        number,
-        other,
+        number: u64::from(number),
+        other: u64::from(other),
         value,
+        reserved: RESERVED,
     }
 }
 
 /// A record that names no client and no address.
-fn of_zone(kind: u32, number: u32, other: u32) -> Noted
+fn of_zone(kind: u32, number: u32, other: u32) -> Record
     ensures { result ≡ of_zone kind number other }
 {
-    Noted {
+    Record {
         kind,
         client: 0,
         space: 0,
         vpage: 0,
-        number,
-        other,
+        number: u64::from(number),
+        other: u64::from(other),
         value: 0,
+        reserved: RESERVED,
     }
 }
 

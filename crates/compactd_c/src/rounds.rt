@@ -15,15 +15,15 @@ ghost use Rattle.state_core.specs.declared.error.ZoneError.{ZoneError};
 ghost use Rattle.zone_core.specs.OneThread.{all_moved};
 
 use crate::calls::{CLOSED, numbered};
+use crate::carrying::MovingPage;
 use crate::pool::Pool;
-use std::alloc::Global;
 
 /// Runs a whole round on the thread that calls, and tells whether its scanners met; else the journal had no room for a
 /// further move, or the pool has taken 2^32 - 1 pages in its rounds.
 ///
 /// Refused as CLOSED.
 #[unsafe(no_mangle)]
-pub extern "C" fn compactd_compact(alloc: Global, pool: &mut Pool, met: &mut bool) -> u32
+pub extern "C" fn compactd_compact(pool: &mut Pool, met: &mut bool) -> u32
     ensures answer { result ≡ answer pool.old.zone (λ z. None) }
     ensures zone { pool.new.zone ≡ left pool.old.zone (λ z. None) (λ z. all_moved (round_begun z)) }
     ensures met { (z : ZoneState) → pool.new.zone ≡ Some z → IsTrue met.new → HaveMet z }
@@ -32,11 +32,10 @@ pub extern "C" fn compactd_compact(alloc: Global, pool: &mut Pool, met: &mut boo
     ensures packed { (z : ZoneState) → pool.new.zone ≡ Some z → IsTrue met.new → is_quiet z ≡ true → length (out z.records) ≡ 0 → IsPacked z }
     ensures kept { ¬ (result ≡ 0) → met.new ≡ met.old }
 {
-    let Some(mut zone) = pool.take(alloc) else {
+    let Some(zone) = pool.zone() else {
         return CLOSED;
     };
     *met = zone.compact();
-    pool.put(alloc, zone);
     0
 }
 
@@ -44,15 +43,14 @@ pub extern "C" fn compactd_compact(alloc: Global, pool: &mut Pool, met: &mut boo
 ///
 /// Refused as CLOSED.
 #[unsafe(no_mangle)]
-pub extern "C" fn compactd_begin_round(alloc: Global, pool: &mut Pool) -> u32
+pub extern "C" fn compactd_begin_round(pool: &mut Pool) -> u32
     ensures answer { result ≡ answer pool.old.zone (λ z. None) }
     ensures zone { pool.new.zone ≡ left pool.old.zone (λ z. None) round_begun }
 {
-    let Some(mut zone) = pool.take(alloc) else {
+    let Some(zone) = pool.zone() else {
         return CLOSED;
     };
     zone.begin_round();
-    pool.put(alloc, zone);
     0
 }
 
@@ -60,17 +58,16 @@ pub extern "C" fn compactd_begin_round(alloc: Global, pool: &mut Pool) -> u32
 ///
 /// Refused as STRANGER where no such page is moving, or as CLOSED.
 #[unsafe(no_mangle)]
-pub extern "C" fn compactd_put_back(alloc: Global, pool: &mut Pool, serial: u32, number: u32) -> u32
+pub extern "C" fn compactd_put_back(pool: &mut Pool, page: &MovingPage) -> u32
     ensures closed { pool.old.zone ≡ None → result ≡ 51 }
-    ensures own { (z : ZoneState) → pool.old.zone ≡ Some z → (result ≡ 0) ↔ IsTrue (is_moving z number serial) }
+    ensures own { (z : ZoneState) → pool.old.zone ≡ Some z → (result ≡ 0) ↔ IsTrue (is_moving z page.now.number page.now.serial) }
     ensures stranger { (z : ZoneState) → pool.old.zone ≡ Some z → ¬ (result ≡ 0) → result ≡ 13 }
-    ensures zone { (z : ZoneState) → pool.old.zone ≡ Some z → result ≡ 0 → pool.new.zone ≡ Some (put_back_to_source z serial number Cause.NotCopied) }
+    ensures zone { (z : ZoneState) → pool.old.zone ≡ Some z → result ≡ 0 → pool.new.zone ≡ Some (put_back_to_source z page.now.serial page.now.number Cause.NotCopied) }
     ensures kept { ¬ (result ≡ 0) → pool.new.zone ≡ pool.old.zone }
 {
-    let Some(mut zone) = pool.take(alloc) else {
+    let Some(zone) = pool.zone() else {
         return CLOSED;
     };
-    let answer = zone.put_back(serial, number);
-    pool.put(alloc, zone);
+    let answer = zone.put_back(page.serial, page.number);
     numbered(answer)
 }

@@ -17,24 +17,28 @@ ghost use Rattle.state_core.specs.Pairs.{HaveMet, next_pair};
 ghost use Rattle.state_core.specs.Rounds.{round_begun};
 ghost use Rattle.state_core.specs.ZoneState.{is_quiet};
 ghost use Rattle.zone_core.specs.Counted.{IsCounted};
+ghost use Rattle.zone_core.specs.FreeRuns.{fragmentation, maximal_runs};
+ghost use Rattle.zone_core.specs.NextMoving.{IsNextMoving, IsNoneMoving};
 ghost use Rattle.zone_core.specs.OneThread.{all_moved};
 ghost use Rattle.compactd_c.specs.Asked.{address_of, is_address, is_client, is_block, ranged, refusal_for, answer_for, after_asked};
 ghost use Rattle.compactd_c.specs.Kinds.{IsPageSize};
 ghost use Rattle.compactd_c.specs.Looks.{look_refusal, audit_refusal};
 ghost use Rattle.compactd_c.specs.Records.{record_refused};
-ghost use Rattle.compactd_c.specs.Carried.{IsOwn, is_moving, carried_of, words_of, isolate_refused, commit_refused};
+ghost use Rattle.compactd_c.specs.Told.{geometry_of, places_of};
+ghost use Rattle.compactd_c.specs.Carried.{IsOwn, is_moving, moving_page_of, words_of, isolate_refused, commit_refused};
 
 use crate::asked::{Asked, address, word_of};
-use crate::carrying::Carried;
+use crate::carrying::MovingPage;
+use crate::looking::{Geometry, RESERVED};
 use bitflags::Flags;
 use frame_core::{
     BlockNo, ClientNo, FrameNo, IsolatedOf, Journal, Order, PageFlags, PageNo, PageOf, Record,
-    ZoneNo,
+    Serial, ZoneNo,
 };
 use state_core::{Audit, Ended, Info, Look, Next, ZoneAnswer, ZoneError};
 use std::alloc::Global;
 use std::marker::Model;
-use zone_core::{Answered, BareZone};
+use zone_core::{Answered, BareZone, MovingPage as Found};
 
 /// The two kinds of zones.
 #[derive(Drop)]
@@ -265,6 +269,68 @@ impl Zone {
         }
     }
 
+    /// What the zone was opened with.
+    pub(crate) fn geometry(&self) -> Geometry
+        ensures { result ≡ geometry_of self.now }
+    {
+        let (page_words, blocks) = match &self.kind {
+            Kind::Small(zone) => (zone.page_words(), zone.blocks()),
+            Kind::Large(zone) => (zone.page_words(), zone.blocks()),
+        };
+        Geometry {
+            page_words: page_words as u32,
+            blocks,
+            places: self.places(),
+            reserved: RESERVED,
+        }
+    }
+
+    /// How many places the journal has, used or not; 0 where no record is kept.
+    fn places(&self) -> u64
+        ensures { result ≡ places_of self.now }
+    {
+        let journal = self.journal();
+        match journal.kept() {
+            Some(_) => journal.len() + journal.room(),
+            None => 0,
+        }
+    }
+
+    /// How many free runs of an order, 0 to 9, lie in no larger one.
+    pub(crate) fn free_runs(&self, order: u32) -> Result<u32, ZoneError>
+        ensures refused { result_err result ≡ ranged (nat_lt order 10) None }
+        ensures value { IfOk result (λ runs. runs ≡ maximal_runs self.now order) }
+    {
+        let runs = match &self.kind {
+            Kind::Small(zone) => zone.free_runs(order),
+            Kind::Large(zone) => zone.free_runs(order),
+        };
+        runs.ok_or(ZoneError::Range)
+    }
+
+    /// The fragmentation index of an order, 0 to 9.
+    pub(crate) fn fragmentation(&self, order: u32) -> Result<i32, ZoneError>
+        ensures refused { result_err result ≡ ranged (nat_lt order 10) None }
+        ensures value { IfOk result (λ index. index ≡ fragmentation self.now order) }
+    {
+        let index = match &self.kind {
+            Kind::Small(zone) => zone.fragmentation(order),
+            Kind::Large(zone) => zone.fragmentation(order),
+        };
+        index.ok_or(ZoneError::Range)
+    }
+
+    /// The moving page that leaves the lowest frame, of those that leave a frame from `from` on.
+    pub(crate) fn next_moving(&self, from: FrameNo) -> Option<Found>
+        ensures some { IfSome result (IsNextMoving self.now from) }
+        ensures none { result ≡ None → IsNoneMoving self.now from }
+    {
+        match &self.kind {
+            Kind::Small(zone) => zone.next_moving(from),
+            Kind::Large(zone) => zone.next_moving(from),
+        }
+    }
+
     /// Whether the latest round is quiet.
     pub(crate) fn quiet(&self) -> bool
         ensures { result ≡ is_quiet self.now }
@@ -297,7 +363,7 @@ impl Zone {
     }
 
     /// Ends the move of a page that wasn't copied.
-    pub(crate) fn put_back(&mut self, serial: u32, number: u32) -> Result<(), ZoneError>
+    pub(crate) fn put_back(&mut self, serial: u64, number: u32) -> Result<(), ZoneError>
         ensures own { IsOk result ↔ IsTrue (is_moving self.old number serial) }
         ensures stranger { IfErr result (λ error. error ≡ ZoneError.Stranger) }
         ensures err { OnErr result (self.new ≡ self.old) }
@@ -324,10 +390,10 @@ impl Zone {
     }
 
     /// Isolates the next page of a round, whose words go where C wants them. There is none where the scanners have met.
-    pub(crate) fn isolate(&mut self, words: &mut [u64]) -> Result<Option<Carried>, ZoneError>
+    pub(crate) fn isolate(&mut self, words: &mut [u64]) -> Result<Option<MovingPage>, ZoneError>
         ensures refused { result_err result ≡ isolate_refused self.old (length words.old) }
         ensures err { OnErr result ((self.new ≡ self.old) × (words.new ≡ words.old)) }
-        ensures carried { IfOk result (λ carried. carried ≡ carried_of self.old (next_pair self.old)) }
+        ensures page { IfOk result (λ page. page ≡ moving_page_of self.old (next_pair self.old)) }
         ensures words { OnOk result (words.new ≡ words_of self.old (next_pair self.old) words.old) }
         ensures met { result ≡ Ok None → HaveMet self.old × (words.new ≡ words.old) }
         ensures ok { OnOk result (self.new ≡ next_state self.old (next_pair self.old)) }
@@ -341,7 +407,7 @@ impl Zone {
     /// Ends the move of a page that C copied.
     pub(crate) fn commit(
         &mut self,
-        serial: u32,
+        serial: u64,
         number: u32,
         words: &[u64],
     ) -> Result<Ended, ZoneError>
@@ -484,7 +550,7 @@ fn write<const W: usize>(
 
 fn put_back<const W: usize>(
     zone: &mut BareZone<W>,
-    serial: u32,
+    serial: u64,
     number: u32,
 ) -> Result<(), ZoneError>
     requires { W ≤ 65536 }
@@ -493,6 +559,7 @@ fn put_back<const W: usize>(
     ensures err { OnErr result (zone.new ≡ zone.old) }
     ensures ok { OnOk result (zone.new ≡ put_back_to_source zone.old serial number Cause.NotCopied) }
 {
+    let serial = serial_of(zone, serial).ok_or(ZoneError::Stranger)?;
     let number = page_of(zone, number).ok_or(ZoneError::Stranger)?;
     let page = PageOf::new(zone.number(), number);
     zone.put_back(IsolatedOf::new(serial, page))
@@ -520,14 +587,22 @@ fn page_of<const W: usize>(zone: &BareZone<W>, number: u32) -> Option<PageNo>
     PageNo::new(number)
 }
 
+/// The serial of a moving page, if one may have this number: serials have 32 bits.
+fn serial_of<const W: usize>(zone: &BareZone<W>, serial: u64) -> Option<Serial>
+    ensures value { IfSome result (λ under. under ≡ serial) }
+    ensures none { result ≡ None → (number : ℕ) → is_moving zone.now number serial ≡ false }
+{
+    Serial::try_from(serial).ok()
+}
+
 fn isolate<const W: usize>(
     zone: &mut BareZone<W>,
     words: &mut [u64],
-) -> Result<Option<Carried>, ZoneError>
+) -> Result<Option<MovingPage>, ZoneError>
     requires { W ≤ 65536 }
     ensures refused { result_err result ≡ isolate_refused zone.old (length words.old) }
     ensures err { OnErr result ((zone.new ≡ zone.old) × (words.new ≡ words.old)) }
-    ensures carried { IfOk result (λ carried. carried ≡ carried_of zone.old (next_pair zone.old)) }
+    ensures page { IfOk result (λ page. page ≡ moving_page_of zone.old (next_pair zone.old)) }
     ensures words { OnOk result (words.new ≡ words_of zone.old (next_pair zone.old) words.old) }
     ensures met { result ≡ Ok None → HaveMet zone.old × (words.new ≡ words.old) }
     ensures ok { OnOk result (zone.new ≡ next_state zone.old (next_pair zone.old)) }
@@ -538,10 +613,11 @@ fn isolate<const W: usize>(
     match zone.isolate_next() {
         Ok(Next::Page(isolated)) => {
             words.copy_from_slice(isolated.page().words());
-            Ok(Some(Carried {
-                serial: isolated.serial(),
+            Ok(Some(MovingPage {
+                serial: u64::from(isolated.serial()),
                 number: isolated.page_no().get(),
                 flags: u32::from(isolated.page().flags().bits()),
+                reserved: RESERVED,
             }))
         }
         Ok(Next::Met) => Ok(None),
@@ -551,7 +627,7 @@ fn isolate<const W: usize>(
 
 fn commit<const W: usize>(
     zone: &mut BareZone<W>,
-    serial: u32,
+    serial: u64,
     number: u32,
     words: &[u64],
 ) -> Result<Ended, ZoneError>
@@ -565,6 +641,7 @@ fn commit<const W: usize>(
     if words.len() != zone.page_words() {
         return Err(ZoneError::Range);
     }
+    let serial = serial_of(zone, serial).ok_or(ZoneError::Stranger)?;
     let number = page_of(zone, number).ok_or(ZoneError::Stranger)?;
     let mut held = [0; W];
     held.copy_from_slice(words);

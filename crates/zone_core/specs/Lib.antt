@@ -3,7 +3,9 @@ pub mod Books
 pub mod ByHand
 pub mod Counted
 pub mod Fingers
+pub mod FreeRuns
 pub mod Made
+pub mod NextMoving
 pub mod OneThread
 pub mod Outcome
 pub mod Seats

@@ -47,6 +47,7 @@ pub use state_core::{
     ZoneAnswer, ZoneCall, ZoneCallOf, ZoneError,
 };
 pub use zone::Zone as ZoneOf;
+pub use zone_tables::MovingPage;
 
 /// A zone with pages of eight words.
 pub type Zone<I, M, B> = ZoneOf<8, I, M, B>;

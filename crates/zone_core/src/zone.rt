@@ -259,6 +259,13 @@ impl<const W: usize, I: Ledger, M: Ledger, B: Ledger> Zone<W, I, M, B> {
         self.bare.quiet()
     }
 
+    /// The zone without its ledgers, to be asked what only a bare zone answers.
+    pub fn bare(&self) -> &BareZone<W>
+        ensures { result.now ≡ self.now }
+    {
+        &self.bare
+    }
+
     /// The number that the zone was opened with.
     pub fn number(&self) -> ZoneNo
         ensures { result ≡ self.now.number }

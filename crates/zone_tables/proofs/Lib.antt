@@ -12,6 +12,7 @@ pub mod ListedAddresses
 pub mod LoadsAndStores
 pub mod Marks
 pub mod MoveEnds
+mod MovingPages
 pub mod NotedPages
 pub mod NotedEach
 pub mod Noting

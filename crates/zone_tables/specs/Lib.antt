@@ -5,6 +5,7 @@ pub mod HandedOutInside
 pub mod History
 pub mod HistoryInside
 pub mod Moves
+pub mod MovingPages
 pub mod Notes
 pub mod NotesInside
 pub mod Sound

@@ -19,6 +19,7 @@ mod looking;
 mod mapping;
 mod marking;
 mod moves;
+mod moving;
 mod note;
 mod notes;
 mod opening;
@@ -29,4 +30,5 @@ mod zone;
 
 pub use ending::Move;
 pub use looking::Uses;
+pub use moving::MovingPage;
 pub use zone::ZoneTables;

@@ -1,0 +1,97 @@
+-- What is known of the addresses of a page in use, and of a page that is moving.
+use Rattle.std.proofs.Common.{◌≡◌, ◌≤◌, ◌<◌, ℕ, List, [], ◌∷◌, true, false, ap, subst, sym, refl, ◌∙◌, inl, inr, arith, length}
+use Rattle.std.specs.Prelude.{Option, Some, None, slice_get}
+use Rattle.std.specs.FinMap as map
+use Rattle.std.specs.Option.{option_and_then}
+use Rattle.std.proofs.lemmas.Bool.{eqb-true, eq-eqb, false_from_ne_true}
+use Rattle.frame_core.proofs.Searches.{pairs_same_below, pairs_none}
+use Rattle.frame_core.specs.Address.{InRange}
+use Rattle.frame_core.specs.declared.place.Address.{Address}
+use Rattle.frame_core.specs.History.{page_at, names, maps, is_page}
+use Rattle.state_core.proofs.Facts.{page_named, not_none, takes_own}
+use Rattle.state_core.specs.Valid.{IsValidZone}
+use Rattle.state_core.specs.ZoneState.{ZoneState, placement_at, takes_up}
+use Rattle.state_core.specs.declared.placement.Placement.{Placement}
+use Rattle.state_core.specs.declared.placement.Placement.TheVariants.{Moving}
+use Rattle.table_core.specs.declared.entry.Entry.{Entry}
+use Rattle.table_core.specs.declared.entry.Entry.TheVariants.{Migration}
+use Rattle.table_core.specs.Names.{IsIn, IsRising, AreJust}
+use Rattle.table_core.specs.Tables.{entry_at, place_of}
+use Rattle.zone_tables.proofs.Tables.{migration_is, placement_seen}
+use Rattle.zone_tables.specs.Fits.{EntriesFit, entry_for}
+use Rattle.zone_tables.specs.MovingPages.{IsLeftByNone, IsLowestName}
+use Rattle.zone_tables.specs.Notes.{placement_of}
+use Rattle.zone_tables.specs.Sound.{state_of, IsSound}
+use Rattle.zone_tables.specs.declared.zone.ZoneTables.TheInside.{Inside}
+
+page_is : (o : Option ℕ) (page : ℕ) → is_page o page ≡ true → o ≡ Some page
+page_is None page e = cc
+page_is (Some named) page e = ap Some (eqb-true named page e)
+
+-- some address names a page in use
+pub has_name : (v : ZoneState) → IsValidZone v → (page : ℕ) (placement : Placement) → map.get v.placement page ≡ Some placement → ((a : Address) → page_at v.records a ≡ Some page → ⊥) → ⊥
+has_name v valid page placement at none =
+    let unnamed = λ (i j : ℕ) (h : i < 8) (l : j < 4096). let a : Address = record { space = i; vpage = j } in
+      false_from_ne_true (names v.records a page) (λ is. none a (page_is (page_at v.records a) page is)) in
+    let few : maps v.records page ≡ 0 = pairs_same_below (λ space vpage. names v.records (record { space = space; vpage = vpage }) page) (λ i j. false) 8 4096 unnamed
+      ∙ pairs_none (λ i j. false) 8 4096 (λ i j. refl) in
+    let some = (valid.agrees.in_use page (not_none (map.get v.placement page) placement at)).0 in omega (arith, few, some)
+
+module _ (v : ZoneState) (valid : IsValidZone v) (entries : List Entry) (fit : EntriesFit entries v) (page serial source target : ℕ) (at : map.get v.placement page ≡ Some (Moving serial source target)) where
+  -- the addresses of a moving page have the entry of its move, and no other address has
+  pub entered : (a : Address) → page_at v.records a ≡ Some page → InRange a × (entry_at entries a ≡ Migration serial source)
+  entered a is =
+      let range = (valid.agrees.named a page is).0 in
+      (range, fit.each a range ∙ ap entry_for (ap (option_and_then (map.get v.placement)) is ∙ at))
+
+  pub of_entry : (a : Address) → InRange a → entry_at entries a ≡ Migration serial source → page_at v.records a ≡ Some page
+  of_entry a range is =
+      let way = migration_is (placement_at v a) serial source (sym (fit.each a range) ∙ is) in
+      let named = page_named v a (Moving serial source way.0) way.1 in
+      let takes = λ (p t : ℕ) (e : map.get v.placement p ≡ Some (Moving serial source t)). ap (λ (o : Option Placement). takes_up o source) e ∙ takes_own (Moving serial source t) in
+      named.1 ∙ ap Some (valid.pages.apart named.0 page source (takes named.0 way.0 named.2) (takes page target at))
+
+  module _ (found : List Address) (just : AreJust found (λ a. entry_at entries a ≡ Migration serial source)) where
+    not_empty : (list : List Address) → slice_get list 0 ≡ None → (a : Address) → IsIn list a → ⊥
+    not_empty [] e a inside = inside
+    not_empty (b ∷ rest) e a inside = cc
+
+    pub some_found : slice_get found 0 ≡ None → ⊥
+    some_found none = has_name v valid page (Moving serial source target) at (λ a is. not_empty found none a ((just.each a).1 (entered a is)))
+
+    -- the first address of a rising list is the lowest
+    first_is_lowest : (list : List Address) (a other : Address) → slice_get list 0 ≡ Some a → IsRising list → IsIn list other → place_of a ≤ place_of other
+    first_is_lowest [] a other first rising inside = absurd inside
+    first_is_lowest (b ∷ rest) a other first rising (inl here) = let same : b ≡ a = cc in let at : place_of a ≡ place_of other = ap place_of (sym same ∙ here) in omega (arith, at)
+    first_is_lowest (b ∷ rest) a other first rising (inr later) = let same : b ≡ a = cc in let below = rising.0 other later in let at : place_of b ≡ place_of a = ap place_of same in omega (arith, below, at)
+
+    first_within : (list : List Address) (a : Address) → slice_get list 0 ≡ Some a → IsIn list a
+    first_within [] a first = cc
+    first_within (b ∷ rest) a first = let same : b ≡ a = cc in inl same
+
+    pub lowest_found : (a : Address) → slice_get found 0 ≡ Some a → IsLowestName v page a
+    lowest_found a first =
+        let passes = (just.each a).0 (first_within found a first) in
+        record {
+          named = of_entry a passes.0 passes.1;
+          lowest = λ other is. first_is_lowest found a other first just.rising ((just.each other).1 (entered other is));
+        }
+
+module _ {W : ℕ} (z : Inside W) (v : ZoneState) (sound : IsSound z v) (view : state_of z ≡ v) (source page : ℕ) (last : slice_get z.moves.pages source ≡ Some page)
+    (found : Option Placement) (noted : found ≡ placement_of z.notes page) where
+  -- the page that was isolated last from a frame has this placement
+  pub placed : map.get v.placement page ≡ found
+  placed = sym (noted ∙ placement_seen z v view page)
+
+  -- a page that is moving out of a frame is the one that was isolated last from it
+  pub left_by : (p serial target : ℕ) → map.get v.placement p ≡ Some (Moving serial source target) → found ≡ Some (Moving serial source target)
+  left_by p serial target e =
+      let is = sound.sources.each p serial source target e in
+      let same : page ≡ p = cc in
+      sym placed ∙ ap (map.get v.placement) same ∙ e
+
+  pub left_by_none : ((serial target : ℕ) → found ≡ Some (Moving serial source target) → ⊥) → IsLeftByNone v source
+  left_by_none other p serial target e = other serial target (left_by p serial target e)
+
+  pub still_leaves : (serial left target : ℕ) → found ≡ Some (Moving serial left target) → left ≡ source → map.get v.placement page ≡ Some (Moving serial source target)
+  still_leaves serial left target is same = placed ∙ is ∙ ap (λ (f : ℕ). Some (Moving serial f target)) same

@@ -1,0 +1,26 @@
+-- The pages that are moving.
+use Rattle.std.specs.Prelude.{◌≡◌, ◌≢◌, ◌≤◌, ℕ, Some}
+use Rattle.std.specs.FinMap as map
+use Rattle.frame_core.specs.declared.place.Address.{Address}
+use Rattle.frame_core.specs.History.{page_at}
+use Rattle.state_core.specs.Carrying.{flags_of}
+use Rattle.state_core.specs.ZoneState.{ZoneState}
+use Rattle.state_core.specs.declared.placement.Placement.TheVariants.{Moving}
+use Rattle.table_core.specs.Tables.{place_of}
+use Rattle.zone_tables.specs.declared.moving.MovingPage.{MovingPage}
+
+-- an address names a page, and no lower one does
+pub record IsLowestName (z : ZoneState) (page : ℕ) (address : Address) : Type 0 where
+  pub named : page_at z.records address ≡ Some page
+  pub lowest : (other : Address) → page_at z.records other ≡ Some page → place_of address ≤ place_of other
+
+-- a page is moving out of this frame, and this is what is known of it
+pub record IsMovingFrom (z : ZoneState) (source : ℕ) (moving : MovingPage) : Type 0 where
+  pub left : moving.source ≡ source
+  pub placed : map.get z.placement moving.page ≡ Some (Moving moving.serial moving.source moving.target)
+  pub flags : moving.flags ≡ flags_of z moving.page
+  pub address : IsLowestName z moving.page moving.address
+
+-- no page is moving out of this frame
+abbrev pub IsLeftByNone : ZoneState → ℕ → Type 0
+IsLeftByNone z frame = (page serial target : ℕ) → map.get z.placement page ≢ Some (Moving serial frame target)
