@@ -1,13 +1,15 @@
 //! What C calls to make the moves of a round itself: it isolates a page, copies its words, and brings them back.
 
-ghost use Rattle.std.specs.Prelude.{◌≡◌, ◌↔◌, length, IsTrue, None, Some};
+ghost use Rattle.std.specs.Prelude.{◌≡◌, ◌↔◌, true, length, IsTrue, None, Some};
 ghost use Rattle.compactd_c.specs.Answers.{left};
 ghost use Rattle.compactd_c.specs.Carried.{IsOwn, moving_page_of, words_of, isolate_number, isolate_refused, commit_refused};
+ghost use Rattle.frame_core.specs.Moves.{out};
 ghost use Rattle.state_core.specs.Ending.{committed, ended_as};
 ghost use Rattle.state_core.specs.ErrorNumber.{number_of};
 ghost use Rattle.state_core.specs.Isolating.{next_state};
+ghost use Rattle.state_core.specs.Packed.{IsPacked};
 ghost use Rattle.state_core.specs.Pairs.{HaveMet, next_pair};
-ghost use Rattle.state_core.specs.ZoneState.{ZoneState};
+ghost use Rattle.state_core.specs.ZoneState.{ZoneState, is_quiet};
 
 use crate::calls::{CLOSED, number as number_for, told};
 use crate::pool::Pool;
@@ -40,6 +42,8 @@ pub extern "C" fn compactd_isolate(pool: &mut Pool, page: &mut MovingPage, words
     ensures page { (z : ZoneState) → pool.old.zone ≡ Some z → result ≡ 0 → moving_page_of z (next_pair z) ≡ Some page.new }
     ensures words { (z : ZoneState) → pool.old.zone ≡ Some z → result ≡ 0 → words.new ≡ words_of z (next_pair z) words.old }
     ensures met { (z : ZoneState) → pool.old.zone ≡ Some z → result ≡ 53 → HaveMet z }
+    // Where nothing was in the way and the scanners met, the zone is packed.
+    ensures packed { (z : ZoneState) → pool.new.zone ≡ Some z → result ≡ 53 → is_quiet z ≡ true → length (out z.records) ≡ 0 → IsPacked z }
     ensures kept { ¬ (result ≡ 0) → (page.new ≡ page.old) × (words.new ≡ words.old) }
 {
     let Some(zone) = pool.zone() else {

@@ -167,12 +167,7 @@ pub extern "C" fn compactd_marked(pool: &mut Pool, block: u32, marked: &mut bool
 ///
 /// Refused as RANGE where a number is out of its range, as UNMAPPED where the address names no page, or as CLOSED.
 #[unsafe(no_mangle)]
-pub extern "C" fn compactd_look(
-    pool: &mut Pool,
-    space: u32,
-    vpage: u32,
-    info: &mut PageInfo,
-) -> u32
+pub extern "C" fn compactd_look(pool: &mut Pool, space: u32, vpage: u32, info: &mut PageInfo) -> u32
     ensures answer { result ≡ answer pool.old.zone (λ z. ranged (is_address space vpage) (look_refusal z (address_of space vpage))) }
     ensures zone { pool.new.zone ≡ pool.old.zone }
     ensures info { (z : ZoneState) → pool.old.zone ≡ Some z → result ≡ 0 → page_info_of (look_of z (address_of space vpage)) ≡ Some info.new }

@@ -54,17 +54,17 @@ pub extern "C" fn compactd_journal(pool: &mut Pool, records: &mut u64, room: &mu
 ///
 /// Refused as RANGE where the journal has no such record or isn't kept, or as CLOSED.
 #[unsafe(no_mangle)]
-pub extern "C" fn compactd_record_at(pool: &mut Pool, place: usize, record: &mut Record) -> u32
+pub extern "C" fn compactd_record_at(pool: &mut Pool, place: usize, entry: &mut Record) -> u32
     ensures answer { result ≡ answer pool.old.zone (λ z. record_refused z place) }
     ensures zone { pool.new.zone ≡ pool.old.zone }
-    ensures record { (z : ZoneState) → pool.old.zone ≡ Some z → result ≡ 0 → option_map record_of (slice_get (reverse z.records) place) ≡ Some record.new }
-    ensures kept { ¬ (result ≡ 0) → record.new ≡ record.old }
+    ensures entry { (z : ZoneState) → pool.old.zone ≡ Some z → result ≡ 0 → option_map record_of (slice_get (reverse z.records) place) ≡ Some entry.new }
+    ensures kept { ¬ (result ≡ 0) → entry.new ≡ entry.old }
 {
     let Some(zone) = pool.zone() else {
         return CLOSED;
     };
     let answer = zone.record(place);
-    told(answer.map(numbers_of), record)
+    told(answer.map(numbers_of), entry)
 }
 
 /// A record, in numbers.

@@ -396,6 +396,7 @@ impl Zone {
         ensures page { IfOk result (λ page. page ≡ moving_page_of self.old (next_pair self.old)) }
         ensures words { OnOk result (words.new ≡ words_of self.old (next_pair self.old) words.old) }
         ensures met { result ≡ Ok None → HaveMet self.old × (words.new ≡ words.old) }
+        ensures packed { result ≡ Ok None → is_quiet self.new ≡ true → length (out self.new.records) ≡ 0 → IsPacked self.new }
         ensures ok { OnOk result (self.new ≡ next_state self.old (next_pair self.old)) }
     {
         match &mut self.kind {
@@ -559,8 +560,7 @@ fn put_back<const W: usize>(
     ensures err { OnErr result (zone.new ≡ zone.old) }
     ensures ok { OnOk result (zone.new ≡ put_back_to_source zone.old serial number Cause.NotCopied) }
 {
-    let serial = serial_of(zone, serial).ok_or(ZoneError::Stranger)?;
-    let number = page_of(zone, number).ok_or(ZoneError::Stranger)?;
+    let (serial, number) = move_named(zone, serial, number).ok_or(ZoneError::Stranger)?;
     let page = PageOf::new(zone.number(), number);
     zone.put_back(IsolatedOf::new(serial, page))
         .or(Err(ZoneError::Stranger))
@@ -576,23 +576,22 @@ fn block(first: u32, order: u32) -> Option<(FrameNo, Order)>
     Some((first, order))
 }
 
-/// A page of the zone, if one may have this number: as many pages as the zone has frames.
-fn page_of<const W: usize>(zone: &BareZone<W>, number: u32) -> Option<PageNo>
-    ensures value { IfSome result (λ page. page ≡ number) }
-    ensures none { result ≡ None → (serial : ℕ) → is_moving zone.now number serial ≡ false }
+/// The serial and the number of a page, if one may be moving with them: serials have 32 bits, and there are as many pages as the zone has
+/// frames.
+fn move_named<const W: usize>(
+    zone: &BareZone<W>,
+    serial: u64,
+    number: u32,
+) -> Option<(Serial, PageNo)>
+    ensures serial { IfSome result (λ named. named.0 ≡ serial) }
+    ensures number { IfSome result (λ named. named.1 ≡ number) }
+    ensures none { result ≡ None → is_moving zone.now number serial ≡ false }
 {
     if number >= 512 * zone.blocks() {
         return None;
     }
-    PageNo::new(number)
-}
-
-/// The serial of a moving page, if one may have this number: serials have 32 bits.
-fn serial_of<const W: usize>(zone: &BareZone<W>, serial: u64) -> Option<Serial>
-    ensures value { IfSome result (λ under. under ≡ serial) }
-    ensures none { result ≡ None → (number : ℕ) → is_moving zone.now number serial ≡ false }
-{
-    Serial::try_from(serial).ok()
+    let serial = Serial::try_from(serial).ok()?;
+    Some((serial, PageNo::new(number)?))
 }
 
 fn isolate<const W: usize>(
@@ -605,6 +604,7 @@ fn isolate<const W: usize>(
     ensures page { IfOk result (λ page. page ≡ moving_page_of zone.old (next_pair zone.old)) }
     ensures words { OnOk result (words.new ≡ words_of zone.old (next_pair zone.old) words.old) }
     ensures met { result ≡ Ok None → HaveMet zone.old × (words.new ≡ words.old) }
+    ensures packed { result ≡ Ok None → is_quiet zone.new ≡ true → length (out zone.new.records) ≡ 0 → IsPacked zone.new }
     ensures ok { OnOk result (zone.new ≡ next_state zone.old (next_pair zone.old)) }
 {
     if words.len() != zone.page_words() {
@@ -641,8 +641,7 @@ fn commit<const W: usize>(
     if words.len() != zone.page_words() {
         return Err(ZoneError::Range);
     }
-    let serial = serial_of(zone, serial).ok_or(ZoneError::Stranger)?;
-    let number = page_of(zone, number).ok_or(ZoneError::Stranger)?;
+    let (serial, number) = move_named(zone, serial, number).ok_or(ZoneError::Stranger)?;
     let mut held = [0; W];
     held.copy_from_slice(words);
     let page = PageOf::carrying(zone.number(), number, PageFlags::empty(), held);
