@@ -35,7 +35,7 @@ def shows(check):
 
 def run_check(check, options):
     """Runs a check. Returns what it says and how it ended, whether it failed, and what it left out."""
-    print(f"check {check.stem}: {shows(check)}.", flush=True)
+    print(f"check {check.stem}: {shows(check)}.\n", end="", flush=True)
     begin = time.monotonic()
     how = {"stdout": subprocess.PIPE, "stderr": subprocess.STDOUT, "text": True, "errors": "replace"}
     try:
