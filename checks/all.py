@@ -35,7 +35,7 @@ def shows(check):
 
 def run_check(check, options):
     """Runs a check. Returns what it says and how it ended, whether it failed, and what it left out."""
-    print(f"check {check.stem}: {shows(check)}.", flush=True)
+    print(f"check {check.stem}: {shows(check)}.\n", end="", flush=True)
     begin = time.monotonic()
     how = {"stdout": subprocess.PIPE, "stderr": subprocess.STDOUT, "text": True, "errors": "replace"}
     try:
@@ -53,6 +53,13 @@ def ended(status):
     if status is None:
         return "FAILED, cut off,"
     return {0: "passed", runs.LEFT_OUT: "left out"}.get(status, f"FAILED, with status {status},")
+
+
+def note(file, lines):
+    """Adds lines to a file, if one is given."""
+    if file:
+        with open(file, "a") as kept:
+            kept.writelines(f"{line}\n" for line in lines)
 
 
 def given_options(checks):
@@ -79,11 +86,9 @@ def main():
             print(said, flush=True)
             failed += [name] * is_failed
             left_out += lines
+            note(given.left_out, lines)
     print(f"checks: {len(names)} ran in {time.monotonic() - begin:.0f} s, failed: {', '.join(failed) or 'none'}")
     print(f"checks: left out: {'; '.join(left_out) or 'none'}")
-    if given.left_out:
-        with open(given.left_out, "a") as file:
-            file.writelines(f"{line}\n" for line in left_out)
     return 1 if failed else 0
 
 

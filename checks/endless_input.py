@@ -11,6 +11,7 @@ WANTED = runs.Ran(1, b"", b"compactd: fault 46 at line 10000001\n")
 
 
 def main():
+    runs.need_proof("the speed of a proved program")
     with tempfile.TemporaryDirectory() as folder:
         found = runs.run(b"", LD_PRELOAD=runs.preload("newlines", folder))
     if found != WANTED:

@@ -97,16 +97,17 @@ def is_right(found, wanted):
 
 
 def main():
-    scripts = [told_script() for _ in range(LINES)]
+    lines = runs.some_of(LINES)
+    scripts = [told_script() for _ in range(lines)]
     ends = collections.Counter()
     for (text, wanted), found in zip(scripts, runs.each(runs.written_for, [text for text, _ in scripts])):
         if not is_right(found, wanted):
             raise runs.Failed(f"of the script {text}\nthe program makes {found}\nand not {wanted}")
         ends[wanted.error.split(" at ")[0][len("compactd: ") :]] += 1
-    if min(ends["fault 41"], ends["fault 42"], ends[""]) < LINES // 100:
+    if min(ends["fault 41"], ends["fault 42"], ends[""]) < lines // 100:
         raise runs.Failed(f"too few lines of a kind: {ends}")
     told = f"{ends['']} are read, {ends['fault 41']} end with fault 41 and {ends['fault 42']} with fault 42"
-    return f"{LINES} random lines: {told}"
+    return f"{lines} random lines: {told}"
 
 
 if __name__ == "__main__":

@@ -226,6 +226,7 @@ def try_every_command(every, opening):
 
 
 def main():
+    runs.need_proof("a program whose memory has no part for run-time checks")
     with tempfile.TemporaryDirectory() as folder:
         runs.preload("refuse_memory", folder)
         opening = Trial("the opening of a zone", OPENING, folder)

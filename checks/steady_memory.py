@@ -108,6 +108,7 @@ def compare_blocks(copiers):
 
 
 def main():
+    runs.need_proof("a program whose memory has no part for run-time checks")
     for copiers in ("--copiers=1", "--copiers=4"):
         compare_rounds(copiers)
         compare_blocks(copiers)
