@@ -152,7 +152,8 @@ def need_same_types(where, declared):
 def compare_texts():
     """The text of each refusal, in the header's comments, in its function, and for the errors of the crate for Rust."""
     text, numbers = (c_programs.HEADERS / "compactd.h").read_text(), c_programs.refusals()
-    in_comments = dict(re.findall(r"COMPACTD_(\w+) = \d+,? +/\* (.*) \*/", text))
+    rows = re.search(r"enum compactd_refusal \{(.*?)\};", text, re.DOTALL)[1]
+    in_comments = dict(re.findall(r"COMPACTD_(\w+) = \d+,? +/\* (.*) \*/", rows))
     in_function = dict(re.findall(r"case COMPACTD_(\w+): return \"(.*)\";", text))
     need_same("refusals with a text", set(in_function), set(numbers))
     need_same("texts of refusals", set(in_function.items()), set(in_comments.items()))
