@@ -2,10 +2,10 @@
 
     python3 bench/c_rounds.py [RUNS]
 
-A round is made by `compactd_compact`; by `compactd_round` in slices of so many pages; and by threads that share it: each of them takes
-pages and brings copies back under the lock, sixteen at a time, and copies them without it. The program makes each round in turn ten times,
-and runs so many times, 5 if no number is given. The table has the median and the least of all, and what each is to that of slices of 16
-pages. The load of the machine is told before and after. The library is that of `bench/c_calls.py`. It needs gcc."""
+A round is made by `compactd_compact`, by `compactd_round` in slices of so many pages, and by so many threads that share it. Each of these
+takes sixteen pages under the lock, copies them without it, and brings them back as it takes the next ones. The program makes each round in
+turn ten times, and runs so many times, 5 if no number is given. The table has the median and the least of all, and what each is to that of
+slices of 16 pages. The load of the machine is told before and after. The library is that of `bench/c_calls.py`. It needs gcc."""
 
 import argparse
 import collections

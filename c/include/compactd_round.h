@@ -111,10 +111,10 @@ static uint32_t compactd_round_slices(compactd_round_state *round, pthread_mutex
 }
 
 /* Initialises a lock that is handed to a thread that waits for it when it is let go: one with the protocol PTHREAD_PRIO_INHERIT. A default
- * lock isn't: between slices a round most often takes it again before a thread that waits is awake. So other threads get their turns with a
- * lock from here. It isn't initialised before, and pthread_mutex_destroy ends it. Answers 0 or a number of errno.h, as ENOTSUP where the
- * system has no such lock. A program that is compiled as strict ISO C, as by -std=c99, has this function only if it defines
- * _POSIX_C_SOURCE. */
+ * lock isn't: between slices a round most often takes it again before a thread that waits is awake, until the round has ended. So other
+ * threads get their turns with a lock from here. It isn't initialised before, and pthread_mutex_destroy ends it. Answers 0 or a number of
+ * errno.h, as ENOTSUP where the system has no such lock. A program that is compiled as strict ISO C, as by -std=c99, has this function only
+ * if it defines _POSIX_C_SOURCE. */
 #if defined(_POSIX_C_SOURCE) && _POSIX_C_SOURCE >= 199506L
 COMPACTD_ROUND_UNUSED
 static int compactd_round_lock(pthread_mutex_t *lock)
@@ -133,13 +133,13 @@ static int compactd_round_lock(pthread_mutex_t *lock)
 #endif
 
 /* Makes a round on a pool, whose calls are made under this lock, and lets the lock go after each so many pages, 1 or more. The caller
- * doesn't hold the lock, and no other round is made on the pool meanwhile. Taking 16 pages of 4 KiB takes some 30 microseconds on a
- * processor of 2.5 GHz, and for so long another thread waits.
+ * doesn't hold the lock, and no other round is made on the pool meanwhile. While a slice is made other threads wait: with 16 pages of 4 KiB
+ * for 30 to 40 microseconds on a processor of 2.5 GHz.
  *
- * Answers 0 where the scanners of the round met, and else a number of enum compactd_refusal: RANGE where no page is asked for at a time, and
- * nothing changes then; CLOSED; JOURNAL_FULL where the journal has no room for a further move, or 2^32 - 1 pages were taken; or STRANGER
- * where the pool didn't take the words of a page, and the round went on. In each case it tells what it did, and no page that it took is
- * moving.
+ * Answers 0 where the scanners of the round met, and else a number of enum compactd_refusal. RANGE: no page is asked for at a time, and
+ * nothing changes. CLOSED. JOURNAL_FULL: the journal has no room for a further move, or 2^32 - 1 pages were taken. STRANGER: the pool
+ * didn't take the words of a page, which was put back, and the round went on. In each case it tells what it did, and no page that it took
+ * is moving.
  *
  * The thread can't be cancelled until the round has ended, whatever its cancelability is. */
 COMPACTD_ROUND_UNUSED

@@ -1,8 +1,8 @@
-/* Rounds of compactd_round.h leave each page where compactd_compact leaves it, whatever the size of their slices. Each of their calls is made
- * under the lock, no slice has more pages than were asked for, and no page is moving where the lock is let go. They end as they should
- * where the pool is closed, where no page is asked for at a time, where the journal is full, where a copy has another word, where the move
- * of a page is ended by another, and where the thread is cancelled. A thread that waits for a lock of compactd_round_lock gets it before the
- * round has ended. */
+/* Rounds of compactd_round.h leave each page where compactd_compact leaves it, whatever the size of their slices. Each of their calls is
+ * made under the lock, no slice has more pages than were asked for, and no page is moving where the lock is let go. They end as they should
+ * where the pool is closed, where no page is asked for at a time, and where the journal is full. So they do where a copy has another word,
+ * where the move of a page is ended by another, and where the thread is cancelled. A thread that waits for a lock of compactd_round_lock
+ * gets it before the round has ended. */
 #include "compactd.h"
 
 #include <pthread.h>
