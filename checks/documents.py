@@ -232,12 +232,13 @@ def first_wrong_command(commands):
 def wrong_code(text):
     """What compilers say of the blocks of C and C++. Where a compiler isn't there, its blocks aren't tried."""
     for kind, lines in FENCED.findall(text):
-        command, frame = COMPILERS.get(kind, ([None], ""))
-        if command[0] and shutil.which(command[0]):
-            words = [*command, "-fsyntax-only", f"-I{c_programs.HEADERS}", "-"]
-            tried = runs.finished([str(word) for word in words], input=frame.format(lines).encode())
-            if tried.status != 0:
-                yield f"{command[0]} refuses the lines\n{lines}{tried.error.decode(errors='replace')}"
+        command, frame = COMPILERS.get(kind, (None, None))
+        if not command or not shutil.which(command[0]):
+            continue
+        words = [*command, "-fsyntax-only", f"-I{c_programs.HEADERS}", "-"]
+        tried = runs.finished(words, input=frame.format(lines).encode())
+        if tried.status != 0:
+            yield f"{command[0]} refuses the lines\n{lines}{tried.error.decode(errors='replace')}"
 
 
 # What documents agree on.
