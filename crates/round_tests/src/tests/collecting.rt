@@ -2,14 +2,14 @@ use super::gates::{Plan, Until, Watch};
 use super::names::Names;
 use super::opening::Opening;
 use super::{Runtime, Trial, tries};
-use frame_core::Order;
+use frame_core::{FrameNo, Order};
 use huge_core::{Collector, Huge, Report, Stop, give};
 use round_core::{Gate, NoGate, Point};
 use std::process::Abort;
 use std::sync::Wait;
 use zone_core::ZoneError;
 
-const PAGES: u32 = 64;
+const PAGES: u32 = 200;
 
 /// The last block that was got.
 fn last_block(rt: &impl Abort, mut report: Report) -> Huge {
@@ -84,6 +84,7 @@ impl<Z: Names> Opening<Z> {
         let mut huge = self.last_reserved(rt, 2);
         self.keeps_words(rt, &mut huge);
         assert_is_in_block_1(rt, &huge);
+        self.writes_alone(rt, &mut huge);
         assert!(rt; give(rt, &self.shared.zone, huge).is_ok());
         let (before, _records) = self.told(rt);
         assert!(rt; (before.free, before.pages, before.huge, before.held) == (767, 1, 1, 256));
@@ -110,6 +111,29 @@ impl<Z: Names> Opening<Z> {
         (read, words)
     }
 
+    /// The words of each frame, one after the other.
+    fn assert_has_words<R: Wait + Abort>(&self, rt: &R, wanted: &[u64]) {
+        let first = FrameNo::new(0).expect(rt, "a frame");
+        let room = self.shared.zone.lock(rt);
+        let zone = room.zone();
+        assert!(rt; zone.blocks() == 2 && first.get() == 0);
+        assert!(rt; zone.words().block(first, 1024) == wanted);
+    }
+
+    /// What is written in the middle of the block of the frames 512 to 767 changes no other word, of whatever frame.
+    fn writes_alone<R: Wait + Abort>(&self, rt: &R, huge: &mut Huge) {
+        let mut wanted = [0; 8192];
+        for at in 0..2048usize {
+            wanted[4096 + at] = at as u64 + 1;
+        }
+        assert!(rt; huge.write(rt, &self.shared.zone, 0, &wanted[4096..6144]) == Ok(()));
+        self.assert_has_words(rt, &wanted);
+        assert!(rt; huge.write(rt, &self.shared.zone, 1001, &[0, u64::MAX]) == Ok(()));
+        wanted[5097] = 0;
+        wanted[5098] = u64::MAX;
+        self.assert_has_words(rt, &wanted);
+    }
+
     /// The words of a fresh block of 256 frames are kept. Those past its last one are refused, and nothing is read or written then.
     fn keeps_words<R: Wait + Abort>(&self, rt: &R, huge: &mut Huge) {
         let last = 256 * 8 - 1;
@@ -126,12 +150,22 @@ fn a_block_is_given_back_or_handed_back(rt: HostRuntime) {
 }
 
 /// While the committer is held, pages are in five places of a round that has one copier: with the scanner, in the first queue, with
-/// the copier, in the second queue and with the committer. Up to eight, each has as many as there is room for.
+/// the copier, in the second queue and with the committer. Up to eight, each has as many as there is room for. With room for nine, the
+/// scanner isolates nine pages at once, which make a batch of eight and one of one, and a queue holds one batch. While the copier is
+/// held, pages are in the first three places alone.
 #[test]
 fn a_collector_isolates_as_far_ahead_as_it_has_room(rt: HostRuntime) {
-    for (room, ahead) in [(1, 5), (3, 15), (8, 40)] {
+    let rooms = [
+        (Point::Ended, 1, 5),
+        (Point::Ended, 3, 15),
+        (Point::Ended, 8, 40),
+        (Point::Ended, 9, 27),
+        (Point::Taken, 9, 18),
+        (Point::Taken, 64, 128),
+    ];
+    for (point, room, ahead) in rooms {
         let until = Until::pages(ahead, Point::Isolated);
-        let plan = Plan::HoldsFirst(Point::Ended, until);
+        let plan = Plan::HoldsFirst(point, until);
         let collector = collector(&rt, 1, room, 1, 9);
         tries(&rt, 1, Some(999), Trial::Collects(&collector, plan, ahead));
     }
