@@ -1,4 +1,3 @@
 pub mod Boxed
 pub mod Either
-pub mod Serials
 pub mod Walks

@@ -1,5 +1,5 @@
 use Rattle.std.proofs.Common.{◌∙◌, sym}
-use Rattle.compactd_c.proofs.Serials.{none_moving}
+use Rattle.zone_core.proofs.Serials.{none_moving}
 use Rattle.compactd_c.proofs.zone.move_named.Goals as goal
 
 pub returns-in_err-serial-clause-none : goal.returns-in_err-serial-clause-none
