@@ -121,7 +121,8 @@ static void tell(const char *when)
 {
     compactd_counts counts = {0, 0, 0, 0, 0, 0, {0, 0}};
 
-    compactd_info(&pool, &counts);
+    if (compactd_info(&pool, &counts) != COMPACTD_OK)
+        return;
     printf("%s: %u buffers, %u moving, %u pageblocks free as a whole, sum %lu\n", when, (unsigned)counts.pages, (unsigned)counts.moving,
            (unsigned)counts.whole, (unsigned long)sum());
 }

@@ -57,9 +57,9 @@ static void take_turn(struct thread *self, uint32_t turn)
         && compactd_store(&shared, self->client, 0, page, 1, value + turn) == COMPACTD_OK)
         self->added += turn;
     if (turn % 3 == 0 && compactd_pin(&shared, self->client, 0, page) == COMPACTD_OK)
-        compactd_unpin(&shared, self->client, 0, page);
+        self->is_well &= compactd_unpin(&shared, self->client, 0, page) == COMPACTD_OK;
     if (compactd_map(&shared, self->client, 0, other, 0, &frame) == COMPACTD_OK)
-        compactd_unmap(&shared, self->client, 0, other);
+        self->is_well &= compactd_unmap(&shared, self->client, 0, other) == COMPACTD_OK;
     if (turn % 5 == 0 && compactd_take_order(&shared, 3, &first) == COMPACTD_OK) {
         words[0] = turn;
         self->is_well &= compactd_write_block(&shared, first, 3, 63, words, 1) == COMPACTD_OK;
@@ -67,7 +67,7 @@ static void take_turn(struct thread *self, uint32_t turn)
         self->is_well &= compactd_give_order(&shared, first, 3) == COMPACTD_OK;
     }
     if (turn % 50 == 0)
-        compactd_begin_round(&shared);
+        self->is_well &= compactd_begin_round(&shared) == COMPACTD_OK;
     if (compactd_isolate(&shared, &moving, words, 8) == COMPACTD_OK)
         self->is_well &= compactd_commit(&shared, &moving, words, 8, &is_so) == COMPACTD_OK;
 }
