@@ -96,7 +96,7 @@ static void measure(const char *what, void (*open)(compactd_pool *), uint32_t ca
     for (run = 0; run < RUNS; run++)
         if ((seconds = seconds_of(open, calls, call)) < best)
             best = seconds;
-    printf("%s\t%.1f\n", what, calls / best / 1e6);
+    printf("%s\t%.2f\n", what, calls / best / 1e6);
 }
 
 /* Every fourth of 4,096 pages is there. */
@@ -129,7 +129,7 @@ static void measure_rounds(const char *what, void (*open)(compactd_pool *))
         is_well &= met;
         need(compactd_close(&pool));
     }
-    printf("%s\t%.1f\n", what, 768 / best / 1e6);
+    printf("%s\t%.2f\n", what, 768 / best / 1e6);
 }
 
 #ifndef PLAIN

@@ -43,7 +43,7 @@ fn timed(mut pool: Pool, work: impl FnOnce(&mut Pool) -> Result<(), Error>) -> R
 fn tell(what: &str, count: u32, mut run: impl FnMut() -> Result<Duration, Error>) -> Result<(), Error> {
     let times: Vec<Duration> = (0..RUNS).map(|_| run()).collect::<Result<_, _>>()?;
     let best = times.into_iter().min().map_or(f64::INFINITY, |time| time.as_secs_f64());
-    println!("{what}\t{:.1}", f64::from(count) / best / 1e6);
+    println!("{what}\t{:.2}", f64::from(count) / best / 1e6);
     Ok(())
 }
 
