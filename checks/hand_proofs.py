@@ -1,15 +1,16 @@
 """Each proof by hand in a crate that can reach an unrecorded list is a file of a table, as it was read.
 
-An unrecorded list (`Told` of `frame_core`) has no bytes: only clauses fix what is in it. The prover's own proofs keep to them. A proof
-by hand of a function that is handed such a list, or anything that has one in it, could give it other items. So in `frame_core` and in
-the crates that stand on it each file that proves by hand, and each source that asks for it by the word `unsafe`, is named in
+An unrecorded list (`GhostList` of `frame_core`) has no bytes: only clauses fix what is in it. The prover's own proofs keep to them. A
+proof by hand of a function that is handed such a list, or anything that has one in it, could give it other items. So in `frame_core` and
+in the crates that stand on it each file that proves by hand, and each source that asks for it by the word `unsafe`, is named in
 `HAND_PROOFS` with its reason and its SHA-256. Another file, or another text of one of these, fails this check. By hand is each file in
 a folder of `proofs/` but the answers and invariants, with which the prover goes on by itself.
 
-The library for C keeps a zone, with the list in it, behind a pointer. The functions of its handle test the pointer, and make of a box
-its pointer and of the pointer a box. What such a proof has of a zone is what the box had: its block, owned as a whole, at one value,
-which goes in and out as it is. The fields of a zone are private to other crates, so these proofs can't name them. They share lemmas,
-so every file in the folder `proofs` of that crate has to be in the table, and none of them may name a list, a journal or a record.
+The library for C keeps a zone, with the list in it, behind a pointer. The functions of its handle test the pointer, lend what lies
+there, and make of a box its pointer and of the pointer a box. What such a proof has of a zone is what the box had: its block, owned as a
+whole, at one value, which goes in and out as it is. The fields of a zone are private to other crates, so these proofs can't name them.
+They share lemmas, so every file in the folder `proofs` of that crate has to be in the table, and none of them may name a list, a journal
+or a record.
 
     python3 checks/hand_proofs.py digests
 
@@ -30,7 +31,7 @@ UNSAFE = re.compile(r"\bunsafe\b")
 # An export's name is marked so, which asks for no proof.
 EXPORTED = "#[unsafe(no_mangle)]"
 BY_ITSELF = {"Answers.antt", "Invariants.antt"}
-OF_A_LIST = re.compile(r"told|unrecorded|journal|records?\b", re.IGNORECASE)
+OF_A_LIST = re.compile(r"told|ghost_?list|unrecorded|journal|records?\b", re.IGNORECASE)
 A_RECORD = re.compile(r"\brecord\b(?= *(\w* *)?\{)")  # `record { .. }` makes a value of any type
 
 HAND_PROOFS = {
@@ -66,13 +67,21 @@ HAND_PROOFS = {
         "the prover has no steps that test a pointer and make a box of it",
         "59f199287027729e1796627c1cf5b5d0da20ee7b2126a0db015949425e38ea7b",
     ),
+    "crates/compactd_c/proofs/pool/Pool/zone/Proof.antt": (
+        "the prover has no steps that test a pointer and lend what lies there",
+        "705f29f9eb54e4bb996a2691f5272dd05a3fe40102f1083a303de0c32cd4f8b3",
+    ),
     "crates/compactd_c/proofs/pool/unboxed/Unboxed/of/Proof.antt": (
         "the prover has no steps that make a pointer of a box",
         "ef41be606049381647691973304bcb6ddaefc82358c4aa7580cdb5f70c2de208",
     ),
+    "crates/compactd_c/proofs/zone/move_named/Answers.antt": (
+        "it cites a law of every zone, and proves no function by hand",
+        "9fbe5e123b3db01332eefadd6f449f764dd41f6d1737ac0163f5aad47344e5c7",
+    ),
     "crates/compactd_c/src/pool.rt": (
-        "it makes a box of its pointer, and may go to another thread",
-        "9f45791056b007b51113965793d9c0beedfdf4d857ce4a7c2e2d9a8ab01219dd",
+        "it makes a box of its pointer or lends what lies there, and may go to another thread",
+        "b26e6210a9cef64380e8af249fc29c7cf52ea60180bc07976e1c91eaa9825807",
     ),
     "crates/frame_core/proofs/seen/Seen/TheSendSync/Send.antt": (
         "a value with no bytes owns nothing, so it may go to any thread",
@@ -160,7 +169,7 @@ PLANTED = {
 NAMING = (
     "use Rattle.frame_core.specs.declared.record.Record.{Record}\n",
     "use Rattle.frame_core.specs.Journal.{Journal}\n",
-    "list : Told\n",
+    "list : GhostList\n",
 )
 NOT_NAMING = ("-- its journal\n", "x = record { a = b }\n", "record Owned {\n")
 

@@ -29,12 +29,12 @@ impl Model for Pool {
 unsafe impl Send for Pool {}
 
 impl Pool {
-    ghost use types.Logic.{sem};
     ghost use Rattle.compactd_c.specs.Lent.{LendsZone};
+    ghost use types.Logic.{sem};
 
-    /// The zone of an open pool, which stays where it is.
+    /// The zone of an open pool. It stays where it is, and the handle isn't written.
     pub fn zone(&mut self) -> Option<&mut Zone>
-        ensures* follows { sem 𝓛 (LendsZone self.entry result) }
+        ensures* lends { sem 𝓛 (LendsZone self.entry result) }
         ensures zone { MatchOption result (self.old.zone ≡ None) (λ zone. self.old.zone ≡ Some zone.now) }
     {
         if self.at.is_null() {
