@@ -1,6 +1,6 @@
 //! How pages are divided into batches.
 
-ghost use Rattle.std.specs.Prelude.{◌<◌, ◌≤◌};
+ghost use Rattle.std.specs.Prelude.{◌≡◌, ◌⊎◌, ◌+◌, ◌*◌, ◌<◌, ◌≤◌};
 
 use hand_core::BATCH_CAPACITY;
 
@@ -33,7 +33,8 @@ impl Division {
     /// How many of this many pages go into a batch of at most `most`, so that each copier gets some where there are enough.
     pub(crate) fn batch_len(self, pages: usize, most: usize) -> usize
         requires { 0 < most }
-        ensures { (0 < result) × (result ≤ most) }
+        ensures some { (0 < result) × (result ≤ most) }
+        ensures shared { result ≡ 1 ⊎ result * self.copiers < pages + self.copiers }
     {
         pages.div_ceil(self.copiers).clamp(1, most)
     }

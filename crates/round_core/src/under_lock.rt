@@ -1,9 +1,9 @@
 //! Steps under one hold of the lock. Each leaves what the lock keeps, as the type of what is under it says.
 
-ghost use Rattle.std.specs.Prelude.{◌≡◌, ◌⊎◌, ◌+◌, ◌<◌, ◌≤◌, [], length, Some, None, IfSome, IfNone, IfOk, IfErr, OnOk, OnErr};
+ghost use Rattle.std.specs.Prelude.{◌≡◌, ◌⊎◌, ◌↔◌, ℕ, ◌+◌, ◌<◌, ◌≤◌, [], true, length, Some, None, IfSome, IfNone, IfOk, IfErr, OnOk, OnErr};
 ghost use Rattle.std.specs.VecDeque.{deque_capacity};
 ghost use Rattle.zone_core.specs.Seats.{seat_begun};
-ghost use Rattle.state_core.specs.Ending.{put_back_to_source};
+ghost use Rattle.state_core.specs.Ending.{is_own, put_back_to_source};
 ghost use Rattle.round_core.specs.Counts.{CountsBack};
 ghost use Rattle.round_core.specs.PuttingBack.{all_put_back};
 ghost use Rattle.round_core.specs.Scanning.{HasBegun, HasIsolated, HasStopped};
@@ -130,6 +130,8 @@ pub(crate) fn commit_copies<K: Keeping, I: Ledger, M: Ledger, B: Ledger>(
     ensures back { K.unpinned → seat.new.back ≡ seat.old.back }
     ensures copies { copies.new.items ≡ [] }
     ensures parts { seat.new.parts ≡ seat.old.parts }
+    // One that was refused before stays refused, under its serial or a lesser one.
+    ensures least { IfSome stranger (λ before. (now : ℕ) × (result ≡ Some now) × (now ≤ before)) }
 {
     while let Some(copy) = copies.pop_front() {
         stranger = least(stranger, commit_copy(room, seat, copy));
@@ -177,6 +179,7 @@ fn put_back_page<K: Keeping, I: Ledger, M: Ledger, B: Ledger>(
     seat: &mut EndSeat<M, B>,
     page: Isolated,
 ) -> Option<Serial>
+    ensures own { result ≡ None ↔ (is_own room.old page ≡ true) }
     ensures put_back { result ≡ None → room.new ≡ put_back_to_source room.old page.serial page.page.number Cause.NotCopied }
     ensures back { result ≡ None → seat.new.back ≡ seat.old.back + 1 }
     ensures seat { CountsBack seat.old seat.new }
