@@ -1,4 +1,4 @@
-ghost use Rattle.std.specs.Prelude.{◌≡◌, ◌+◌, ◌<◌, ◌≤◌, true, None, IfOk, OnOk};
+ghost use Rattle.std.specs.Prelude.{◌≡◌, ◌+◌, ◌<◌, ◌≤◌, true, None, IfOk, OnOk, vec_len};
 ghost use Rattle.frame_core.specs.Moves.{isolated};
 ghost use Rattle.zone_core.specs.ByHand.{by_hand};
 ghost use Rattle.zone_core.specs.Outcome.{IsSame};
@@ -49,6 +49,8 @@ pub fn compact_alone<
     ensures stopped { IfOk result.1 (λ r. r.stopped ≡ stop_by_hand zone) }
     // Where nothing was stuck and the scanners met, the zone is packed.
     ensures packed { IfOk result.1 (λ r. r.stopped ≡ Stop.Met → is_calm zone ≡ true → IsPacked result.0) }
+    // It had as many copiers as were asked for: each has its list.
+    ensures lists { IfOk result.1 (λ r. vec_len r.by_copier ≡ copiers) }
     // Where the seats were whole and no round was begun, the zone is as before.
     ensures unbegun { ¬ (IsBroken seats.old.scan seats.old.ends) → seats.new.scan.rounds ≡ seats.old.scan.rounds → IsSame zone result.0 }
     ensures kept { LockInvariant result.0 }
@@ -92,6 +94,7 @@ fn compact_shared<
     ensures keeps { K.keeps result.0 }
     ensures stops { IfOk result.1 (λ r. K.stops_at seats.new.scan.count r.stopped) }
     ensures none_back { OnOk result.1 (K.unpinned → seats.new.ends.back ≡ seats.old.ends.back) }
+    ensures lists { IfOk result.1 (λ r. vec_len r.by_copier ≡ copiers) }
     ensures kept { LockInvariant result.0 }
     ensures identity { HasIdentity K.number K.blocks result.0 }
     ensures round { IfOk result.1 (λ r. IsRound seats.old.scan seats.new.scan seats.old.ends seats.new.ends r) }

@@ -1,4 +1,4 @@
-ghost use Rattle.std.specs.Prelude.{◌≡◌, ◌+◌, ◌*◌, ◌<◌, ◌≤◌, ◌↔◌, true, map, Some, IsOk, IfOk, IfErr, OnOk, length};
+ghost use Rattle.std.specs.Prelude.{◌≡◌, ◌+◌, ◌*◌, ◌<◌, ◌≤◌, ◌↔◌, true, map, Some, IsOk, IfOk, IfErr, OnOk, length, vec_len};
 ghost use Rattle.round_core.specs.Counts.{AreCounted};
 ghost use Rattle.round_core.specs.Rounds.{AreShared, IsRound, IsRefusedEarly, IsAfter, IsWant};
 ghost use Rattle.round_core.specs.Runs.{CanRun, AreJoined, HasRun, IsLentBack, IsRunOrNot};
@@ -49,6 +49,8 @@ pub fn compact<
     requires begins { K.begins_at seats.old.scan.count }
     ensures stops { IfOk result (λ r. K.stops_at seats.new.scan.count r.stopped) }
     ensures none_back { OnOk result (K.unpinned → seats.new.ends.back ≡ seats.old.ends.back) }
+    // It had as many copiers as were asked for: each has its list.
+    ensures lists { IfOk result (λ r. vec_len r.by_copier ≡ copiers) }
     ensures round { IfOk result (λ r. IsRound seats.old.scan seats.new.scan seats.old.ends seats.new.ends r) }
     ensures early { IsRefusedEarly seats.old.scan seats.new.scan seats.old.ends seats.new.ends result }
 {
@@ -116,7 +118,7 @@ fn in_scope<
     gate: &G,
 ) -> Option<RoundRun>
     requires { CanRun K.begins_at seats.old.scan seats.old.ends memory }
-    ensures { IsRunOrNot K.stops_at K.unpinned seats.old.scan seats.new.scan seats.old.ends seats.new.ends result }
+    ensures { IsRunOrNot K.stops_at K.unpinned (vec_len memory.copier_parts.takers) seats.old.scan seats.new.scan seats.old.ends seats.new.ends result }
 {
     let lent = &mut *seats;
     let (lent, ran) = thread::scope(
@@ -124,7 +126,7 @@ fn in_scope<
         rt,
         move |scope| -> (&mut Seats<I, N, M, B>, Option<RoundRun>)
             requires { CanRun K.begins_at lent.now.scan lent.now.ends memory }
-            ensures { IsLentBack lent.entry.ghost_name result.0.ghost_name × IsRunOrNot K.stops_at K.unpinned lent.entry.now.scan result.0.now.scan lent.entry.now.ends result.0.now.ends result.1 }
+            ensures { IsLentBack lent.entry.ghost_name result.0.ghost_name × IsRunOrNot K.stops_at K.unpinned (vec_len memory.copier_parts.takers) lent.entry.now.scan result.0.now.scan lent.entry.now.ends result.0.now.ends result.1 }
         {
             let ran = run(scope, rt, shared, lent, memory, gate);
             (lent, ran)
@@ -147,6 +149,7 @@ fn wind_up<K: Keeping, I: Ledger, N: Ledger, M: Ledger, B: Ledger, R: Wait>(
     ensures round { IfOk result (λ r. IsAfter before.now seats.old.scan seats.old.ends r) }
     ensures late { IfErr result (λ error. IsWant error → ⊥) }
     ensures stop { IfOk result (λ r. ran.stop ≡ Some r.stopped) }
+    ensures lists { IfOk result (λ r. vec_len r.by_copier ≡ vec_len ran.joined.lists) }
     ensures same { (seats.new.scan ≡ seats.old.scan) × (seats.new.ends ≡ seats.old.ends) }
 {
     let settled = settle_round(ran)?;
@@ -175,6 +178,7 @@ fn settle_round(ran: RoundRun) -> Result<Settlement, RoundError>
     ensures base { IfOk result (λ s. s.base ≡ ran.giver.base) }
     ensures shared { IfOk result (λ s. AreShared (map (λ v. v.items) s.by_copier.items) s.base (length ran.giver.given)) }
     ensures stopped { IfOk result (λ s. ran.stop ≡ Some s.stopped) }
+    ensures lists { IfOk result (λ s. vec_len s.by_copier ≡ vec_len ran.joined.lists) }
     ensures late { IfErr result (λ error. IsWant error → ⊥) }
 {
     let stopped = stop_of(&ran)?;

@@ -70,7 +70,8 @@ fn join_copiers<R: Threads>(
 ) -> CopierResults
     requires copiers { All (λ c. c.promise.taker.value.hand_over ≡ giver.now.hand_over) copiers.items }
     requires joined { IsEmpty (vec_len copiers) joined }
-    ensures { AreJoined giver.now result }
+    ensures joined { AreJoined giver.now result }
+    ensures lists { vec_len result.lists ≡ vec_len copiers }
 {
     while let Some(copier) = copiers.pop() {
         let Carried {
@@ -169,7 +170,7 @@ fn run_crew<K: Keeping, I: Ledger, N: Ledger, M: Ledger, B: Ledger, G: Gate, R: 
     requires pages { (pages.list.items ≡ []) × (0 < deque_capacity pages.list) }
     requires joined { IsEmpty (vec_len crew.copiers) joined }
     requires begins { K.begins_at scan.old.count }
-    ensures ran { IsRunOver K.stops_at K.unpinned scan.old scan.new ends.old ends.new result }
+    ensures ran { IsRunOver K.stops_at K.unpinned (vec_len crew.copiers) scan.old scan.new ends.old ends.new result }
     ensures ends { (ends.new.parts ≡ ends.old.parts + 1) × (ends.old.moved ≤ ends.new.moved) × (ends.old.back ≤ ends.new.back) }
 {
     let Crew {
@@ -219,7 +220,7 @@ pub(crate) fn run<
     gate: &'e G,
 ) -> Option<RoundRun>
     requires { CanRun K.begins_at seats.old.scan seats.old.ends memory }
-    ensures { IsRunOrNot K.stops_at K.unpinned seats.old.scan seats.new.scan seats.old.ends seats.new.ends result }
+    ensures { IsRunOrNot K.stops_at K.unpinned (vec_len memory.copier_parts.takers) seats.old.scan seats.new.scan seats.old.ends seats.new.ends result }
 {
     let Memory {
         copier_parts,

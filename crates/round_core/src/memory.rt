@@ -71,7 +71,8 @@ pub(crate) fn reserve<R>(
 ) -> Result<Memory, AllocError>
     requires copiers { (0 < copiers) × (copiers ≤ 4) }
     requires cap { (0 < cap) × (cap ≤ 64) }
-    ensures { IfOk result (IsReady base) }
+    ensures ready { IfOk result (IsReady base) }
+    ensures copiers { IfOk result (λ memory. vec_len memory.copier_parts.takers ≡ copiers) }
 {
     let division = Division::new(copiers, cap);
     let hold = division.pages_a_hold();

@@ -20,4 +20,5 @@ loop-copier-preserved g c =
             listed_more (λ v. v.items) joined.lists.items c.push_reserved-in-Some.new.self.items joined.takers.items c.push_reserved.new.self.items
             c.join-taker.result.serials c.join-taker.result.taker c.push_reserved-in-Some.ensures.items c.push_reserved.ensures.items (c.join-taker.ensures.serials each.1) (old.joined.listed each.0));
       };
+      lists = search rules;
     }

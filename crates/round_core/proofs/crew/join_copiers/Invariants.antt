@@ -8,6 +8,7 @@ invariant-loop-copier g l = record {
   room : vec_len l.joined.takers + vec_len l.copiers ≤ vec_capacity l.joined.takers;
   room_of_lists : vec_len l.joined.lists + vec_len l.copiers ≤ vec_capacity l.joined.lists;
   joined : AreJoined l.giver l.joined;
+  lists : vec_len l.joined.lists + vec_len l.copiers ≡ vec_len l.fn.copiers;
 }
 
 abbrev pub decreases-loop-copier : goal.decreases-loop-copier
