@@ -128,11 +128,17 @@ pub fn pages() -> &'static [Case<'static>] {
     &PAGES
 }
 
-static PAGES: [Case<'static>; 9] = [
+static PAGES: [Case<'static>; 10] = [
     Case {
         name: "zones that can't be opened",
         script: b"info 0\nzone 4 1\nzone 0 9\nzone 0 1\nzone 0 1\n",
         replies: b"refused 43\nrefused 1\nrefused 1\nok\nrefused 44\n",
+        ..NOTHING
+    },
+    Case {
+        name: "each of four zones is opened and used",
+        script: b"zone 0 1\nzone 1 1\nzone 2 2\nzone 3 1\nmap 1 0 0\nmap 2 0 0\nmap 2 0 1\ninfo 0\ninfo 1\ninfo 2\ninfo 3\n",
+        replies: b"ok\nok\nok\nok\nok\nok\nok\nfree=512 pages=0 moving=0 huge=0 whole=1\nfree=511 pages=1 moving=0 huge=0 whole=0\nfree=1022 pages=2 moving=0 huge=0 whole=1\nfree=512 pages=0 moving=0 huge=0 whole=1\n",
         ..NOTHING
     },
     Case {
