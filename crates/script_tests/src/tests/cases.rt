@@ -136,9 +136,9 @@ static PAGES: [Case<'static>; 10] = [
         ..NOTHING
     },
     Case {
-        name: "each of four zones is opened and used",
-        script: b"zone 0 1\nzone 1 1\nzone 2 2\nzone 3 1\nmap 1 0 0\nmap 2 0 0\nmap 2 0 1\ninfo 0\ninfo 1\ninfo 2\ninfo 3\n",
-        replies: b"ok\nok\nok\nok\nok\nok\nok\nfree=512 pages=0 moving=0 huge=0 whole=1\nfree=511 pages=1 moving=0 huge=0 whole=0\nfree=1022 pages=2 moving=0 huge=0 whole=1\nfree=512 pages=0 moving=0 huge=0 whole=1\n",
+        name: "the zone with the number 2",
+        script: b"zone 2 1\nmap 2 0 0\nstore 2 0 0 1 5\nload 2 0 0 1\ninfo 2\ninfo 0\nzone 0 1\n",
+        replies: b"ok\nok\nok\nvalue=5\nfree=511 pages=1 moving=0 huge=0 whole=0\nrefused 43\nrefused 44\n",
         ..NOTHING
     },
     Case {
