@@ -32,9 +32,9 @@ page_is (Some named) page e = ap Some (eqb-true named page e)
 pub has_name : (v : ZoneState) → IsValidZone v → (page : ℕ) (placement : Placement) → map.get v.placement page ≡ Some placement → ((a : Address) → page_at v.records a ≡ Some page → ⊥) → ⊥
 has_name v valid page placement at none =
     let unnamed = λ (i j : ℕ) (h : i < 8) (l : j < 4096). let a : Address = record { space = i; vpage = j } in
-      false_from_ne_true (names v.records a page) (λ is. none a (page_is (page_at v.records a) page is)) in
+    false_from_ne_true (names v.records a page) (λ is. none a (page_is (page_at v.records a) page is)) in
     let few : maps v.records page ≡ 0 = pairs_same_below (λ space vpage. names v.records (record { space = space; vpage = vpage }) page) (λ i j. false) 8 4096 unnamed
-      ∙ pairs_none (λ i j. false) 8 4096 (λ i j. refl) in
+    ∙ pairs_none (λ i j. false) 8 4096 (λ i j. refl) in
     let some = (valid.agrees.in_use page (not_none (map.get v.placement page) placement at)).0 in omega (arith, few, some)
 
 module _ (v : ZoneState) (valid : IsValidZone v) (entries : List Entry) (fit : EntriesFit entries v) (page serial source target : ℕ) (at : map.get v.placement page ≡ Some (Moving serial source target)) where
