@@ -117,7 +117,14 @@ impl<Z: Names> Opening<Z> {
         let room = self.shared.zone.lock(rt);
         let zone = room.zone();
         assert!(rt; zone.blocks() == 2 && first.get() == 0);
-        assert!(rt; zone.words().block(first, 1024) == wanted);
+        let words = zone.words().block(first, 1024);
+        assert!(rt; words.len() == wanted.len());
+        for at in 0..words.len() {
+            assert!(rt;
+                words.get(at).copied() == wanted.get(at).copied(),
+                "word {at}"
+            );
+        }
     }
 
     /// What is written in the middle of the block of the frames 512 to 767 changes no other word, of whatever frame.
