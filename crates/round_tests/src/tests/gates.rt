@@ -4,11 +4,9 @@ use std::process::Abort;
 use std::sync::atomic::{AtomicU64, Ordering};
 use std::thread::yield_now;
 
-/// After so many turns a gate gives up, and the test fails.
-const GATE_TURNS: u32 = 1_000_000;
-
-/// A client, or a round that waits for clients, is more patient: threads are started meanwhile.
-const CLIENT_TURNS: u32 = 20_000_000;
+/// After so many turns a gate, or a client that waits, gives up, and the test fails. On a busy machine a thread may get its turn after
+/// milliseconds alone, and some wait for hundreds of turns of others.
+const TURNS: u32 = 20_000_000;
 
 /// Lets other threads run for so many turns.
 pub fn linger(turns: u32) {
@@ -107,9 +105,9 @@ impl Watch {
             && self.spoken.load(Ordering::SeqCst) >= until.spoken
     }
 
-    /// Waits so many turns at most. Whether it came to what was waited for.
-    fn comes_to(&self, until: Until, turns: u32) -> bool {
-        for _turn in 0..turns {
+    /// Whether it comes to what is waited for.
+    fn comes_to(&self, until: Until) -> bool {
+        for _turn in 0..TURNS {
             if self.has_come_to(until) {
                 return true;
             }
@@ -120,11 +118,11 @@ impl Watch {
 
     /// Waits as a client does.
     pub fn assert_comes_to(&self, rt: &impl Abort, until: Until) {
-        assert!(rt; self.comes_to(until, CLIENT_TURNS), "waited in vain");
+        assert!(rt; self.comes_to(until), "waited in vain");
     }
 
     fn hold(&self, until: Until) {
-        if !self.comes_to(until, GATE_TURNS) {
+        if !self.comes_to(until) {
             self.held_in_vain.store(1, Ordering::SeqCst);
         }
         linger(1000);
