@@ -2,7 +2,7 @@
 use Rattle.std.proofs.Common.{◌≡◌, ℕ, zero, suc, ◌+◌, ◌-◌, ◌*◌, ◌<◌, ◌≤◌, List, [], ◌∷◌, ◌++◌, length, take, drop, get_or, replicate, refl, sym, ap, subst, ◌∙◌, arith}
 use Rattle.std.specs.Prelude.{slice_set}
 use Rattle.std.specs.List.{All, refill}
-use Rattle.std.proofs.lemmas.List.{append_assoc, append-nil, drop_all, drop_at, drop-append-le, drop-drop, length-append, length-drop, length-replicate, length-take-le, replicate-append-replicate, take_all, take_at, take-append-drop, take-append-le, take-set-le}
+use Rattle.std.proofs.lemmas.List.{append_assoc, append-nil, drop_all, drop_at, drop-append-le, drop-drop, drop-take, length-append, length-drop, length-replicate, length-take-le, replicate-append-replicate, take_all, take_at, take-append-drop, take-append-le, take-set-le, take-take}
 use Rattle.std.proofs.lemmas.List.Concat.{flat_map-cons}
 use Rattle.std.proofs.lemmas.Grind.{drop-set_at}
 use Rattle.std.proofs.lemmas.Option.{unwrap_or-slice_get}
@@ -52,6 +52,12 @@ words_within size first frames n within =
     let all : n * size ≡ (first + frames + (n - (first + frames))) * size = ap (λ (m : ℕ). m * size) rest in
     omega (arith, all)
 
+-- as many words came back as were lent
+refill_all : (old new : List ℕ) → length new ≡ length old → refill (length old) old new ≡ new
+refill_all old new same =
+    ap (λ (ws : List ℕ). take (length old) (new ++ ws)) (drop_all (length new) old (omega (arith, same)))
+    ∙ ap (take (length old)) (append-nil new) ∙ take_all (length old) new (omega (arith, same))
+
 -- a part of the words was lent, and came back as others
 module _ (old part : List ℕ) (from count : ℕ) (within : from + count ≤ length old) (same : length part ≡ count) where
   abbrev pub with_part : List ℕ
@@ -63,8 +69,7 @@ module _ (old part : List ℕ) (from count : ℕ) (within : from + count ≤ len
       let long : length with_part ≡ length old = length-append (take from old) (part ++ drop (from + count) old)
       ∙ omega (arith, begins, same, length-append part (drop (from + count) old), length-drop (from + count) old) in
       ap (λ (ws : List ℕ). refill (length old) old (take from old ++ (part ++ ws))) (Post-is from (from + count) old (omega arith))
-      ∙ ap (λ (ws : List ℕ). take (length old) (with_part ++ ws)) (drop_all (length with_part) old (omega (arith, long)))
-      ∙ ap (take (length old)) (append-nil with_part) ∙ take_all (length old) with_part (omega (arith, long))
+      ∙ refill_all old with_part long
 
 module _ (size n : ℕ) (words : List ℕ) (long : length words ≡ n * size) (first frames : ℕ) (within : first + frames ≤ n) where
   abbrev pub front : List ℕ
@@ -248,6 +253,61 @@ pub one_stored : (old new : List (List ℕ)) (frame from : ℕ) (values : List �
 one_stored old new frame from values within is =
     one_changed old new frame (put_from (block_words old frame 1) from values) within is
     ∙ ap (λ (row : List ℕ). with_words old frame (put_from row from values)) (one_row old frame within)
+
+-- the words of a frame are copied into a higher one: the list was parted where the words of the higher frame begin
+module _ (size n : ℕ) (words : List ℕ) (long : length words ≡ n * size) (seen : List (List ℕ)) (seen_is : rows_of size n words ≡ seen) (from to : ℕ) (upward : from < to) (enough : to < length seen) (begin : ℕ) (begin_is : begin ≡ to) (lent : List ℕ) (lent_is : lent ≡ words) (below above : List ℕ) (below_is : below ≡ take (begin * size) lent) (above_is : above ≡ drop (begin * size) lent) where
+  to_within : to + 1 ≤ n
+  to_within = omega (arith, enough, ap length seen_is, length-rows_of size n words)
+
+  long_enough : to * size + size ≤ length words
+  long_enough = omega (arith, long, words_within size to 1 n to_within)
+
+  words_below : below ≡ take (to * size) words
+  words_below = below_is ∙ (λ i. take (begin_is i * size) (lent_is i))
+
+  words_above : above ≡ drop (to * size) words
+  words_above = above_is ∙ (λ i. drop (begin_is i * size) (lent_is i))
+
+  from_below : from * size + 1 * size ≤ to * size
+  from_below = words_within size from 1 to (omega (arith, upward))
+
+  pub above_enough : size ≤ length above
+  above_enough = omega (arith, ap length words_above, length-drop (to * size) words, long_enough)
+
+  pub below_enough : from * size + size ≤ length below
+  below_enough = omega (arith, ap length words_below, length-take-le (to * size) words (omega (arith, long_enough)), from_below)
+
+  pub taken_count : length (take (from * size + size - from * size) (drop (from * size) below)) ≡ size
+  taken_count =
+      let count : from * size + size - from * size ≡ size = omega arith in
+      ap (λ (k : ℕ). length (take k (drop (from * size) below))) count
+      ∙ length-take-le size (drop (from * size) below) (omega (arith, below_enough, length-drop (from * size) below))
+
+  taken_words : take (from * size + size - from * size) (drop (from * size) below) ≡ words_of seen from
+  taken_words =
+      let count : from * size + size - from * size ≡ 1 * size = omega arith in
+      (λ i. take (count i) (drop (from * size) (words_below i)))
+      ∙ sym (drop-take (from * size) (1 * size) (take (to * size) words))
+      ∙ ap (drop (from * size)) (take-take (from * size + 1 * size) (to * size) words from_below)
+      ∙ drop-take (from * size) (1 * size) words
+      ∙ sym (part_is size n words long from 1 (omega (arith, upward, to_within)))
+      ∙ ap (λ (rs : List (List ℕ)). block_words rs from 1) seen_is
+      ∙ one_row seen from (omega (arith, upward, enough))
+
+  pub copied_up : (ws : List ℕ) → ws ≡ take (from * size + size - from * size) (drop (from * size) below)
+      → rows_of size n (refill (length words) words (below ++ (ws ++ drop size above))) ≡ with_words seen to (words_of seen from)
+  copied_up ws taken =
+      let count : length ws ≡ size = ap length taken ∙ taken_count in
+      let same : length ws ≡ 1 * size = omega (arith, count) in
+      let one : size ≡ 1 * size = omega arith in
+      let rest : drop size above ≡ drop (to * size + 1 * size) words = (λ i. drop (one i) (words_above i)) ∙ drop-drop (1 * size) (to * size) words in
+      let put = take (to * size) words ++ (ws ++ drop (to * size + 1 * size) words) in
+      let put_long : length put ≡ length words = length-append (take (to * size) words) (ws ++ drop (to * size + 1 * size) words)
+      ∙ omega (arith, same, long_enough, length-take-le (to * size) words (omega (arith, long_enough)), length-append ws (drop (to * size + 1 * size) words), length-drop (to * size + 1 * size) words) in
+      (λ i. rows_of size n (refill (length words) words (words_below i ++ (ws ++ rest i))))
+      ∙ ap (rows_of size n) (refill_all words put put_long)
+      ∙ one_changed seen (rows_of size n put) to ws enough (subst (λ (rs : List (List ℕ)). HasBlock rs (rows_of size n put) to 1 ws) seen_is (has_words size n words long to 1 to_within ws same))
+      ∙ ap (with_words seen to) (taken ∙ taken_words)
 
 -- rows of zeros
 pub blank_rows : (size n : ℕ) (words : List ℕ) → words ≡ replicate (n * size) 0 → rows_of size n words ≡ replicate n (replicate size 0)

@@ -193,6 +193,19 @@ impl<const W: usize> Words<W> {
         self.store_block(frame, 1, 0, page.words());
     }
 
+    /// Copies the words of a frame into a higher one, in one pass.
+    pub fn copy(&mut self, from: FrameNo, to: FrameNo)
+        requires upward { from < to }
+        requires within { to < length self.old }
+        ensures copied { self.new ≡ with_words self.old to (words_of self.old from) }
+        ensures frames { length self.new ≡ length self.old }
+    {
+        let words = &mut self.words;
+        let (below, above) = words.split_at_mut(to.get() as usize * W);
+        let from = from.get() as usize * W;
+        above[..W].copy_from_slice(&below[from..from + W]);
+    }
+
     fn row(&self, frame: FrameNo) -> &[u64]
         requires { frame < length self.now }
         ensures value { result.now ≡ words_of self.now frame }
