@@ -1,9 +1,10 @@
 //! How the move of a page ends.
 
-ghost use Rattle.std.specs.Prelude.{◌≡◌, ◌<◌, ◌+◌, ◌↔◌, length, nat_lt, nat_eq, not, true, IsTrue, IsSome, IfSome, Some, IfOk};
+ghost use Rattle.std.specs.Prelude.{◌≡◌, ◌<◌, ◌≤◌, ◌+◌, ◌↔◌, length, nat_lt, nat_eq, not, true, IsTrue, IsSome, IfSome, Some, IfOk};
 ghost use Rattle.std.specs.FinMap as map;
 ghost use Rattle.frame_core.specs.History.{pins};
 ghost use Rattle.frame_core.specs.Moves.{out, isolated, moved, put_back};
+ghost use Rattle.frame_core.specs.Words.{words_of, with_words};
 ghost use Rattle.state_core.specs.Valid.{IsValidZone};
 ghost use Rattle.state_core.specs.Ending.{HasCause, IsSettled, is_own, moved_to_target, put_back_to_source};
 ghost use Rattle.state_core.specs.Carrying.{words_now};
@@ -11,7 +12,7 @@ ghost use Rattle.state_core.specs.ZoneState.{is_quiet};
 ghost use Rattle.state_core.specs.declared.placement.Placement.TheVariants.{Moving};
 
 use crate::zone::ZoneTables;
-use frame_core::{Cause, FrameNo, PageNo, PageOf, Record, Serial};
+use frame_core::{Cause, FrameNo, PageNo, PageOf, Record, Serial, WordsOf};
 use state_core::{Audit, Placement};
 
 /// A moving page, with its serial and its two frames.
@@ -79,6 +80,32 @@ impl<const W: usize> ZoneTables<W> {
         ensures valid { IsValidZone self.new }
         ensures settled { IsSettled self.old self.new way.now.page way.now.target way.now.source }
     {
+        self.arrive_with(way, Some(copy));
+    }
+
+    /// Ends a move of which nobody has a copy: the page is in its target, with the words of its source.
+    #[inline(always)]
+    pub fn carry(&mut self, way: &Move)
+        requires size { W ≤ 65536 }
+        requires placed { map.get self.old.placement way.now.page ≡ Some (Moving way.now.serial way.now.source way.now.target) }
+        requires unpinned { pins self.old.records way.now.page ≡ 0 }
+        ensures step { self.new ≡ moved_to_target self.old way.now.serial way.now.page }
+        ensures valid { IsValidZone self.new }
+        ensures settled { IsSettled self.old self.new way.now.page way.now.target way.now.source }
+    {
+        self.arrive_with(way, None);
+    }
+
+    /// Ends a move: the page is in its target, with the words of its copy, if it has one, and else with those of its source.
+    #[inline(always)]
+    fn arrive_with(&mut self, way: &Move, copy: Option<&PageOf<W>>)
+        requires placed { map.get self.old.placement way.now.page ≡ Some (Moving way.now.serial way.now.source way.now.target) }
+        requires unpinned { pins self.old.records way.now.page ≡ 0 }
+        requires words { IfSome copy (λ page. page.now.words ≡ words_now self.old way.now.page) }
+        ensures step { self.new ≡ moved_to_target self.old way.now.serial way.now.page }
+        ensures valid { IsValidZone self.new }
+        ensures settled { IsSettled self.old self.new way.now.page way.now.target way.now.source }
+    {
         let Move {
             page,
             serial,
@@ -88,7 +115,7 @@ impl<const W: usize> ZoneTables<W> {
         let note = self.notes.get(page);
         self.frames.leave(source);
         self.frames.settle(target, page, note.can_move());
-        self.words.write_in(target, copy);
+        fill_target(&mut self.words, way, copy);
         self.tables.to_present(serial, source, target);
         self.moves.arrive();
         self.notes.place(page, Placement::At(target));
@@ -145,5 +172,19 @@ impl<const W: usize> ZoneTables<W> {
             return None;
         }
         Some(self.moves.counts())
+    }
+}
+
+/// Gives the target of a moving page the words of its copy, if it has one, and else those of its source.
+#[inline(always)]
+fn fill_target<const W: usize>(words: &mut WordsOf<W>, way: &Move, copy: Option<&PageOf<W>>)
+    requires upward { way.now.source < way.now.target }
+    requires within { way.now.target < length words.old }
+    requires same { IfSome copy (λ page. page.now.words ≡ words_of words.old way.now.source) }
+    ensures { words.new ≡ with_words words.old way.now.target (words_of words.old way.now.source) }
+{
+    match copy {
+        Some(page) => words.write_in(way.target, page),
+        None => words.copy(way.source, way.target),
     }
 }

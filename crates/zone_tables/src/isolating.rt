@@ -12,6 +12,7 @@ ghost use Rattle.state_core.specs.Swept.{IsSwept};
 ghost use Rattle.state_core.specs.ZoneState.{frame_count};
 ghost use Rattle.state_core.specs.declared.placement.Placement.TheVariants.{At};
 
+use crate::ending::Move;
 use crate::zone::ZoneTables;
 use frame_core::{FrameNo, FrameState, IsolatedOf, PageFlags, PageNo, Record};
 use scan_core::{Fingers, Step};
@@ -58,7 +59,7 @@ impl<const W: usize> ZoneTables<W> {
         PageFlags::of(note.unmovable, note.dirty)
     }
 
-    /// Isolates the page of the next pair under the next serial.
+    /// Isolates the page of the next pair under the next serial, and answers it with its flags and words.
     #[inline(always)]
     pub fn isolate(&mut self, pair: Pair) -> IsolatedOf<W>
         requires pair { IsPair self.old pair.page pair.source pair.target }
@@ -67,12 +68,28 @@ impl<const W: usize> ZoneTables<W> {
         ensures step { self.new ≡ isolated_next self.old pair }
         ensures valid { IsValidZone self.new }
     {
+        let flags = self.flags_of(pair.page);
+        let way = self.begin_move(pair);
+        let carried = self
+            .words
+            .read_out(way.source, self.number, way.page, flags);
+        IsolatedOf::new(way.serial, carried)
+    }
+
+    /// Isolates the page of the next pair under the next serial. Its words stay in its frame until its move ends.
+    #[inline(always)]
+    pub fn begin_move(&mut self, pair: Pair) -> Move
+        requires pair { IsPair self.old pair.page pair.source pair.target }
+        requires accepted { isolate_refusal self.old ≡ None }
+        ensures way { result ≡ record { page = pair.page; serial = isolated self.old.records; source = pair.source; target = pair.target } }
+        ensures step { self.new ≡ isolated_next self.old pair }
+        ensures valid { IsValidZone self.new }
+    {
         let Pair {
             page,
             source,
             target,
         } = pair;
-        let flags = self.flags_of(page);
         let serial = self.moves.isolate(page, source);
         self.frames.to_source(source, serial);
         self.frames.to_target(target, serial);
@@ -86,8 +103,12 @@ impl<const W: usize> ZoneTables<W> {
         self.fingers.migrate = source.get() + 1;
         self.fingers.free = target.get();
         self.history.note(Record::Isolate { serial, page });
-        let carried = self.words.read_out(source, self.number, page, flags);
-        IsolatedOf::new(serial, carried)
+        Move {
+            page,
+            serial,
+            source,
+            target,
+        }
     }
 
     /// Whether a round that begins now is calm.

@@ -1,7 +1,8 @@
 use Rattle.std.proofs.Common.{◌≡◌, ◌∙◌, ◌+◌, ◌∷◌, ℕ, List, refl, ap, subst, sym, arith}
-use Rattle.std.specs.Prelude.{Some, is_some, length, slice_set}
+use Rattle.std.specs.Prelude.{◌<◌, Some, IfSome, is_some, length, slice_set}
 use Rattle.frame_core.specs.declared.state.FrameState.TheVariants.{Free, Holds}
 use Rattle.frame_core.specs.declared.record.Record.TheVariants.{Moved}
+use Rattle.frame_core.specs.Words.{words_of}
 use Rattle.scan_core.specs.Frames.{Frames}
 use Rattle.state_core.specs.Pairs.{can_move}
 use Rattle.zone_tables.proofs.Facts.{is_sound}
@@ -11,7 +12,7 @@ use Rattle.zone_tables.specs.Moves.{Moves}
 use Rattle.zone_tables.proofs.HeldWords.{contents_kept}
 use Rattle.zone_tables.specs.declared.zone.ZoneTables.TheInside.{Inside}
 use Rattle.state_core.specs.declared.placement.Placement.TheVariants.{At, Moving}
-use Rattle.state_core.specs.Carrying.{relocated}
+use Rattle.state_core.specs.Carrying.{relocated, words_now}
 use Rattle.state_core.specs.Ending.{IsSettled, target_of}
 use Rattle.zone_tables.specs.Contents.{contents_at}
 use Rattle.zone_tables.specs.Tabulated.{tabulated}
@@ -21,9 +22,9 @@ use Rattle.state_core.proofs.Settled.{can_move_on, moved_recorded, frames_apart,
 use Rattle.zone_tables.proofs.MoveEnds.{moved_frames, moved_words, kept_movable, left_settled, target_still, source_on_way, source_left, source_listed, target_left, target_listed, target_row, target_unheld, moved_settled, some_on_the_way, ending_room}
 use Rattle.zone_tables.proofs.Placement.{SourcesPlaced}
 use Rattle.zone_tables.proofs.Relocation.{Settling, FramesSettled, MovableSettled, WordsSettled, settle_invariant, settle_view}
-use Rattle.zone_tables.proofs.zone.ZoneTables.arrive.Given.{Over}
-use Rattle.zone_tables.proofs.zone.ZoneTables.arrive.Goals as goal
-use Rattle.zone_tables.proofs.zone.ZoneTables.arrive.Goals.{After-note}
+use Rattle.zone_tables.proofs.zone.ZoneTables.arrive_with.Given.{Over}
+use Rattle.zone_tables.proofs.zone.ZoneTables.arrive_with.Goals as goal
+use Rattle.zone_tables.proofs.zone.ZoneTables.arrive_with.Goals.{After-note}
 
 pub arrive-requires : goal.arrive-requires
 arrive-requires g c = some_on_the_way c.self.view_is c.self.invariant c.args.way.now.page c.requires.placed
@@ -34,8 +35,15 @@ leave-requires g c = source_on_way c.self.view_is c.self.invariant c.args.way.no
 pub settle-requires : goal.settle-requires
 settle-requires g c = target_still c.self.view_is c.self.invariant c.args.way.now.page c.requires.placed c.leave.new.self c.leave.ensures.state
 
-pub write_in-requires : goal.write_in-requires
-write_in-requires g c = omega (arith, target_row c.self.view_is c.self.invariant c.args.way.now.page c.requires.placed)
+pub fill_target-requires : goal.fill_target-requires
+fill_target-requires g c =
+    let sound = is_sound c.self.view_is c.self.invariant in
+    let way = c.args.way.now in
+    let upward : way.source < way.target = sound.valid.pages.upward way.page way.serial way.source way.target c.requires.placed in
+    let within : way.target < length c.self.inside.words = target_row c.self.view_is c.self.invariant way.page c.requires.placed in
+    let seen : words_of c.self.inside.words way.source ≡ words_now c.args.self.now way.page = words_seen c.self.inside.words c.args.self.now sound.words sound.valid way.page (Moving way.serial way.source way.target) c.requires.placed in
+    let same = subst (λ (words : List ℕ). IfSome c.args.copy (λ page. page.now.words ≡ words)) (sym seen) c.requires.words in
+    (omega arith, (omega arith, (upward, (within, same))))
 
 pub place-requires : goal.place-requires
 place-requires g c = ap is_some (placement_seen c.self.inside c.args.self.now c.self.view_is c.args.way.now.page ∙ c.requires.placed)
@@ -48,7 +56,7 @@ abbrev after : {g : Over} → After-note g → Inside g.row.W
 after c = record c.self.inside {
   frames = c.settle.new.self;
   tables = c.to_present.new.self;
-  words = c.write_in.new.self;
+  words = c.fill_target.new.words;
   notes = c.place.new.self;
   moves = c.arrive.new.self;
   history = c.note.new.self;
@@ -80,8 +88,8 @@ settling {g = g} c =
           (kept_movable z.frames.movable (can_move v way.page) c.can_move.result way.target (omega (arith, target_here, sound.movable.count))
           (c.can_move.ensures ∙ movable_seen z v way.page c.get-note.result (note_seen c.self.view_is sound (not_none _ (Moving way.serial way.source way.target) at) c.get-note.ensures)));
       tables = c.to_present.ensures.replaced;
-      words = subst (λ (rows : List (List ℕ)). WordsSettled v.page_size z.words rows (Moving way.serial way.source way.target) (At way.target)) (sym c.write_in.ensures.written)
-          (moved_words z.words c.args.copy.now.words way.serial way.source way.target (omega (arith, target_here, sound.words.count)) (c.requires.words ∙ sym (words_seen z.words v sound.words law way.page (Moving way.serial way.source way.target) at)) (c.write_in.ensures.size ∙ ap (λ (u : ZoneState). u.page_size) c.self.view_is));
+      words = subst (λ (rows : List (List ℕ)). WordsSettled v.page_size z.words rows (Moving way.serial way.source way.target) (At way.target)) (sym c.fill_target.ensures)
+          (moved_words z.words (words_of z.words way.source) way.serial way.source way.target (omega (arith, target_here, sound.words.count)) refl (sound.words.sized way.source source_in));
       notes = c.place.ensures c.get-note.result c.get-note.ensures;
       moves = subst (λ (moves : Moves). MovesFit moves (Moved way.serial ∷ v.records)) (sym c.arrive.ensures)
           (record { isolated = sound.moves.isolated; moved = ap (λ n. n + 1) sound.moves.moved; back = sound.moves.back });
@@ -92,8 +100,8 @@ settling {g = g} c =
       history = c.note.ensures;
       frames_same = c.to_present.ensures.frames;
       rest_same = refl;
-      contents_same = ap (λ (rows : List (List ℕ)). tabulated (contents_at g.row.W rows z.cleared z.handed_out) (length z.handed_out)) c.write_in.ensures.written
-          ∙ contents_kept z v sound c.self.view_is way.target c.args.copy.now.words (target_unheld c.self.view_is c.self.invariant c.args.way.now.page c.requires.placed);
+      contents_same = ap (λ (rows : List (List ℕ)). tabulated (contents_at g.row.W rows z.cleared z.handed_out) (length z.handed_out)) c.fill_target.ensures
+          ∙ contents_kept z v sound c.self.view_is way.target (words_of z.words way.source) (target_unheld c.self.view_is c.self.invariant c.args.way.now.page c.requires.placed);
     }
 
 pub invariant_of-self : goal.invariant_of-self

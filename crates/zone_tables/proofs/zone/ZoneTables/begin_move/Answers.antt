@@ -19,16 +19,16 @@ use Rattle.zone_tables.specs.Fits.{MovesFit}
 use Rattle.zone_tables.specs.History.{told}
 use Rattle.zone_tables.specs.Moves.{Moves}
 use Rattle.state_core.proofs.Facts.{frame_within, not_none, room_and_serial}
-use Rattle.zone_tables.proofs.Tables.{placement_seen, note_within, words_seen}
+use Rattle.zone_tables.proofs.Tables.{placement_seen, note_within}
 use Rattle.zone_tables.specs.Notes.{unused_note}
 use Rattle.zone_tables.specs.declared.note.PageNote.{PageNote}
 use Rattle.zone_tables.proofs.Isolation.{isolated_frames, isolated_words, isolated_movable, isolated_sources}
 use Rattle.state_core.proofs.Settled.{can_isolate, isolate_recorded, target_within, swept_if_isolated}
 use Rattle.zone_tables.proofs.Placement.{SourcesPlaced}
 use Rattle.zone_tables.proofs.Relocation.{Settling, FramesSettled, MovableSettled, settle_invariant, settle_view}
-use Rattle.zone_tables.proofs.zone.ZoneTables.isolate.Given.{Over}
-use Rattle.zone_tables.proofs.zone.ZoneTables.isolate.Goals as goal
-use Rattle.zone_tables.proofs.zone.ZoneTables.isolate.Goals.{After-read_out-carried}
+use Rattle.zone_tables.proofs.zone.ZoneTables.begin_move.Given.{Over}
+use Rattle.zone_tables.proofs.zone.ZoneTables.begin_move.Goals as goal
+use Rattle.zone_tables.proofs.zone.ZoneTables.begin_move.Goals.{After-note}
 
 pub to_source-requires : goal.to_source-requires
 to_source-requires g c =
@@ -61,17 +61,17 @@ place-requires g c =
     ap is_some (placement_seen c.self.inside c.args.self.now c.self.view_is c.args.pair.page ∙ c.requires.pair.from.here)
 
 -- the note of the page after it was isolated
-abbrev noted : {g : Over} → After-read_out-carried g → PageNote
+abbrev noted : {g : Over} → After-note g → PageNote
 noted c = get_or c.self.inside.notes c.args.pair.page unused_note
 
-note_is : {g : Over} (c : After-read_out-carried g) → slice_get c.self.inside.notes c.args.pair.page ≡ Some (noted c)
+note_is : {g : Over} (c : After-note g) → slice_get c.self.inside.notes c.args.pair.page ≡ Some (noted c)
 note_is c =
     let sound = is_sound c.self.view_is c.self.invariant in
     let used = not_none _ (At c.args.pair.source) c.requires.pair.from.here in
     slice_get-get_or c.self.inside.notes c.args.pair.page unused_note (note_within c.self.inside c.args.self.now sound c.args.pair.page used)
 
 -- the fields after the call
-abbrev after : {g : Over} → After-read_out-carried g → Inside g.row.W
+abbrev after : {g : Over} → After-note g → Inside g.row.W
 after c = record c.self.inside {
   frames = c.to_target.new.self;
   tables = c.to_migration.new.self;
@@ -81,7 +81,7 @@ after c = record c.self.inside {
   history = c.note.new.self;
 }
 
-settling : {g : Over} (c : After-read_out-carried g) → Settling c.self.inside (after c) c.args.self.now c.args.pair.page (At c.args.pair.source) (Moving (isolated c.args.self.now.records) c.args.pair.source c.args.pair.target) (Isolate (isolated c.args.self.now.records) c.args.pair.page) (noted c) (c.args.pair.source + 1) c.args.pair.target
+settling : {g : Over} (c : After-note g) → Settling c.self.inside (after c) c.args.self.now c.args.pair.page (At c.args.pair.source) (Moving (isolated c.args.self.now.records) c.args.pair.source c.args.pair.target) (Isolate (isolated c.args.self.now.records) c.args.pair.page) (noted c) (c.args.pair.source + 1) c.args.pair.target
 settling c =
     let z = c.self.inside in
     let v = c.args.self.now in
@@ -126,10 +126,10 @@ settling c =
     }
 
 pub invariant_of-self : goal.invariant_of-self
-invariant_of-self g c = settle_invariant (settling c.before)
+invariant_of-self g c = settle_invariant (settling c)
 
 pub returns-clause-step : goal.returns-clause-step
-returns-clause-step g c = settle_view (settling c.before)
+returns-clause-step g c = settle_view (settling c)
 
 pub returns-clause-valid : goal.returns-clause-valid
 returns-clause-valid g c = (invariant_of-self g c).valid
@@ -152,16 +152,8 @@ to_migration-requires-clause-resting g c =
     let sound = is_sound c.self.view_is c.self.invariant in
     page_rests c.self.inside.tables.entries c.args.self.now sound.entries sound.valid c.args.pair.page c.args.pair.source c.requires.pair.from.here
 
-pub read_out-carried-requires : goal.read_out-carried-requires
-read_out-carried-requires g c =
-    let sound = is_sound c.self.view_is c.self.invariant in
-    omega (arith, frame_within c.args.self.now sound.valid c.args.pair.page (At c.args.pair.source) c.requires.pair.from.here, sound.words.count)
-
-pub returns-clause-page : goal.returns-clause-page
-returns-clause-page g c =
+pub returns-clause-way : goal.returns-clause-way
+returns-clause-way g c =
     let sound = is_sound c.self.view_is c.self.invariant in
     let serial = c.isolate-serial.ensures.serial ∙ sound.moves.isolated in
-    let zone = ap (λ (u : ZoneState). u.number) c.self.view_is in
-    let words = words_seen c.self.inside.words c.args.self.now sound.words sound.valid c.args.pair.page (At c.args.pair.source) c.requires.pair.from.here in
-    let page = c.read_out-carried.ensures ∙ (λ i. record { zone = zone i; number = c.args.pair.page; flags = c.flags_of-flags.ensures i; words = words i }) in
-    λ i. record { serial = (c.new.ensures.serial ∙ serial) i; page = (c.new.ensures.page ∙ page) i }
+    λ i. record { page = c.args.pair.page; serial = serial i; source = c.args.pair.source; target = c.args.pair.target }
