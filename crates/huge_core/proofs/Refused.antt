@@ -8,6 +8,7 @@ use Rattle.state_core.specs.Contents.{contents_refusal, contents_from, contents_
 use Rattle.state_core.specs.HandingOut.{lowest_run, take_order_refusal, give_order_refusal, block_given}
 use Rattle.state_core.specs.Valid.{IsValidZone}
 use Rattle.state_core.specs.ZoneState.{ZoneState, has_room}
+use Rattle.zone_core.specs.ZoneIdentity.{HasIdentity}
 use Rattle.huge_core.specs.Huge.{Huge, IsRefused, IsTakenBack, IsRead, IsWritten, IsRefusedWords}
 
 pub refused : (zone : ZoneState) (order : ℕ) → IsValidZone zone → (result : Result Huge ZoneError)
@@ -36,42 +37,49 @@ refused_no_block zone order error refused other =
 pub no_block : (order : ℕ) (error : ZoneError) → IsRefused order error → (error ≡ JournalFull → ⊥) → IsRefused order NoBlock
 no_block order error was other = refused_by was.zone order NoBlock was.valid (refused_no_block was.zone order error was.refused other)
 
-pub taken_back : (zone zone_new : ZoneState) (huge : Huge) → IsValidZone zone_new → (result : Result Unit (ZoneError × Huge))
+pub taken_back : (number blocks : ℕ) (zone zone_new : ZoneState) (huge : Huge) → HasIdentity number blocks zone → IsValidZone zone_new → (result : Result Unit (ZoneError × Huge))
     → OnOk result (give_order_refusal zone huge.frame huge.order ≡ None) → OnOk result (zone_new ≡ block_given zone huge.frame huge.order)
-    → OnOk result (IsTakenBack huge)
-taken_back zone zone_new huge valid (Ok done) accepted given = record {
+    → OnOk result (IsTakenBack number blocks huge)
+taken_back number blocks zone zone_new huge identity valid (Ok done) accepted given = record {
   zone = zone;
   zone_new = zone_new;
+  identity = identity;
   accepted = accepted;
   given = given;
   valid = valid;
 }
-taken_back zone zone_new huge valid (Err back) accepted given = tt
+taken_back number blocks zone zone_new huge identity valid (Err back) accepted given = tt
 
-pub read : (zone : ZoneState) (huge : Huge) (from count : ℕ) (values : List ℕ) → IsValidZone zone → (result : Result Unit ZoneError)
+pub read : (number blocks : ℕ) (zone : ZoneState) (huge : Huge) (from count : ℕ) (values : List ℕ) → HasIdentity number blocks zone
+    → IsValidZone zone → (result : Result Unit ZoneError)
     → result_err result ≡ contents_refusal zone huge.frame huge.order from count
-    → OnOk result (values ≡ contents_from zone huge.frame from count) → OnOk result (IsRead huge from count values)
-read zone huge from count values valid (Ok done) accepted are = record {
+    → OnOk result (values ≡ contents_from zone huge.frame from count) → OnOk result (IsRead number blocks huge from count values)
+read number blocks zone huge from count values identity valid (Ok done) accepted are = record {
   zone = zone;
+  identity = identity;
   valid = valid;
   accepted = sym {a = None} accepted;
   read = are;
 }
-read zone huge from count values valid (Err error) accepted are = tt
+read number blocks zone huge from count values identity valid (Err error) accepted are = tt
 
-pub written : (zone zone_new : ZoneState) (huge : Huge) (from : ℕ) (values : List ℕ) → IsValidZone zone_new
+pub written : (number blocks : ℕ) (zone zone_new : ZoneState) (huge : Huge) (from : ℕ) (values : List ℕ)
+    → HasIdentity number blocks zone → IsValidZone zone_new
     → (result : Result Unit ZoneError) → result_err result ≡ contents_refusal zone huge.frame huge.order from (length values)
-    → OnOk result (zone_new ≡ contents_written zone huge.frame from values) → OnOk result (IsWritten huge from values)
-written zone zone_new huge from values valid (Ok done) accepted is = record {
+    → OnOk result (zone_new ≡ contents_written zone huge.frame from values) → OnOk result (IsWritten number blocks huge from values)
+written number blocks zone zone_new huge from values identity valid (Ok done) accepted is = record {
   zone = zone;
   zone_new = zone_new;
+  identity = identity;
   accepted = sym {a = None} accepted;
   written = is;
   valid = valid;
 }
-written zone zone_new huge from values valid (Err error) accepted is = tt
+written number blocks zone zone_new huge from values identity valid (Err error) accepted is = tt
 
-pub refused_words : (zone : ZoneState) (huge : Huge) (from count : ℕ) → IsValidZone zone → (result : Result Unit ZoneError)
-    → result_err result ≡ contents_refusal zone huge.frame huge.order from count → IfErr result (IsRefusedWords huge from count)
-refused_words zone huge from count valid (Ok done) is = tt
-refused_words zone huge from count valid (Err error) is = record { zone = zone; valid = valid; refused = sym is }
+pub refused_words : (number blocks : ℕ) (zone : ZoneState) (huge : Huge) (from count : ℕ) → HasIdentity number blocks zone
+    → IsValidZone zone → (result : Result Unit ZoneError)
+    → result_err result ≡ contents_refusal zone huge.frame huge.order from count → IfErr result (IsRefusedWords number blocks huge from count)
+refused_words number blocks zone huge from count identity valid (Ok done) is = tt
+refused_words number blocks zone huge from count identity valid (Err error) is =
+    record { zone = zone; identity = identity; valid = valid; refused = sym is }

@@ -86,9 +86,9 @@ impl Huge {
         from: usize,
         values: &mut [u64],
     ) -> Result<(), ZoneError>
-        ensures refused { IfErr result (IsRefusedWords self.now from (length values.old)) }
+        ensures refused { IfErr result (IsRefusedWords K.number K.blocks self.now from (length values.old)) }
         ensures err { OnErr result (values.new ≡ values.old) }
-        ensures ok { OnOk result (IsRead self.now from (length values.old) values.new) }
+        ensures ok { OnOk result (IsRead K.number K.blocks self.now from (length values.old) values.new) }
     {
         let mut room = shared.lock(rt);
         room.zone.read_block(self.frame, self.order, from, values)
@@ -106,8 +106,8 @@ impl Huge {
         from: usize,
         values: &[u64],
     ) -> Result<(), ZoneError>
-        ensures refused { IfErr result (IsRefusedWords self.old from (length values.now)) }
-        ensures ok { OnOk result (IsWritten self.old from values.now) }
+        ensures refused { IfErr result (IsRefusedWords K.number K.blocks self.old from (length values.now)) }
+        ensures ok { OnOk result (IsWritten K.number K.blocks self.old from values.now) }
         ensures block { self.new ≡ self.old }
     {
         let mut room = shared.lock(rt);
@@ -163,8 +163,8 @@ pub fn give<K: ZoneIdentity, I: Ledger, M: Ledger, B: Ledger, R: Wait>(
     shared: &SharedZone<K, I, M, B>,
     huge: Huge,
 ) -> Result<(), (ZoneError, Huge)>
-    ensures ok { OnOk result (IsTakenBack huge) }
-    ensures refused { IfErr result (λ refused. IsRefusedBack huge refused.0) }
+    ensures ok { OnOk result (IsTakenBack K.number K.blocks huge) }
+    ensures refused { IfErr result (λ refused. IsRefusedBack K.number K.blocks huge refused.0) }
     ensures back { IfErr result (λ refused. refused.1 ≡ huge) }
 {
     let mut room = shared.lock(rt);

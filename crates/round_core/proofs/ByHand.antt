@@ -1,12 +1,15 @@
 -- A round over a zone that nobody else has comes to what the round by hand comes to.
-use Rattle.std.proofs.Common.{◌≡◌, ◌+◌, ◌≤◌, ◌↔◌, inl, inr, sym, ap, subst, ◌∙◌, arith, true, refl, Option, Some, None, IsOk, IfOk, OnOk}
+use Rattle.std.proofs.Common.{◌≡◌, ◌+◌, ◌<◌, ◌≤◌, ◌↔◌, inl, inr, sym, ap, subst, ◌∙◌, arith, true, refl, Option, Some, None, IsOk, IfOk, OnOk}
 use Rattle.std.specs.Prelude.{Result, Ok, Err}
 use Rattle.std.proofs.lemmas.Bool.{cases_eq, cases_lt}
 use Rattle.frame_core.specs.Moves.{isolated}
 use Rattle.zone_core.specs.Alone.{IsAtRest, KeepsAlone, KeepsScanning}
 use Rattle.zone_core.specs.ByHand.{all_isolated, by_hand, scan_pair}
-use Rattle.zone_core.specs.Outcome.{IsSame}
+use Rattle.zone_core.specs.Fingers.{IsSameInRound}
+use Rattle.zone_core.specs.Outcome.{Outcome, IsSame}
 use Rattle.zone_core.proofs.Alone.{alone_exact, alone_goes_on, alone_stops, alone_unbegun}
+use Rattle.zone_core.proofs.ByHand.{moving_isolated, outcome_all}
+use Rattle.zone_core.proofs.Coming.{counted_stopped, stopped_seen}
 use Rattle.zone_core.proofs.Packed.{packed_exact}
 use Rattle.zone_core.proofs.Records.{isolated_same}
 use Rattle.zone_core.proofs.Scanner.{refusal_same}
@@ -16,9 +19,9 @@ use Rattle.state_core.specs.Isolating.{isolate_refusal}
 use Rattle.state_core.specs.Valid.{IsValidZone}
 use Rattle.state_core.specs.Packed.{IsPacked}
 use Rattle.state_core.specs.Pairs.{is_calm}
-use Rattle.state_core.specs.ZoneState.{ZoneState}
+use Rattle.state_core.specs.ZoneState.{ZoneState, frame_count, is_quiet}
 use Rattle.zone_core.specs.Seats.{ScanSeat, EndSeat, IsAudited}
-use Rattle.round_core.specs.Alone.{StopsAlone}
+use Rattle.round_core.specs.Alone.{StopsAlone, QuietAlone}
 use Rattle.round_core.specs.declared.error.RoundError.{RoundError}
 use Rattle.round_core.specs.declared.error.RoundError.TheVariants.{Broken}
 use Rattle.round_core.specs.declared.round.Round.{Round}
@@ -51,15 +54,30 @@ whole scan ends sound = (
   elim (cases_eq (ends.moved + ends.back) scan.count) [ inl same ↦ same | inr differs ↦ absurd (sound (inr differs)) ],
 )
 
+-- where the round isolated a page, the fingers stand where they stand after the round by hand
+fingers_by_hand : (start z : ZoneState) → IsAtRest start → IsValidZone z → KeepsAlone start z → isolated start.records < isolated z.records
+    → isolated z.records ≡ isolated (all_isolated start).records → IsSame (by_hand start) z → IsSameInRound (by_hand start) z
+fingers_by_hand start z rest law keeps more count same =
+    let comes = (alone_goes_on start z law more keeps rest).comes in
+    let seen = stopped_seen start z comes (counted_stopped start z law comes count) in
+    let hand = outcome_all (frame_count start) (all_isolated start) (moving_isolated start rest) in
+    record {
+      same = same;
+      migrate = ap (λ (o : Outcome). o.migrate) hand ∙ sym seen.migrate;
+      free = ap (λ (o : Outcome). o.free) hand ∙ sym seen.free;
+    }
+
 -- what a round that was answered Ok did
 pub record IsByHand (start z : ZoneState) (r : Round) : Type 0 where
   pub same : IsSame (by_hand start) z
+  pub fingers : 0 < r.count → IsSameInRound (by_hand start) z
+  pub quiet : 0 < r.count → is_quiet z ≡ is_calm start
   pub count : isolated start.records + r.count ≡ isolated (by_hand start).records
   pub none_back : r.back ≡ 0
   pub stopped : r.stopped ≡ stop_by_hand start
 
 -- what the audits before and after a round find, with the seats that it was given and left
-module _ (start z : ZoneState) (scan scan_new : ScanSeat) (ends ends_new : EndSeat) (before after : Result Audit ZoneError) (law_start : IsValidZone start) (law : IsValidZone z) (keeps : KeepsAlone start z)
+module _ (start z : ZoneState) (scan scan_new : ScanSeat) (ends ends_new : EndSeat) (before after : Result Audit ZoneError) (law_start : IsValidZone start) (law : IsValidZone z) (keeps : KeepsAlone start z) (quiet : QuietAlone start z)
     (told : 64 ≤ ends.parts → IsOk before ↔ (ends.moved + ends.back ≡ scan.count)) (found : IfOk before (λ a. IsAudited start scan ends a)) (counted : scan.count ≡ isolated start.records)
     (told_new : 64 ≤ ends_new.parts → IsOk after ↔ (ends_new.moved + ends_new.back ≡ scan_new.count)) (found_new : IfOk after (λ a. IsAudited z scan_new ends_new a)) (counted_new : scan_new.count ≡ isolated z.records) where
   module _ (sound : IsBroken scan ends → ⊥) where
@@ -75,13 +93,18 @@ module _ (start z : ZoneState) (scan scan_new : ScanSeat) (ends ends_new : EndSe
     ok_by_hand : (r : Round) → StopsAlone start scan_new.count r.stopped → (IsAtRest start → ends_new.back ≡ ends.back) → IsRound scan scan_new ends ends_new r → IsByHand start z r
     ok_by_hand r stops backs round =
         let all = round.whole in
+        let started = round.count in
         let last = (audited z scan_new ends_new after ((told_new (omega arith)).1 round.settled) found_new).1 in
         let stop = stops at_rest in
         let kept = backs at_rest in
         let back = round.back in
-        let same = alone_exact start z at_rest law keeps (sym counted_new ∙ stop.count_is) last.none_out (sym last.back ∙ last.ends_back ∙ kept ∙ sym first.1.ends_back ∙ first.1.back) in
+        let none_back = sym last.back ∙ last.ends_back ∙ kept ∙ sym first.1.ends_back ∙ first.1.back in
+        let same = alone_exact start z at_rest law keeps (sym counted_new ∙ stop.count_is) last.none_out none_back in
+        let more : 0 < r.count → isolated start.records < isolated z.records = λ some. omega (arith, some, started, counted, counted_new) in
         record {
           same = same;
+          fingers = λ some. fingers_by_hand start z at_rest law keeps (more some) (sym counted_new ∙ stop.count_is) same;
+          quiet = λ some. quiet at_rest (more some) none_back;
           count = ap (λ n. n + r.count) (sym counted) ∙ round.count ∙ counted_new ∙ sym (isolated_same (by_hand start) z same);
           none_back = omega arith;
           stopped = stop.stop_is;
@@ -102,6 +125,14 @@ module _ (start z : ZoneState) where
   pub if_same : (result : Result Round RoundError) → IfOk result (IsByHand start z) → OnOk result (IsSame (by_hand start) z)
   if_same (Ok r) is = is.same
   if_same (Err error) is = tt
+
+  pub if_fingers : (result : Result Round RoundError) → IfOk result (IsByHand start z) → IfOk result (λ r. 0 < r.count → IsSameInRound (by_hand start) z)
+  if_fingers (Ok r) is = is.fingers
+  if_fingers (Err error) is = tt
+
+  pub if_quiet : (result : Result Round RoundError) → IfOk result (IsByHand start z) → IfOk result (λ r. 0 < r.count → is_quiet z ≡ is_calm start)
+  if_quiet (Ok r) is = is.quiet
+  if_quiet (Err error) is = tt
 
   pub if_counted : (result : Result Round RoundError) → IfOk result (IsByHand start z) → IfOk result (λ r. isolated start.records + r.count ≡ isolated (by_hand start).records)
   if_counted (Ok r) is = is.count

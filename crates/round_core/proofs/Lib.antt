@@ -6,3 +6,4 @@ pub mod Begun
 pub mod Copying
 pub mod Beside
 pub mod NoReceipt
+pub mod QuietAlone

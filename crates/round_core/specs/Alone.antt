@@ -1,7 +1,8 @@
 -- How the scanner of a round stops, and goes on, where nobody else has the zone.
-use Rattle.std.specs.Prelude.{◌≡◌, ℕ}
-use Rattle.frame_core.specs.Moves.{isolated}
-use Rattle.state_core.specs.ZoneState.{ZoneState}
+use Rattle.std.specs.Prelude.{◌≡◌, ℕ, ◌<◌}
+use Rattle.frame_core.specs.Moves.{isolated, put_back}
+use Rattle.state_core.specs.Pairs.{is_calm}
+use Rattle.state_core.specs.ZoneState.{ZoneState, is_quiet}
 use Rattle.zone_core.specs.Alone.{IsAtRest}
 use Rattle.zone_core.specs.ByHand.{all_isolated}
 use Rattle.round_core.specs.Rounds.{stop_by_hand}
@@ -15,3 +16,11 @@ pub record IsStopByHand (start : ZoneState) (count : ℕ) (stop : Stop) : Type 0
 -- if no page was moving before the round
 abbrev pub StopsAlone : ZoneState → ℕ → Stop → Type 0
 StopsAlone start count stop = IsAtRest start → IsStopByHand start count stop
+
+-- once the round isolated a page, it is quiet exactly where it began calm, unless a page was put back
+abbrev pub IsAsQuiet : ZoneState → ZoneState → Type 0
+IsAsQuiet start z = isolated start.records < isolated z.records → put_back z.records ≡ put_back start.records → is_quiet z ≡ is_calm start
+
+-- if no page was moving before the round
+abbrev pub QuietAlone : ZoneState → ZoneState → Type 0
+QuietAlone start z = IsAtRest start → IsAsQuiet start z

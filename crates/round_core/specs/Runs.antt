@@ -1,5 +1,5 @@
 -- What the threads of a round start with, and how they ran.
-use Rattle.std.specs.Prelude.{◌≡◌, ◌+◌, ◌<◌, ◌≤◌, ℕ, true, false, [], All, map, Option, Some, IfSome, IfNone, OnSome, length, vec_len, vec_capacity}
+use Rattle.std.specs.Prelude.{◌≡◌, ◌+◌, ◌*◌, ◌/◌, ◌<◌, ◌≤◌, min, max, ℕ, true, false, [], All, map, Option, Some, IfSome, IfNone, OnSome, length, vec_len, vec_capacity}
 use Rattle.std.specs.VecDeque.{deque_capacity}
 use Rattle.hand_core.specs.PageEnds.{Giver}
 use Rattle.hand_core.specs.CopyEnds.{has_ended}
@@ -39,6 +39,29 @@ pub record IsReady (serial : ℕ) (m : Memory) : Type 0 where
   pub copies : has_ended m.copies.taker ≡ false
   pub pages : (m.pages.list.items ≡ []) × (0 < deque_capacity m.pages.list)
   pub joined : IsEmpty (vec_len m.copier_parts.takers) m.joined
+
+-- how many pages or copies a batch has at most, over queues with room for `cap`
+abbrev pub batch_for : (cap : ℕ) → ℕ
+batch_for cap = min cap 8
+
+-- how many pages are isolated, or copies committed, under one hold of the lock at most: as many as a queue has room for, or as there are
+-- in a batch for each copier where that is more
+abbrev pub hold_for : (copiers cap : ℕ) → ℕ
+hold_for copiers cap = max cap (batch_for cap * copiers)
+
+-- the memory of a round with this many copiers has room for so many pages, for as many copies, and for so many serials of each copier
+pub record HasRoom (copiers cap serials : ℕ) (m : Memory) : Type 0 where
+  -- each queue has as many batches as go into its room
+  pub most : m.copier_parts.giver.most ≡ batch_for cap
+  pub pages : m.copier_parts.giver.room ≡ cap / batch_for cap
+  pub sent : All (λ s. s.most ≡ batch_for cap) m.copier_parts.senders.items
+  pub copies : m.copies.taker.room ≡ cap / batch_for cap
+  -- and each list has what goes through it under one hold of the lock
+  pub isolated : deque_capacity m.pages.list ≡ hold_for copiers cap
+  pub gathered : deque_capacity m.copies.gathered ≡ hold_for copiers cap
+  -- pages are divided among the copiers
+  pub divided : m.pages.division.copiers ≡ copiers
+  pub listed : All (λ list. vec_capacity list ≡ serials) m.copier_parts.serials.items
 
 -- the threads of a round can be run with this memory, by the seats before it: a round may begin where so many pages are isolated, and
 -- the end seat has a part for the committer

@@ -1,11 +1,13 @@
 ghost use Rattle.std.specs.Prelude.{◌≡◌, ◌+◌, ◌<◌, ◌≤◌, true, None, IfOk, OnOk, vec_len};
 ghost use Rattle.frame_core.specs.Moves.{isolated};
 ghost use Rattle.zone_core.specs.ByHand.{by_hand};
+ghost use Rattle.zone_core.specs.Fingers.{IsSameInRound};
 ghost use Rattle.zone_core.specs.Outcome.{IsSame};
 ghost use Rattle.round_core.specs.Kept.{LockInvariant};
 ghost use Rattle.round_core.specs.Rounds.{IsRound, IsRefusedEarly, IsBroken, stop_by_hand};
 ghost use Rattle.state_core.specs.Packed.{IsPacked};
 ghost use Rattle.state_core.specs.Pairs.{is_calm};
+ghost use Rattle.state_core.specs.ZoneState.{is_quiet};
 ghost use Rattle.zone_core.specs.ZoneIdentity.{HasIdentity};
 
 use crate::compacting::compact;
@@ -43,6 +45,10 @@ pub fn compact_alone<
     requires cap { (0 < cap) × (cap ≤ 64) }
     // In every schedule the zone is the one after a round by hand, but for the order in which moves ended.
     ensures exact { OnOk result.1 (IsSame (by_hand zone) result.0) }
+    // Where it isolated a page, its fingers stand where that round leaves them.
+    ensures fingers { IfOk result.1 (λ r. 0 < r.count → IsSameInRound (by_hand zone) result.0) }
+    // And it is quiet exactly where it began calm.
+    ensures quiet { IfOk result.1 (λ r. 0 < r.count → is_quiet result.0 ≡ is_calm zone) }
     // As many pages were isolated, each of them was moved, and the round stopped as that one does.
     ensures count { IfOk result.1 (λ r. isolated zone.records + r.count ≡ isolated (by_hand zone).records) }
     ensures none_back { IfOk result.1 (λ r. r.back ≡ 0) }

@@ -1,6 +1,6 @@
 //! How pages are divided into batches.
 
-ghost use Rattle.std.specs.Prelude.{◌≡◌, ◌⊎◌, ◌+◌, ◌*◌, ◌<◌, ◌≤◌};
+ghost use Rattle.std.specs.Prelude.{◌≡◌, ◌⊎◌, ◌+◌, ◌*◌, ◌<◌, ◌≤◌, min, max};
 
 use hand_core::BATCH_CAPACITY;
 
@@ -22,6 +22,9 @@ impl Division {
     pub(crate) fn new(copiers: usize, cap: usize) -> Self
         requires copiers { (0 < copiers) × (copiers ≤ 4) }
         requires cap { (0 < cap) × (cap ≤ 64) }
+        ensures copiers { result.copiers ≡ copiers }
+        ensures room { result.room ≡ cap }
+        ensures most { result.most ≡ min cap 8 }
     {
         Division {
             copiers,
@@ -42,7 +45,8 @@ impl Division {
     /// How many pages are isolated or committed under one hold of the lock at most: as many as a queue has room for, or as there are
     /// in a batch for each copier where that is more.
     pub(crate) fn pages_a_hold(self) -> usize
-        ensures { 0 < result }
+        ensures some { 0 < result }
+        ensures exact { result ≡ max self.room (self.most * self.copiers) }
     {
         self.room.max(self.most * self.copiers)
     }

@@ -1,9 +1,9 @@
 //! The memory of a round, which is taken before it begins.
 
-ghost use Rattle.std.specs.Prelude.{◌≡◌, ◌<◌, ◌≤◌, [], false, All, IfOk, vec_len};
+ghost use Rattle.std.specs.Prelude.{◌≡◌, ◌/◌, ◌<◌, ◌≤◌, [], false, All, IfOk, vec_len, vec_capacity};
 ghost use Rattle.hand_core.specs.CopyEnds.{has_ended};
 ghost use Rattle.round_core.specs.Crews.{IsUnused, IsUnsent};
-ghost use Rattle.round_core.specs.Runs.{IsFresh, IsEmpty, IsReady};
+ghost use Rattle.round_core.specs.Runs.{IsFresh, IsEmpty, IsReady, HasRoom};
 
 use crate::copier::Copier;
 use crate::division::Division;
@@ -73,6 +73,7 @@ pub(crate) fn reserve<R>(
     requires cap { (0 < cap) × (cap ≤ 64) }
     ensures ready { IfOk result (IsReady base) }
     ensures copiers { IfOk result (λ memory. vec_len memory.copier_parts.takers ≡ copiers) }
+    ensures room { IfOk result (HasRoom copiers cap serials) }
 {
     let division = Division::new(copiers, cap);
     let hold = division.pages_a_hold();
@@ -109,7 +110,8 @@ fn empty_lists(
     copiers: usize,
     serials: usize,
 ) -> Result<Vec<Vec<Serial>>, AllocError>
-    ensures { IfOk result (λ lists. (vec_len lists ≡ copiers) × All (λ list. list.items ≡ []) lists.items) }
+    ensures empty { IfOk result (λ lists. (vec_len lists ≡ copiers) × All (λ list. list.items ≡ []) lists.items) }
+    ensures room { IfOk result (λ lists. All (λ list. vec_capacity list ≡ serials) lists.items) }
 {
     let mut lists = Vec::with_capacity(alloc, copiers)?;
     for _copier in 0..copiers {
@@ -134,6 +136,9 @@ fn open_queues<R>(
     ensures senders { IfOk result (λ opened. (vec_len opened.0.senders ≡ vec_len serials) × All IsUnsent opened.0.senders.items) }
     ensures lists { IfOk result (λ opened. (opened.0.serials ≡ serials) × (opened.0.copiers ≡ copiers)) }
     ensures copies { IfOk result (λ opened. has_ended opened.1 ≡ false) }
+    ensures most { IfOk result (λ opened. opened.0.giver.most ≡ division.most) }
+    ensures room { IfOk result (λ opened. (opened.0.giver.room ≡ division.room / division.most) × (opened.1.room ≡ division.room / division.most)) }
+    ensures sent { IfOk result (λ opened. All (λ s. s.most ≡ division.most) opened.0.senders.items) }
 {
     let Division { room, most, .. } = division;
     let many = serials.len();

@@ -3,7 +3,7 @@
 ghost use Rattle.std.specs.Prelude.{◌≡◌, ◌⊎◌, ◌↔◌, ℕ, ◌+◌, ◌<◌, ◌≤◌, [], true, length, Some, None, IfSome, IfNone, IfOk, IfErr, OnOk, OnErr};
 ghost use Rattle.std.specs.VecDeque.{deque_capacity};
 ghost use Rattle.zone_core.specs.Seats.{seat_begun};
-ghost use Rattle.state_core.specs.Ending.{is_own, put_back_to_source};
+ghost use Rattle.state_core.specs.Ending.{IsOwnCopy, is_own, put_back_to_source};
 ghost use Rattle.round_core.specs.Counts.{CountsBack};
 ghost use Rattle.round_core.specs.PuttingBack.{all_put_back};
 ghost use Rattle.round_core.specs.Scanning.{HasBegun, HasIsolated, HasStopped};
@@ -145,6 +145,8 @@ fn commit_copy<K: Keeping, I: Ledger, M: Ledger, B: Ledger>(
     seat: &mut EndSeat<M, B>,
     copy: Copied,
 ) -> Option<Serial>
+    ensures own { result ≡ None ↔ IsOwnCopy room.old copy }
+    ensures serial { IfSome result (λ serial. serial ≡ copy.serial) }
     ensures back { K.unpinned → seat.new.back ≡ seat.old.back }
     ensures parts { seat.new.parts ≡ seat.old.parts }
 {
@@ -180,6 +182,7 @@ fn put_back_page<K: Keeping, I: Ledger, M: Ledger, B: Ledger>(
     page: Isolated,
 ) -> Option<Serial>
     ensures own { result ≡ None ↔ (is_own room.old page ≡ true) }
+    ensures serial { IfSome result (λ serial. serial ≡ page.serial) }
     ensures put_back { result ≡ None → room.new ≡ put_back_to_source room.old page.serial page.page.number Cause.NotCopied }
     ensures back { result ≡ None → seat.new.back ≡ seat.old.back + 1 }
     ensures seat { CountsBack seat.old seat.new }

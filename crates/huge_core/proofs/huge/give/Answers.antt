@@ -4,11 +4,11 @@ use Rattle.huge_core.proofs.huge.give.Goals as goal
 
 pub returns-clause-ok : goal.returns-clause-ok
 returns-clause-ok g c =
-    taken_back c.behind-room.inside.zone c.give.new.zone c.args.huge c.give.ensures.valid c.give.result
+    taken_back _ _ c.behind-room.inside.zone c.give.new.zone c.args.huge c.behind-room.invariant.1 c.give.ensures.valid c.give.result
     c.give.ensures.accepted c.give.ensures.ok
 
 pub returns-clause-refused : goal.returns-clause-refused
 returns-clause-refused g c =
     IfErr-weaker c.give.result _ _
-    (λ back is. record { zone = c.behind-room.inside.zone; valid = c.behind-room.invariant.0; refused = is })
+    (λ back is. record { zone = c.behind-room.inside.zone; identity = c.behind-room.invariant.1; valid = c.behind-room.invariant.0; refused = is })
     c.give.ensures.refused

@@ -5,7 +5,7 @@ use Rattle.state_core.specs.ZoneState.{ZoneState}
 use Rattle.zone_core.specs.Seats.{ScanSeat, EndSeat, IsAudited}
 use Rattle.round_core.specs.Rounds.{IsBroken}
 use Rattle.zone_core.specs.Outcome.{IsSame}
-use Rattle.round_core.proofs.ByHand.{IsByHand, result_by_hand, same_unbegun, if_same, if_counted, if_none_back, if_stopped, if_packed, known_on}
+use Rattle.round_core.proofs.ByHand.{IsByHand, result_by_hand, same_unbegun, if_same, if_fingers, if_quiet, if_counted, if_none_back, if_stopped, if_packed, known_on}
 use Rattle.round_core.proofs.alone.compact_alone.Goals as goal
 use Rattle.round_core.proofs.alone.compact_alone.Given.{Over}
 use Rattle.round_core.proofs.alone.compact_alone.Goals.{After-audit-2}
@@ -35,7 +35,7 @@ module _ (g : Over) (c : After-audit-2 g) where
       subst (λ (w : ZoneState). IfOk ok (IsByHand c.args.zone w)) (sym after.same)
       (subst (λ (z : ZoneState). IfOk ok (IsByHand z c.compact_shared-zone.result.0)) c.audit.ensures.same
       (result_by_hand c.audit.new.self c.compact_shared-zone.result.0 c.audit.new.scan c.compact_shared-zone.new.seats.scan c.audit.new.ends c.compact_shared-zone.new.seats.ends
-      c.audit.result c.audit-2.result c.audit.ensures.valid run.kept.valid run.keeps told found counted after.exact after.ok after.serial
+      c.audit.result c.audit-2.result c.audit.ensures.valid run.kept.valid run.keeps.0 run.keeps.1 told found counted after.exact after.ok after.serial
       ok run.stops run.none_back run.round run.early))
 
   -- or it wasn't begun
@@ -48,11 +48,17 @@ module _ (g : Over) (c : After-audit-2 g) where
       subst (λ (w : ZoneState). IsSame c.args.zone w) (sym after.same)
       (subst (λ (z : ZoneState). IsSame z c.compact_shared-zone.result.0) c.audit.ensures.same
       (same_unbegun c.audit.new.self c.compact_shared-zone.result.0 c.audit.new.scan c.compact_shared-zone.new.seats.scan c.audit.new.ends c.compact_shared-zone.new.seats.ends
-      c.audit.result c.audit-2.result c.audit.ensures.valid run.kept.valid run.keeps told found counted after.exact after.ok after.serial
+      c.audit.result c.audit-2.result c.audit.ensures.valid run.kept.valid run.keeps.0 run.keeps.1 told found counted after.exact after.ok after.serial
       whole (run.early.same rounds).0))
 
 pub returns-clause-exact : goal.returns-clause-exact
 returns-clause-exact g c = if_same c.args.zone c.audit-2.new.self c.compact_shared-zone.result.1 (by_hand_then g c)
+
+pub returns-clause-fingers : goal.returns-clause-fingers
+returns-clause-fingers g c = if_fingers c.args.zone c.audit-2.new.self c.compact_shared-zone.result.1 (by_hand_then g c)
+
+pub returns-clause-quiet : goal.returns-clause-quiet
+returns-clause-quiet g c = if_quiet c.args.zone c.audit-2.new.self c.compact_shared-zone.result.1 (by_hand_then g c)
 
 pub returns-clause-count : goal.returns-clause-count
 returns-clause-count g c = if_counted c.args.zone c.audit-2.new.self c.compact_shared-zone.result.1 (by_hand_then g c)

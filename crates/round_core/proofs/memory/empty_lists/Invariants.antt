@@ -6,4 +6,5 @@ invariant-loop-copier l = record {
   count : vec_len l.lists ≡ l._copier;
   room : l.copiers ≤ vec_capacity l.lists;
   empty : All (λ list. list.items ≡ []) l.lists.items;
+  places : All (λ list. vec_capacity list ≡ l.serials) l.lists.items;
 }

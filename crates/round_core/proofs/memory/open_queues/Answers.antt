@@ -24,3 +24,13 @@ returns-clause-copies g c =
     let senders = ap (λ (t : DoneTaker). t.senders) fresh in
     let some = c.requires in
     not_ended c.in_ok-senders.copies (omega (arith, senders, some)) (ap (λ (t : DoneTaker). t.came) fresh)
+
+pub returns-clause-sent : goal.returns-clause-sent
+returns-clause-sent g c =
+    let senders = c.in_ok-senders.senders.items in
+    let queue = c.in_ok-senders.copies.queue in
+    λ k d low.
+    let unsent : DoneSender = record { queue = queue; most = c.args.division.most; number = k; sent = []; marked = false; closed = false } in
+    let made = c.in_ok-senders.ensures.senders in
+    let long = c.in_ok-senders.senders.ok in
+    ap (λ (s : DoneSender). s.most) (get_or_from_slice_get senders k unsent d (c.in_ok-senders.ensures.fresh k (omega (arith, made))))
