@@ -1,6 +1,7 @@
 -- Parts of lists that are replaced, and how many words are out.
-use Rattle.std.proofs.Common.{◌≡◌, ℕ, zero, suc, ◌+◌, ◌≤◌, Bool, true, false, List, [], ◌∷◌, ◌++◌, length, take, drop, replicate, refl, sym, ap, ◌∙◌, arith, length-take-le, length-append, length-drop, take-append-drop, drop-drop, drop_at}
-use Rattle.std.proofs.lemmas.List.{append_assoc, take_at}
+use Rattle.std.proofs.Common.{◌≡◌, ◌⊎◌, ℕ, zero, suc, ◌+◌, ◌-◌, ◌≤◌, Bool, true, false, List, [], ◌∷◌, ◌++◌, length, take, drop, replicate, refl, sym, ap, ◌∙◌, arith, length-take, length-take-le, length-append, length-drop, take-append-drop, drop-drop, drop_at}
+use Rattle.std.proofs.lemmas.List.{append_assoc, drop-append-le, take-append-le, take_at}
+use mathlib.Core.Logic.{inl, inr}
 use lib.ListN.{length-replicate}
 use Rattle.row_core.specs.Owned.{count_out}
 use Rattle.row_core.specs.Parts.{part, spliced, AreHere}
@@ -23,15 +24,17 @@ module _ {X : Type 0} (xs : List X) (from n : ℕ) where
     spliced_long ws long =
         omega (arith, front_long, long, length-append (take from xs) (ws ++ drop (from + n) xs), length-append ws (drop (from + n) xs), length-drop (from + n) xs)
 
+    pub rest_stays : (ws : List X) → length ws ≡ n → drop (from + n) (spliced xs from n ws) ≡ drop (from + n) xs
+    rest_stays ws long =
+        ap (drop (from + n)) (sym (append_assoc (take from xs) ws (drop (from + n) xs)))
+        ∙ drop_at (take from xs ++ ws) (drop (from + n) xs) (from + n) (omega (arith, length-append (take from xs) ws, front_long, long))
+
     -- what is replaced twice is as if it had been replaced once
     pub spliced_again : (ws vs : List X) → length ws ≡ n → spliced (spliced xs from n ws) from n vs ≡ spliced xs from n vs
     spliced_again ws vs long =
         let rest = drop (from + n) xs in
-        let behind : drop (from + n) (spliced xs from n ws) ≡ rest =
-        ap (drop (from + n)) (sym (append_assoc (take from xs) ws rest))
-        ∙ drop_at (take from xs ++ ws) rest (from + n) (omega (arith, length-append (take from xs) ws, front_long, long)) in
         ap (λ (l : List X). l ++ (vs ++ drop (from + n) (spliced xs from n ws))) (take_at (take from xs) (ws ++ rest) from front_long)
-        ∙ ap (λ (l : List X). take from xs ++ (vs ++ l)) behind
+        ∙ ap (λ (l : List X). take from xs ++ (vs ++ l)) (rest_stays ws long)
 
     -- what was replaced came back
     pub spliced_back : (ws : List X) → length ws ≡ n → spliced (spliced xs from n ws) from n (part xs from n) ≡ xs
@@ -80,9 +83,57 @@ count_back xs from n out =
 pub out_least : (xs : List Bool) (from n : ℕ) → part xs from n ≡ replicate n false → n ≤ count_out xs
 out_least xs from n out = omega (arith, count_back xs from n out)
 
+take_true : (n k : ℕ) → n ≤ k → take n (replicate k true) ≡ replicate n true
+take_true zero k fits = refl
+take_true (suc n) zero fits = absurd (omega (arith, fits))
+take_true (suc n) (suc k) fits = ap (λ (l : List Bool). true ∷ l) (take_true n k (omega (arith, fits)))
+
+-- where all words are here, those of each part are
+pub part_here : (k from n : ℕ) → from + n ≤ k → AreHere (part (replicate k true) from n) n
+part_here k zero n fits = take_true n k (omega (arith, fits))
+part_here zero (suc from) n fits = absurd (omega (arith, fits))
+part_here (suc k) (suc from) n fits = part_here k from n (omega (arith, fits))
+
+module _ {X : Type 0} (xs ws : List X) (from n at m : ℕ) (fits : from + n ≤ length xs) (same : length ws ≡ n) where
+  part_before : at + m ≤ from → part (spliced xs from n ws) at m ≡ part xs at m
+  part_before before =
+      let front = take from xs in
+      let enough : at ≤ length front = omega (arith, front_long xs from n fits, before) in
+      let long : m ≤ length (drop at front) = omega (arith, front_long xs from n fits, before, length-drop at front) in
+      let of = λ (l : List X) (rest : List X) (is : front ++ rest ≡ l). ap (λ (k : List X). take m (drop at k)) (sym is) ∙ ap (take m) (drop-append-le at front rest enough) ∙ take-append-le m (drop at front) rest long in
+      of (spliced xs from n ws) (ws ++ drop (from + n) xs) refl ∙ sym (of xs (drop from xs) (take-append-drop from xs))
+
+  part_after : from + n ≤ at → part (spliced xs from n ws) at m ≡ part xs at m
+  part_after after =
+      let more = at - (from + n) in
+      let sum : from + n + more ≡ at = omega (arith, after) in
+      let of = λ (l : List X). ap (λ (k : ℕ). take m (drop k l)) (sym sum) ∙ ap (take m) (sym (drop-drop more (from + n) l)) in
+      of (spliced xs from n ws) ∙ ap (λ (l : List X). take m (drop more l)) (rest_stays xs from n fits ws same) ∙ sym (of xs)
+
+  -- a part that lies beside the one that is replaced stays
+  pub part_beside : (at + m ≤ from) ⊎ (from + n ≤ at) → part (spliced xs from n ws) at m ≡ part xs at m
+  part_beside (inl before) = part_before before
+  part_beside (inr after) = part_after after
+
+-- a part of no words is replaced by none
+none_spliced : {X : Type 0} (xs : List X) (from : ℕ) → spliced xs from 0 [] ≡ xs
+none_spliced xs from = let same : from + 0 ≡ from = omega arith in ap (λ (k : ℕ). take from xs ++ drop k xs) same ∙ take-append-drop from xs
+
+here_within : (xs : List Bool) (from n : ℕ) → AreHere (part xs from (suc n)) (suc n) → from + suc n ≤ length xs
+here_within xs from n here =
+    omega (arith, ap length here, length-replicate (suc n) true, length-take (suc n) (drop from xs), length-drop from xs)
+
+-- a part beside one that is lent stays
+pub lent_beside : (xs : List Bool) (from n at m : ℕ) → AreHere (part xs from n) n → (at + m ≤ from) ⊎ (from + n ≤ at) → part (spliced xs from n (replicate n false)) at m ≡ part xs at m
+lent_beside xs from zero at m here beside = ap (λ (l : List Bool). part l at m) (none_spliced xs from)
+lent_beside xs from (suc n) at m here beside = part_beside xs (replicate (suc n) false) from (suc n) at m (here_within xs from n here) (length-replicate (suc n) false) beside
+
+came_back : (xs : List Bool) (from n : ℕ) → AreHere (part xs from n) n → spliced (spliced xs from n (replicate n false)) from n (replicate n true) ≡ xs
+came_back xs from zero here = none_spliced (spliced xs from 0 []) from ∙ none_spliced xs from
+came_back xs from (suc n) here =
+    ap (spliced (spliced xs from (suc n) (replicate (suc n) false)) from (suc n)) (sym here)
+    ∙ spliced_back xs from (suc n) (here_within xs from n here) (replicate (suc n) false) (length-replicate (suc n) false)
+
 -- a part that was here was out, and is here
-pub here_again : (xs ys zs : List Bool) (from n m : ℕ) → from + n ≤ length xs → AreHere (part xs from n) n → ys ≡ spliced xs from n (replicate n false) → m ≡ n → zs ≡ spliced ys from m (replicate m true) → zs ≡ xs
-here_again xs ys zs from n m fits here lent same back =
-    back ∙ (λ i. spliced (lent i) from (same i) (replicate (same i) true))
-    ∙ ap (λ (l : List Bool). spliced (spliced xs from n (replicate n false)) from n l) (sym here)
-    ∙ spliced_back xs from n fits (replicate n false) (length-replicate n false)
+pub here_again : (xs ys zs : List Bool) (from n m : ℕ) → AreHere (part xs from n) n → ys ≡ spliced xs from n (replicate n false) → m ≡ n → zs ≡ spliced ys from m (replicate m true) → zs ≡ xs
+here_again xs ys zs from n m here lent same back = back ∙ (λ i. spliced (lent i) from (same i) (replicate (same i) true)) ∙ came_back xs from n here

@@ -103,7 +103,7 @@ impl Ground {
 
     /// Lends a part that is here to `change`, as one slice, and gives what it answers.
     #[inline(always)]
-    #[tactic(auto, using(crate::proofs::Lists::here_again, crate::proofs::Lists::spliced_long, crate::proofs::Lists::part_long))]
+    #[tactic(auto, using(crate::proofs::Lists::part_long))]
     pub fn with<R, F: FnOnce(&mut [u64]) -> R>(&mut self, from: usize, count: usize, change: F) -> R
         requires within { from + count ≤ length self.old.words }
         requires here { AreHere (part self.old.here from count) count }
@@ -117,6 +117,23 @@ impl Ground {
         let answer = change(words.as_mut_slice());
         replace_with(&mut self.right, (from, Right::of_vec(words)), put);
         answer
+    }
+
+    /// Copies a part into another, which lies beside it. Both have to be here.
+    #[inline(always)]
+    #[tactic(auto, using(crate::proofs::Lists::here_again, crate::proofs::Lists::lent_beside, crate::proofs::Lists::part_long))]
+    pub fn copy_within(&mut self, from: usize, to: usize, count: usize)
+        requires within { (from + count ≤ length self.old.words) × (to + count ≤ length self.old.words) }
+        requires beside { (from + count ≤ to) ⊎ (to + count ≤ from) }
+        requires source { AreHere (part self.old.here from count) count }
+        requires target { AreHere (part self.old.here to count) count }
+        ensures words { self.new.words ≡ spliced self.old.words to count (part self.old.words from count) }
+        ensures here { self.new.here ≡ self.old.here }
+        ensures at { self.new.at ≡ self.old.at }
+    {
+        let mut target = self.lend(to, count);
+        target.words_mut().copy_from_slice(self.part(from, count));
+        self.take_back(to, target);
     }
 
     /// Lends a part out that is here, as a row. Nothing is copied.

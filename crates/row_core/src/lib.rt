@@ -12,6 +12,8 @@ mod ground;
 mod half;
 mod right;
 mod row;
+#[cfg(test)]
+mod tests;
 
 pub use ground::Ground;
 pub use half::Half;

@@ -12,7 +12,7 @@ invariant_of-self g c =
     let same : length back ≡ count =
     ap length c.of_vec.ensures.1 ∙ sym (length_refill c.into_vec-words.result.len c.into_vec-words.result.items c.change-answer.new.arg2 c.into_vec-words.result.ok.0) ∙ c.into_vec-words.ensures.1 in
     let here : c.replace_with-2.new.dest.here ≡ right.here =
-    here_again right.here c.replace_with.new.dest.here c.replace_with-2.new.dest.here from count (length back) (omega (arith, fits, right.lengths))
+    here_again right.here c.replace_with.new.dest.here c.replace_with-2.new.dest.here from count (length back)
     (ap (λ s. part s.here from count) c.self.view_is ∙ c.requires.here) c.replace_with.ensures.0.3 same c.replace_with-2.ensures.3 in
     let long : length c.replace_with-2.new.dest.items ≡ length right.items =
     ap length c.replace_with-2.ensures.1
@@ -33,6 +33,6 @@ returns-clause-here g c =
     let right = c.self.inside.right in let from = c.args.from in let count = c.args.count in let back = c.of_vec.result.items in
     let same : length back ≡ count =
     ap length c.of_vec.ensures.1 ∙ sym (length_refill c.into_vec-words.result.len c.into_vec-words.result.items c.change-answer.new.arg2 c.into_vec-words.result.ok.0) ∙ c.into_vec-words.ensures.1 in
-    here_again right.here c.replace_with.new.dest.here c.replace_with-2.new.dest.here from count (length back) (omega (arith, c.requires.within, ap (λ s. length s.words) c.self.view_is, right.lengths))
+    here_again right.here c.replace_with.new.dest.here c.replace_with-2.new.dest.here from count (length back)
     (ap (λ s. part s.here from count) c.self.view_is ∙ c.requires.here) c.replace_with.ensures.0.3 same c.replace_with-2.ensures.3
     ∙ ap (λ s. s.here) c.self.view_is
