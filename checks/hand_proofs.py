@@ -12,6 +12,10 @@ whole, at one value, which goes in and out as it is. The fields of a zone are pr
 They share lemmas, so every file in the folder `proofs` of that crate has to be in the table, and none of them may name a list, a journal
 or a record.
 
+A crate of `BELOW` may prove by hand what it needs, and its files aren't in the table. It stands below `frame_core`: it can't name a list,
+and what reaches a list goes upwards, to crates that stand on the list's. A value of a crate above could still be handed to it by a
+parameter of types, as a closure is. So no function that is proved by hand there has such a parameter, nor has its type.
+
     python3 checks/hand_proofs.py digests
 
 prints the table as the files are now, to be read with them and put in its place."""
@@ -101,6 +105,12 @@ HAND_PROOFS = {
     ),
 }
 
+# The crates below that of the lists that may prove by hand, and why they have to.
+BELOW = {
+    "row_core": "it parts and moves the right to memory, and the prover has no steps for that",
+}
+OF_A_TYPE = re.compile(r"The[A-Z]")  # a folder with what is proved of a type, and of no function
+
 
 def reaching():
     """The crate of unrecorded lists and those that stand on it."""
@@ -128,6 +138,32 @@ def is_by_hand(path, text):
 
 def digest_of(text):
     return hashlib.sha256(text.encode()).hexdigest()
+
+
+def wrong_below(below, files):
+    """What is wrong with the proofs by hand among these files of the crates that can't reach a list, a line for each."""
+    for crate in sorted(BELOW.keys() - below):
+        yield f"{crate} may prove by hand as a crate below that of the lists, and is none"
+    for path, text in files.items():
+        crate = path.split("/")[1]
+        if crate not in BELOW and is_by_hand(path, text):
+            yield f"{path} proves by hand, or asks for it, and its crate is none of those that may"
+        elif crate in BELOW and (name := name_proved(path)) and not has_no_types(name, files):
+            yield f"{path} proves a function by hand that has a parameter of types, or isn't there"
+
+
+def name_proved(path):
+    """The crate, the modules, the type and the function that a file proves by hand, if it proves a function."""
+    _, crate, part, *inside = path.split("/")
+    is_proof = part == "proofs" and inside[-1] == "Proof.antt" and not OF_A_TYPE.match(inside[-2])
+    return (crate, *inside[:-1]) if is_proof else None
+
+
+def has_no_types(name, files):
+    """Whether a function stands in the file of its module, and neither it nor its type has a parameter of types."""
+    crate, module, *types, function = name
+    code = sources.code_of(files.get(f"crates/{crate}/src/{module}.rt", ""))
+    return f" fn {function}(" in code and all(f"\nimpl {it} {{" in code for it in types)
 
 
 def names_a_list(text):
@@ -166,6 +202,11 @@ PLANTED = {
     "crates/zone_core/proofs/zone/Zone/TheSendSync/Sync.antt": "-- That threads may share a zone.\n",
     "crates/client_core/proofs/client/Client/load/Proof.antt": "-- A proof of a function that has such a list.\n",
 }
+PLANTED_BELOW = {
+    "crates/low_core/src/lib.rt": "unsafe fn reached() {}\n",
+    "crates/row_core/proofs/right/Right/gone/Proof.antt": "-- A proof of a function that isn't there.\n",
+    "crates/row_core/proofs/ground/Ground/with/Proof.antt": "-- A proof of a function that takes a closure.\n",
+}
 NAMING = (
     "use Rattle.frame_core.specs.declared.record.Record.{Record}\n",
     "use Rattle.frame_core.specs.Journal.{Journal}\n",
@@ -174,8 +215,14 @@ NAMING = (
 NOT_NAMING = ("-- its journal\n", "x = record { a = b }\n", "record Owned {\n")
 
 
-def try_itself(files):
+def try_itself(files, below):
     """Each line that is planted, at the end of a file or as a new one, is found."""
+    for path, line in PLANTED_BELOW.items():
+        found = [*wrong_below(BELOW.keys() | {"low_core"}, {**below, path: line})]
+        if len(found) != 1 or not found[0].startswith(path):
+            raise runs.Failed(f"{path} proves by hand below the lists with the line {line.strip()!r}, and that isn't found: {found}")
+    if not [*wrong_below(set(), below)]:
+        raise runs.Failed("a crate of those below comes to stand on the lists, and that isn't found")
     for path, line in PLANTED.items():
         found = [*wrong_in({**files, path: files.get(path, "") + line})]
         if len(found) != 1 or not found[0].startswith(path):
@@ -184,7 +231,7 @@ def try_itself(files):
         raise runs.Failed(f"{path} is gone, and that isn't found")
     if text := next((text for text in (*NAMING, *NOT_NAMING) if bool(names_a_list(text)) != (text in NAMING)), None):
         raise runs.Failed(f"whether this names a list isn't found: {text.strip()}")
-    return len(PLANTED) + len(HAND_PROOFS)
+    return len(PLANTED) + len(PLANTED_BELOW) + len(HAND_PROOFS) + 1
 
 
 def table_text():
@@ -203,10 +250,11 @@ def reason_of(path):
 
 def main():
     crates = reaching()
-    files = files_of(crates)
-    if wrong := [*wrong_in(files)]:
-        raise runs.Failed("\n".join(["proofs by hand in crates that can reach an unrecorded list:", *wrong]))
-    tried = try_itself(files)
+    below = program.libraries_used(runs.ROOT).keys() - set(crates)
+    files, files_below = files_of(crates), files_of(sorted(below))
+    if wrong := [*wrong_in(files), *wrong_below(below, files_below)]:
+        raise runs.Failed("\n".join(["proofs by hand that aren't as they were read, or may not be:", *wrong]))
+    tried = try_itself(files, files_below)
     return (
         f"crates that can reach an unrecorded list: {len(crates)}; what they prove by hand is {len(HAND_PROOFS)} files, as they were"
         f" read; {tried} other files and lines are found"

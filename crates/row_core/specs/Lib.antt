@@ -1,0 +1,4 @@
+pub mod Lends
+pub mod Owned
+pub mod Parts
+pub mod Seen

@@ -1,0 +1,186 @@
+//! The words of one allocation, of which rows are lent out.
+
+ghost use Rattle.std.specs.Prelude.{◌≡◌, ℕ, ◌+◌, ◌*◌, ◌^◌, ◌<◌, ◌≤◌, ◌⊎◌, [], List, true, false, length, take, drop, replicate, IfOk};
+ghost use Rattle.std.specs.Fn.{FnOnceTakesAtMut, FnOnceReturnsAtMut};
+ghost use denote.RawPtr.{◌+ₚ◌};
+ghost use Rattle.row_core.specs.Parts.{part, spliced, AreHere};
+
+use crate::allocation::Allocation;
+use crate::right::Right;
+use crate::row::Row;
+use core::mem::replace_with;
+use std::alloc::{AllocError, Global};
+use std::marker::Model;
+use std::mem::ManuallyDrop;
+
+/// The words of one allocation. Rows of them can be lent out, and are then reached by whoever has the row alone.
+pub struct Ground {
+    ptr: *mut u64,
+    right: Right,
+    allocation: Allocation,
+    // How many words are out.
+    out: usize,
+}
+
+impl Model for Ground {
+    ghost use Rattle.std.specs.Prelude.{◌≡◌, ◌<◌, ◌^◌, [], length};
+    ghost use denote.RawPtr.{InBlock};
+    ghost use Rattle.row_core.specs.Owned.{count_out};
+    ghost use Rattle.row_core.specs.Seen.{Ground as Seen, ground_code};
+
+    ghost Value = { Seen };
+
+    ghost coded = { ground_code };
+
+    ghost view = { λ g. record { at = g.ptr; words = g.right.items; here = g.right.here } };
+
+    ghost invariant = { λ g. (g.right.ptr ≡ g.ptr) × (g.right.halves ≡ []) × (g.allocation.ptr ≡ g.ptr) × (g.allocation.len ≡ length g.right.items) × (g.out ≡ count_out g.right.here) × (length g.right.here ≡ length g.right.items) × (length g.right.items < 2 ^ 60) × InBlock g.ptr };
+}
+
+unsafe impl Send for Ground {}
+
+unsafe impl Sync for Ground {}
+
+// Where words are out, the memory is kept: whoever has them may go on to use them.
+impl Drop for Ground {
+    #[tactic(auto, using(crate::proofs::Lists::none_out))]
+    fn drop(self) {
+        if self.out == 0 {
+            self.close();
+            return;
+        }
+        let Ground {
+            ptr: _,
+            right: _,
+            allocation,
+            out: _,
+        } = self;
+        let _kept = unsafe { ManuallyDrop::new_unchecked(allocation) };
+    }
+}
+
+impl Ground {
+    /// Asks for memory once: so many words, all 0, all here. There may be none.
+    #[tactic(auto, using(crate::proofs::Lists::count_true))]
+    pub fn open(alloc: Global, count: usize) -> Result<Ground, AllocError>
+        ensures words { IfOk result (λ g. g.words ≡ replicate count 0) }
+        ensures here { IfOk result (λ g. g.here ≡ replicate count true) }
+    {
+        let mut vec = Vec::from_elem(alloc, 0u64, count)?;
+        let ptr = vec.as_mut_ptr();
+        let (allocation, right) = Allocation::without_right(vec);
+        Ok(Ground {
+            ptr,
+            right,
+            allocation,
+            out: 0,
+        })
+    }
+
+    /// Gives the memory back. All words have to be here.
+    pub fn close(self)
+        requires { AreHere self.here (length self.words) }
+    {
+        let Ground {
+            ptr: _,
+            right,
+            allocation,
+            out: _,
+        } = self;
+        drop(allocation.with_right(right));
+    }
+
+    /// The words of a part that is here.
+    #[inline(always)]
+    pub fn part(&self, from: usize, count: usize) -> &[u64]
+        requires within { from + count ≤ length self.now.words }
+        requires here { AreHere (part self.now.here from count) count }
+        ensures { result.now ≡ part self.now.words from count }
+    {
+        let at = unsafe { self.ptr.byte_add(from * 8) };
+        self.right.words(at.cast_const(), from, count)
+    }
+
+    /// Lends a part that is here to `change`, as one slice, and gives what it answers.
+    #[inline(always)]
+    #[tactic(auto, using(crate::proofs::Lists::part_long))]
+    pub fn with<R, F: FnOnce(&mut [u64]) -> R>(&mut self, from: usize, count: usize, change: F) -> R
+        requires within { from + count ≤ length self.old.words }
+        requires here { AreHere (part self.old.here from count) count }
+        requires callable { FnOnceTakesAtMut F.FnOnce change (part self.old.words from count) }
+        ensures changed { (words : List ℕ) × (length words ≡ count) × FnOnceReturnsAtMut F.FnOnce change (part self.old.words from count) result words × (self.new.words ≡ spliced self.old.words from count words) }
+        ensures here { self.new.here ≡ self.old.here }
+        ensures at { self.new.at ≡ self.old.at }
+    {
+        let at = unsafe { self.ptr.byte_add(from * 8) };
+        let mut words = replace_with(&mut self.right, (from, count), take).into_vec(at, count);
+        let answer = change(words.as_mut_slice());
+        replace_with(&mut self.right, (from, Right::of_vec(words)), put);
+        answer
+    }
+
+    /// Copies a part into another, which lies beside it. Both have to be here.
+    #[inline(always)]
+    #[tactic(auto, using(crate::proofs::Lists::here_again, crate::proofs::Lists::lent_beside, crate::proofs::Lists::part_long))]
+    pub fn copy_within(&mut self, from: usize, to: usize, count: usize)
+        requires within { (from + count ≤ length self.old.words) × (to + count ≤ length self.old.words) }
+        requires beside { (from + count ≤ to) ⊎ (to + count ≤ from) }
+        requires source { AreHere (part self.old.here from count) count }
+        requires target { AreHere (part self.old.here to count) count }
+        ensures words { self.new.words ≡ spliced self.old.words to count (part self.old.words from count) }
+        ensures here { self.new.here ≡ self.old.here }
+        ensures at { self.new.at ≡ self.old.at }
+    {
+        let mut target = self.lend(to, count);
+        target.words_mut().copy_from_slice(self.part(from, count));
+        self.take_back(to, target);
+    }
+
+    /// Lends a part out that is here, as a row. Nothing is copied.
+    #[tactic(auto, using(crate::proofs::Lists::count_lent, crate::proofs::Lists::count_most, crate::proofs::Lists::spliced_long, crate::proofs::Lists::part_long))]
+    pub fn lend(&mut self, from: usize, count: usize) -> Row
+        requires within { from + count ≤ length self.old.words }
+        requires here { AreHere (part self.old.here from count) count }
+        ensures row { (result.at ≡ self.old.at +ₚ from * 8) × (result.words ≡ part self.old.words from count) }
+        ensures words { self.new.words ≡ self.old.words }
+        ensures here { self.new.here ≡ spliced self.old.here from count (replicate count false) }
+        ensures at { self.new.at ≡ self.old.at }
+    {
+        let at = unsafe { self.ptr.byte_add(from * 8) };
+        let right = replace_with(&mut self.right, (from, count), take);
+        self.out += count;
+        Row::of(right, at, count)
+    }
+
+    /// Takes a row back that lies here, from this word on. Its words were out.
+    #[tactic(auto, using(crate::proofs::Lists::count_back, crate::proofs::Lists::out_least, crate::proofs::Lists::spliced_long))]
+    pub fn take_back(&mut self, from: usize, row: Row)
+        requires within { from + length row.words ≤ length self.old.words }
+        requires place { row.at ≡ self.old.at +ₚ from * 8 }
+        ensures words { self.new.words ≡ spliced self.old.words from (length row.words) row.words }
+        ensures here { self.new.here ≡ spliced self.old.here from (length row.words) (replicate (length row.words) true) }
+        ensures was_out { part self.old.here from (length row.words) ≡ replicate (length row.words) false }
+        ensures at { self.new.at ≡ self.old.at }
+    {
+        let count = row.len();
+        replace_with(&mut self.right, (from, row.into_right()), put);
+        self.out -= count;
+    }
+}
+
+fn take(right: Right, which: (usize, usize)) -> (Right, Right)
+    requires { (which.0 + which.1 ≤ length right.items) × AreHere (part right.here which.0 which.1) which.1 }
+    ensures left { (result.0.ptr ≡ right.ptr) × (result.0.items ≡ right.items) × (result.0.halves ≡ right.halves) × (result.0.here ≡ spliced right.here which.0 which.1 (replicate which.1 false)) }
+    ensures taken { (result.1.ptr ≡ right.ptr +ₚ which.0 * 8) × (result.1.items ≡ part right.items which.0 which.1) × (result.1.halves ≡ right.halves) × AreHere result.1.here which.1 }
+{
+    right.take(which.0, which.1)
+}
+
+fn put(right: Right, which: (usize, Right)) -> (Right, ())
+    requires { (which.0 + length which.1.items ≤ length right.items) × (which.1.ptr ≡ right.ptr +ₚ which.0 * 8) × AreHere which.1.here (length which.1.items) × (which.1.halves ≡ []) × (right.halves ≡ []) }
+    ensures { (result.0.ptr ≡ right.ptr) × (result.0.items ≡ spliced right.items which.0 (length which.1.items) which.1.items) × (result.0.halves ≡ [])
+        × (result.0.here ≡ spliced right.here which.0 (length which.1.items) (replicate (length which.1.items) true)) × (part right.here which.0 (length which.1.items) ≡ replicate (length which.1.items) false) }
+{
+    let (from, taken) = which;
+    (right.put(from, taken), ())
+}
