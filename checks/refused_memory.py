@@ -7,7 +7,7 @@ or at the line of `zone` after the reply to the line before. Another script runs
 refused in turn: besides, a round may be refused 31 or 32, and the zone is then as before it, so that the next round
 does its work. A third runs a pool, which may tell 31 or 32 in place of its first round or its second. A fourth has a
 block, where besides that the fault may be at its line `during`, a client line may be refused 31, and the whole block
-32."""
+32. Each of these three asks for more memory where `--capacity` gives its queues room for more pages."""
 
 import itertools
 import pathlib
@@ -20,6 +20,8 @@ from runs import Ran
 REFUSALS_OF_A_ROUND = {f"refused {number}" for number in range(31, 36)}
 OPENING = ["profile 2", "zone 0 8"]
 TWO_PAGES = ["profile 2", "zone 0 2", "mapat 0 0 0 0", "mapat 0 0 1 512"]
+FEW, MANY = 10, 64  # pages that a queue may have room for
+BYTES_OF_A_PAGE = 64
 
 
 # The scripts.
@@ -141,8 +143,8 @@ class Trial:
         self.output, self.requests = self.run_freely()
         self.replies = self.output.decode().splitlines()
 
-    def run(self, **variables):
-        return runs.run(self.script, LD_PRELOAD=self.folder / "refuse_memory.so", **variables)
+    def run(self, options=(), **variables):
+        return runs.run(self.script, options, LD_PRELOAD=self.folder / "refuse_memory.so", **variables)
 
     def run_freely(self):
         """The replies of a run where no request is refused, and how many requests it makes."""
@@ -152,6 +154,12 @@ class Trial:
         if ran.status != 0:
             raise runs.Failed(f"the script of {self.name}, which has no fault, ends with status {ran.status}")
         return ran.output, int(counted.read_text())
+
+    def bytes_with_room_for(self, pages):
+        """How many bytes a run asks for, where each queue of a round has room for so many pages."""
+        counted = self.folder / "bytes"
+        self.run(["--capacity", str(pages)], REQUESTED_BYTES=counted)
+        return int(counted.read_text())
 
     def each_refusal(self):
         """The runs with a request refused that aren't as one with none: without those that end before the script's work
@@ -225,6 +233,13 @@ def try_every_command(every, opening):
     return every.faults
 
 
+def need_room(trial):
+    """Room for more pages takes the memory of these pages at least."""
+    few, many = map(trial.bytes_with_room_for, (FEW, MANY))
+    if many - few < (MANY - FEW) * BYTES_OF_A_PAGE:
+        raise runs.Failed(f"{trial.name} asks for {few} bytes with room for {FEW} pages, and for {many} with room for {MANY}")
+
+
 def main():
     runs.need_proof("a program whose memory has no part for run-time checks")
     with tempfile.TemporaryDirectory() as folder:
@@ -235,6 +250,8 @@ def main():
         pool = Trial("a pool", a_pool(), folder)
         block = Trial("a block", a_block(), folder)
         need_everything(every, [two, pool], block)
+        for trial in (two, pool, block):
+            need_room(trial)
         faults = try_every_command(every, opening)
         of_rounds, of_pool = two.refused_rounds(without_a_round), pool.refused_rounds(without_a_round_of_the_pool)
         at_line, in_block = try_block(block)

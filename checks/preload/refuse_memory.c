@@ -1,5 +1,6 @@
 /* The C library's requests for memory. They are counted, and the one whose number REFUSED_REQUEST has is refused. When
-   the program ends, the file that REQUESTS names has their count. */
+   the program ends, the file that REQUESTS names has their count, and the one that REQUESTED_BYTES names has the sum of
+   their bytes. */
 
 extern void *__libc_malloc(unsigned long size);
 extern void *__libc_calloc(unsigned long count, unsigned long size);
@@ -17,12 +18,13 @@ static const long exit_group = 231;
 
 static const int no_memory = 12;
 
-static int requests;
+static long requests, bytes;
 
-static int is_refused(void)
+static int is_refused(unsigned long size)
 {
     const char *which = getenv("REFUSED_REQUEST");
-    int request = __atomic_add_fetch(&requests, 1, __ATOMIC_SEQ_CST);
+    long request = __atomic_add_fetch(&requests, 1, __ATOMIC_SEQ_CST);
+    __atomic_add_fetch(&bytes, size, __ATOMIC_SEQ_CST);
     if (!which || request != atoi(which))
         return 0;
     *__errno_location() = no_memory;
@@ -31,22 +33,22 @@ static int is_refused(void)
 
 void *malloc(unsigned long size)
 {
-    return is_refused() ? 0 : __libc_malloc(size);
+    return is_refused(size) ? 0 : __libc_malloc(size);
 }
 
 void *calloc(unsigned long count, unsigned long size)
 {
-    return is_refused() ? 0 : __libc_calloc(count, size);
+    return is_refused(count * size) ? 0 : __libc_calloc(count, size);
 }
 
 void *realloc(void *block, unsigned long size)
 {
-    return is_refused() ? 0 : __libc_realloc(block, size);
+    return is_refused(size) ? 0 : __libc_realloc(block, size);
 }
 
 void *memalign(unsigned long alignment, unsigned long size)
 {
-    return is_refused() ? 0 : __libc_memalign(alignment, size);
+    return is_refused(size) ? 0 : __libc_memalign(alignment, size);
 }
 
 void *aligned_alloc(unsigned long alignment, unsigned long size)
@@ -60,18 +62,19 @@ int posix_memalign(void **block, unsigned long alignment, unsigned long size)
     return *block ? 0 : no_memory;
 }
 
-static void tell(void)
+static void tell(const char *name, long number)
 {
-    const char *path = getenv("REQUESTS");
-    int found = requests;
+    const char *path = getenv(name);
     if (path)
-        dprintf(creat(path, 0600), "%d\n", found);
+        dprintf(creat(path, 0600), "%ld\n", number);
 }
 
 /* A program with threads ends by this, and no destructor runs. */
 void _exit(int status)
 {
-    tell();
+    long found = requests, asked = bytes;
+    tell("REQUESTS", found);
+    tell("REQUESTED_BYTES", asked);
     for (;;)
         syscall(exit_group, status);
 }
