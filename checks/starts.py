@@ -237,6 +237,12 @@ def hidden_build(repository):
         answers(repository, "a start with no build", ["try", "try -- --word 3"], [COMPILES, AGAIN])
 
 
+def ends_what_checks(repository):
+    """A check that `rt try` runs isn't waited for."""
+    with repository.kit_that("checks"):
+        compiles(repository, "a start whose kit runs a check")
+
+
 def proved_starts(repository):
     """The proved program runs exactly where it is that of the sources and the kit."""
     proves(repository, "a proof")
@@ -344,6 +350,7 @@ CASES = (
     failing_builds,
     interrupted,
     hidden_build,
+    ends_what_checks,
     proved_starts,
     files_as_listed,
     damaged_listings,
