@@ -237,6 +237,12 @@ def hidden_build(repository):
         answers(repository, "a start with no build", ["try", "try -- --word 3"], [COMPILES, AGAIN])
 
 
+def ends_what_checks(repository):
+    """A check that `rt try` runs isn't waited for."""
+    with repository.kit_that("checks"):
+        compiles(repository, "a start whose kit runs a check")
+
+
 def proved_starts(repository):
     """The proved program runs exactly where it is that of the sources and the kit."""
     proves(repository, "a proof")
@@ -286,8 +292,9 @@ def damaged_listings(repository):
     """A listing that isn't whole, and one of files that have just changed, is no reason to run a build."""
     compiles(repository, "the first start")
     answers(repository, "a start at once after it", tells=[UNPROVED])
-    listing = repository.top / OUT / "unproved/compactd.seen"
-    same("a listing of files that have just changed", listing.exists(), False)
+    build, listing = (repository.top / OUT / "unproved" / name for name in ("compactd", "compactd.seen"))
+    is_at_rest = time.time() > build.stat().st_ctime + program.SECONDS_AT_REST
+    same("a listing of files that have just changed", listing.exists() and not is_at_rest, False)
     answers_at_once(repository, "a start of files at rest", [UNPROVED])
     whole = listing.read_bytes()
     for text in (b"", whole[:-1], whole[: len(whole) // 2], b"\0" * 100, whole + b"\n"):
@@ -344,6 +351,7 @@ CASES = (
     failing_builds,
     interrupted,
     hidden_build,
+    ends_what_checks,
     proved_starts,
     files_as_listed,
     damaged_listings,
