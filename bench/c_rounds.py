@@ -30,9 +30,10 @@ def measured(program, runs):
     return found
 
 
-def show(found):
+def show(found, base):
+    """A table of the medians and the least numbers, with what each is to those of the base."""
     numbers = {what: (statistics.median(each), min(each)) for what, each in found.items()}
-    median, least = numbers[BASE]
+    median, least = numbers[base]
     print(f"{'nanoseconds a page':24}{'median':>8}{'ratio':>8}{'least':>8}{'ratio':>8}")
     for what, (middle, best) in numbers.items():
         print(f"{what:24}{middle:>8.0f}{middle / median:>8.2f}{best:>8.0f}{best / least:>8.2f}")
@@ -50,7 +51,7 @@ def main():
     with tempfile.TemporaryDirectory() as room:
         program = c_calls.in_c(pathlib.Path(room, "c_rounds"), "c_rounds.c", c_calls.folder() / "libcompactd.a")
         found = measured(program, runs)
-    show(found)
+    show(found, BASE)
     show_load("after")
 
 

@@ -1,20 +1,24 @@
 -- A round that moves one page after the other.
 use Rattle.std.proofs.Common.{◌≡◌, ℕ, zero, suc, ◌-◌, ◌<◌, ◌≤◌, refl, sym, ap, subst, ◌∙◌, arith, cond}
-use Rattle.std.specs.Prelude.{Bool, true, false, nat_eq, is_some, Option, Some, None}
+use Rattle.std.specs.Prelude.{Bool, true, false, nat_eq, is_some, is_none, Option, Some, None}
+use Rattle.std.proofs.lemmas.Bool.{eqb-true, and_parts}
+use Rattle.std.specs.FinMap as map
 use Rattle.frame_core.specs.History.{pins}
 use Rattle.frame_core.specs.Moves.{isolated}
-use Rattle.state_core.specs.Isolating.{isolate_refusal, isolated_next, next_answer, next_state}
+use Rattle.state_core.specs.Isolating.{isolate_refusal, isolated_next}
 use Rattle.state_core.specs.Ending.{committed, moved_to_target}
-use Rattle.state_core.specs.Pairs.{next_pair}
+use Rattle.state_core.specs.Pairs.{can_move, next_pair}
 use Rattle.state_core.specs.Valid.{IsValidZone}
 use Rattle.state_core.specs.ZoneState.{ZoneState}
 use Rattle.state_core.specs.declared.error.ZoneError.{ZoneError}
+use Rattle.state_core.specs.declared.placement.Placement.TheVariants.{Moving}
 use Rattle.state_core.specs.declared.round.Pair.{Pair}
+use Rattle.state_core.proofs.Entries.{get_insert_same}
+use Rattle.zone_tables.specs.declared.ending.Move.{Move}
 use Rattle.state_core.proofs.Facts.{room_and_serial}
 use Rattle.zone_core.specs.OneThread.{moved_to, moved_next, going_on, moved_at_most, all_moved}
-use Rattle.state_core.specs.declared.moves.Next.TheVariants as answer
-use Rattle.frame_core.specs.Page.{IsolatedPage}
-use Rattle.zone_core.proofs.OneThread.{IsBetween, between_moved, unpinned, page_scanned}
+use Rattle.zone_core.specs.ByHand.{scan_pair}
+use Rattle.zone_core.proofs.OneThread.{IsBetween, between_moved, unpinned}
 
 -- it stays where it stopped, however many moves it may still make
 stays : (most : ℕ) (z : ZoneState) → moved_next z ≡ None → moved_at_most most z ≡ z
@@ -105,10 +109,27 @@ met_moves_none z none = by_refusal (isolate_refusal z)
 pub full_moves_none : (z : ZoneState) (error : ZoneError) → isolate_refusal z ≡ Some error → moved_next z ≡ None
 full_moves_none z error refused = ap (λ (r : Option ZoneError). cond (is_some r) None (moved_to z (next_pair z))) refused
 
--- the page that was isolated next is committed
-pub moved_by : (z scanned next : ZoneState) (p : IsolatedPage) → isolate_refusal z ≡ None → answer.Page p ≡ next_answer z (next_pair z)
-    → scanned ≡ next_state z (next_pair z) → next ≡ committed scanned p.serial p.page.number → moved_next z ≡ Some next
-moved_by z scanned next p spare says left ends =
-    let is = page_scanned z scanned p (next_pair z) says left in
-    ap (λ (r : Option ZoneError). cond (is_some r) None (moved_to z (next_pair z))) spare ∙ ap (moved_to z) is.found
-    ∙ ap Some (sym (ends ∙ (λ i. committed (is.left i) (is.page i).serial (is.page i).page.number)))
+-- where no page is moved, the scanner stops
+pub none_scanned : (z : ZoneState) → moved_next z ≡ None → scan_pair z ≡ None
+none_scanned z none = by_both (isolate_refusal z) (next_pair z) none
+  where
+    by_both : (r : Option ZoneError) (o : Option Pair) → cond (is_some r) None (moved_to z o) ≡ None → cond (is_none r) o None ≡ None
+    by_both (Some error) o is = refl
+    by_both None None is = refl
+    by_both None (Some pair) is = absurd cc
+
+-- a page that may be taken from its frame has no pin
+unpinned_if_movable : (z : ZoneState) (page : ℕ) → can_move z page ≡ true → pins z.records page ≡ 0
+unpinned_if_movable z page can = eqb-true (pins z.records page) 0 (and_parts (nat_eq (pins z.records page) 0) _ can).0
+
+-- the page of the pair was isolated: its move has begun
+module _ (start z begun : ZoneState) (pair : Pair) (way : Move) (same : z ≡ start) (is : way ≡ record { page = pair.page; serial = isolated z.records; source = pair.source; target = pair.target }) (step : begun ≡ isolated_next z pair) where
+  pub begun_placed : map.get begun.placement way.page ≡ Some (Moving way.serial way.source way.target)
+  begun_placed =
+      (λ i. map.get (step i).placement (is i).page)
+      ∙ get_insert_same z.placement pair.page pair.page (Moving (isolated z.records) pair.source pair.target) refl
+      ∙ sym (ap (λ (m : Move). Some (Moving m.serial m.source m.target)) is)
+
+  pub begun_unpinned : can_move start pair.page ≡ true → pins begun.records way.page ≡ 0
+  begun_unpinned can =
+      (λ i. pins (step i).records (is i).page) ∙ ap (λ (v : ZoneState). pins v.records pair.page) same ∙ unpinned_if_movable start pair.page can

@@ -16,12 +16,11 @@ ghost use Rattle.zone_core.specs.ZoneIdentity.{HasIdentity};
 
 use crate::bare::BareZone;
 use crate::seats::Answered;
-use state_core::Next;
 
 impl<const W: usize> BareZone<W> {
-    /// Runs one round on the thread that calls. Each page that can be moved goes up into a free frame, the lowest page first: it is isolated,
-    /// copied and moved before the next one is isolated. A page stays where it is that is pinned or unmovable, or in a marked pageblock, and so
-    /// does one that was moving before.
+    /// Runs one round on the thread that calls. Each page that can be moved goes up into a free frame, the lowest page first: it is isolated
+    /// and moved before the next one is isolated. It is copied once, from frame to frame, and nothing is compared, since nobody else could
+    /// have written. A page stays where it is that is pinned or unmovable, or in a marked pageblock, and so does one that was moving before.
     ///
     /// Answers `Met` once no page that can be moved has a free frame above it, or `JournalFull` where the journal has no room for one more
     /// move, or no serial is left.
@@ -38,14 +37,9 @@ impl<const W: usize> BareZone<W> {
     {
         self.tables.begin_round();
         loop {
-            let page = match self.isolate_next() {
-                Ok(Next::Page(page)) => page,
-                Ok(Next::Met) => return Answered::Met,
-                Err(_) => return Answered::JournalFull,
-            };
-            let Ok(_) = self.commit(page.copy_into_new()) else {
-                unreachable!();
-            };
+            if let Some(last) = self.move_next() {
+                return last;
+            }
         }
     }
 }

@@ -1,22 +1,24 @@
 //! The steps of rounds: pages are isolated, and their moves end.
 
-ghost use Rattle.std.specs.Prelude.{◌≡◌, ◌+◌, ◌↔◌, true, false, length, nat_lt, Some, None, if◌then◌else◌, IsOk, IfOk, IfErr, OnOk, OnErr};
+ghost use Rattle.std.specs.Prelude.{◌≡◌, ◌+◌, ◌↔◌, true, false, length, nat_lt, Some, None, if◌then◌else◌, IsOk, IfOk, IfErr, IfSome, IfNone, OnOk, OnErr};
 ghost use Rattle.std.specs.Result.{result_err};
 ghost use Rattle.frame_core.specs.Moves.{moved, out, put_back};
 ghost use Rattle.state_core.specs.Ending.{is_own, IsOwnCopy, Ends, ended_as, committed, put_back_to_source};
 ghost use Rattle.state_core.specs.Isolating.{isolate_refusal, next_answer, next_state, Scans};
 ghost use Rattle.state_core.specs.Valid.{IsValidZone};
 ghost use Rattle.state_core.specs.Packed.{IsPacked};
-ghost use Rattle.state_core.specs.Pairs.{HaveMet, is_calm, next_pair};
+ghost use Rattle.state_core.specs.Pairs.{HaveMet, IsPair, is_calm, next_pair};
 ghost use Rattle.state_core.specs.Rounds.{round_begun};
 ghost use Rattle.state_core.specs.ZoneState.{is_quiet};
 ghost use Rattle.zone_core.specs.Counted.{IsCounted};
+ghost use Rattle.zone_core.specs.OneThread.{last_for, moved_next};
 ghost use Rattle.zone_core.specs.Seats.{IsFollowed};
 ghost use Rattle.zone_core.specs.ZoneIdentity.{HasIdentity};
 
 use crate::bare::BareZone;
+use crate::seats::Answered;
 use frame_core::{Cause, CopiedOf, IsolatedOf};
-use state_core::{Audit, Ended, Next, Stranger, ZoneError};
+use state_core::{Audit, Ended, Next, Pair, Stranger, ZoneError};
 
 impl<const W: usize> BareZone<W> {
     /// Begins a round: the migrate finger is set to the bottom of the zone, and the free finger above its top. A round may begin
@@ -50,14 +52,50 @@ impl<const W: usize> BareZone<W> {
         ensures identity { HasIdentity self.old.number self.old.blocks self.new }
         ensures valid { IsValidZone self.new }
     {
-        if !self.tables.has_room_for_two() || !self.tables.has_serial() {
-            return Err(ZoneError::JournalFull);
-        }
-        let Some(pair) = self.tables.next_pair() else {
+        let Some(pair) = self.next_pair()? else {
             return Ok(Next::Met);
         };
         let page = self.tables.isolate(pair);
         Ok(Next::Page(page))
+    }
+
+    /// The page of the lowest source, with this frame and its target, or none where the scanners have met.
+    ///
+    /// Refused as `isolate_next` is.
+    #[inline(always)]
+    fn next_pair(&self) -> Result<Option<Pair>, ZoneError>
+        ensures refused { result_err result ≡ isolate_refusal self.now }
+        ensures pair { IfOk result (λ found. found ≡ next_pair self.now) }
+        ensures is_pair { IfOk result (λ found. IfSome found (λ pair. IsPair self.now pair.page pair.source pair.target)) }
+        ensures none { IfOk result (λ found. IfNone found (HaveMet self.now)) }
+    {
+        if !self.tables.has_room_for_two() || !self.tables.has_serial() {
+            return Err(ZoneError::JournalFull);
+        }
+        Ok(self.tables.next_pair())
+    }
+
+    /// Moves the page that would be isolated next: it is isolated, its words are copied from its frame into its target, and its move ends.
+    /// Answers why no page was moved, if none was: `Met`, or `JournalFull` where `isolate_next` is refused.
+    #[inline(always)]
+    pub(crate) fn move_next(&mut self) -> Option<Answered>
+        ensures moved { IfNone result (moved_next self.old ≡ Some self.new) }
+        ensures none { IfSome result (λ last. moved_next self.old ≡ None) }
+        ensures stays { IfSome result (λ last. self.new ≡ self.old) }
+        ensures last { IfSome result (λ last. last ≡ last_for (isolate_refusal self.old)) }
+        ensures met { result ≡ Some Answered.Met → HaveMet self.new }
+        ensures identity { HasIdentity self.old.number self.old.blocks self.new }
+        ensures valid { IsValidZone self.new }
+    {
+        match self.next_pair() {
+            Ok(Some(pair)) => {
+                let way = self.tables.begin_move(pair);
+                self.tables.carry(&way);
+                None
+            }
+            Ok(None) => Some(Answered::Met),
+            Err(_) => Some(Answered::JournalFull),
+        }
     }
 
     /// Ends the move of a page with its copy: the page is in its new frame afterwards, or in its old one where it has a pin. A

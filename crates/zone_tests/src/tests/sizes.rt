@@ -1,12 +1,18 @@
 //! Zones and worlds whose pages have 1, 8, 64 and 512 words.
 
+ghost use Rattle.std.specs.Prelude.{◌≤◌};
+
 use super::answers::Answer;
-use super::calls::{Call, PAGE};
+use super::calls::{Call, Name, PAGE, unread};
 use super::trial::{Case, Size, tries};
-use super::{world, zone};
+use super::{address, client, word, world, zone};
+use frame_core::ZoneNo;
 use std::process::Abort;
 use zone::Part;
-use zone_core::{Ended, ZoneError};
+use zone_core::{Answered, BareZone, Ended, ZoneError};
+
+/// The address of a second page.
+const OTHER: Name = (7, 10);
 
 /// Plays rows with a zone that has so many places in its journal.
 fn plays<'a>(
@@ -86,6 +92,36 @@ fn moves_by_hand(rt: &(impl Abort + AllocGlobal), size: Size) {
     ];
     let case = Case::of_world("a hand moves a page", size, CallForm::Method, &rows);
     tries(rt, &case);
+}
+
+/// A round on one thread moves two pages, and each has its own words afterwards.
+fn compacts<const W: usize>(rt: &(impl Abort + AllocGlobal))
+    requires { W ≤ 512 }
+{
+    let (differ, alike) = (words_that_differ(), [7; 512]);
+    let pages = [(PAGE, &differ[..W]), (OTHER, &alike[..W])];
+    let number = ZoneNo::new(3).expect(rt, "a zone");
+    let mut zone = BareZone::<W>::open(rt.alloc(), number, 1, 4096).expect(rt, "a zone");
+    for (name, words) in pages.iter() {
+        let page = address(rt, *name);
+        assert!(rt; zone.map(client(rt), page, false).is_ok());
+        assert!(rt; zone.write(client(rt), page, word(rt, 0), words).is_ok());
+    }
+    assert!(rt; zone.compact() == Answered::Met);
+    assert!(rt; zone.ended() == 2);
+    for (name, words) in pages.iter() {
+        let mut found = unread(rt, words.len());
+        let answer = zone.read(client(rt), address(rt, *name), word(rt, 0), &mut found);
+        assert!(rt; answer.is_ok() && found.as_slice() == *words);
+    }
+}
+
+#[test]
+fn a_round_on_one_thread_keeps_each_word(rt: HostRuntime) {
+    compacts::<1>(&rt);
+    compacts::<8>(&rt);
+    compacts::<64>(&rt);
+    compacts::<512>(&rt);
 }
 
 #[test]
