@@ -11,8 +11,10 @@ use zone_core::ZoneError;
 /// A call of a client. Addresses are virtual pages of one space.
 #[derive(Clone, Copy, Debug)]
 pub enum Call {
+    Map(u32),
     MapUnmovable(u32),
     MapAt(u32, u32),
+    MapAtUnmovable(u32, u32),
     Share(u32, u32),
     Unmap(u32),
     Load(u32, u32),
@@ -54,6 +56,10 @@ fn address(rt: &impl Abort, number: u32) -> Address {
 
 fn word(rt: &impl Abort, number: u32) -> WordNo {
     WordNo::new(number).expect(rt, "a word")
+}
+
+fn frame(rt: &impl Abort, number: u32) -> FrameNo {
+    FrameNo::new(number).expect(rt, "a frame")
 }
 
 fn refusal(error: ClientError) -> Answer {
@@ -101,12 +107,17 @@ impl<Z: Names> Shared<Z> {
     ) -> Answer {
         let zone = &self.zone;
         match call {
+            Call::Map(at) => mapped(client.map(rt, zone, address(rt, at), PageFlags::empty())),
             Call::MapUnmovable(at) => {
                 mapped(client.map(rt, zone, address(rt, at), PageFlags::UNMOVABLE))
             }
             Call::MapAt(at, number) => {
-                let frame = FrameNo::new(number).expect(rt, "a frame");
-                done(client.map_at(rt, zone, address(rt, at), PageFlags::empty(), frame))
+                let (address, frame) = (address(rt, at), frame(rt, number));
+                done(client.map_at(rt, zone, address, PageFlags::empty(), frame))
+            }
+            Call::MapAtUnmovable(at, number) => {
+                let (address, frame) = (address(rt, at), frame(rt, number));
+                done(client.map_at(rt, zone, address, PageFlags::UNMOVABLE, frame))
             }
             Call::Share(at, alias) => {
                 done(client.share(rt, zone, address(rt, at), address(rt, alias)))

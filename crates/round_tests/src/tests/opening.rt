@@ -114,10 +114,10 @@ impl<Z: Names> Opening<Z> {
         self.keeps(rt, &[(Call::MapAt(number, number), Answer::Done)]);
     }
 
-    /// Virtual pages 0, 1, .. name pages in the frames 0, 1, ..
+    /// Virtual pages 0, 1, .. name pages in the frames 0, 1, .., which are the lowest free ones.
     pub fn fill<R: Wait + Abort>(&mut self, rt: &R, pages: u32) {
         for number in 0..pages {
-            self.map(rt, number);
+            self.keeps(rt, &[(Call::Map(number), Answer::Frame(number))]);
         }
     }
 

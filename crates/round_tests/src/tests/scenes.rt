@@ -30,9 +30,13 @@ const TWO_COPIERS: Scene = Scene {
     ..TWO_PAGES
 };
 
-/// The first copy is held until the other page has ended and a client's load of a third page is answered, which can't move.
+/// The first copy is held until the other page has ended and a client's load of a third page is answered. That page and a fourth can't
+/// move.
 const TWO_IN_HAND: Scene = Scene {
-    before: &[(Call::MapUnmovable(2), Answer::Frame(2))],
+    before: &[
+        (Call::MapUnmovable(2), Answer::Frame(2)),
+        (Call::MapAtUnmovable(3, 3), Answer::Done),
+    ],
     plan: Plan::HoldsFirst(
         Point::Copied,
         Until {

@@ -161,7 +161,7 @@ static PAGES: [Case<'static>; 10] = [
     },
     Case {
         name: "frames that aren't in the zone",
-        script: b"zone 0 1\nmapat 0 0 0 512\nmapat 0 0 0 4096\n",
+        script: b"zone 1 1\nmapat 1 0 0 512\nmapat 1 0 0 4096\n",
         replies: b"ok\nrefused 1\nrefused 1\n",
         ..NOTHING
     },
@@ -267,7 +267,7 @@ static BLOCKS: [Case<'static>; 7] = [
     },
     Case {
         name: "marks of pageblocks that a zone doesn't have",
-        script: b"profile 2\nzone 0 1\nmark 0 1\nmark 0 8\n",
+        script: b"profile 2\nzone 3 1\nmark 3 1\nmark 3 8\n",
         replies: b"ok\nok\nrefused 1\nrefused 1\n",
         ..NOTHING
     },

@@ -212,14 +212,16 @@ fn recorded(rt: &impl Abort, journal: &Journal, number: usize) -> Answer {
     Answer::Loaded(client.get(), name, *word, *value)
 }
 
-/// A world is handed back as it was where its round is open, and comes apart once it is shut.
+/// A world, here one without records, is handed back as it was where its round is open, and comes apart once it is shut.
 fn comes_apart<I: Ledger, N: Ledger, M: Ledger, B: Ledger>(
     rt: &(impl Abort + AllocGlobal),
     blanks: Blanks,
 )
     requires blanks { AreFor blanks I.name I.parts N.name N.parts M.name M.parts B.name B.parts }
 {
-    let mut world = OpenWorld::<8, I, N, M, B>::of(rt, 1, blanks).world;
+    let number = ZoneNo::new(3).expect(rt, "a zone");
+    let opened = WorldOf::<8, I, N, M, B>::open_unrecorded(rt.alloc(), number, 1, blanks);
+    let mut world = opened.expect(rt, "a world");
     assert!(rt; world.scan() == Ok(Scanned::Met));
     let mut world = world.split().err().expect(rt, "an open round");
     assert!(rt; world.is_open());
