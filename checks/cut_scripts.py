@@ -2,7 +2,7 @@
 
 Each worked example of docs/SCRIPT.md is cut after each of its bytes. The program has to answer the whole lines that are
 left as the manual says. It has to end with fault 41 at the next line where bytes of that line are left, or at the line
-of a block that isn't ended, and else with status 0."""
+of a block that isn't ended, and else with status 0. Over an unproved build a twentieth of these cuts is tried."""
 
 import manual
 import runs
@@ -46,10 +46,11 @@ def main():
     if len(worked) < LEAST:
         raise runs.Failed(f"docs/SCRIPT.md has {len(worked)} worked examples")
     cuts = [(example, size) for example in worked for size in range(len(example.script) + 1)]
-    for wrong in runs.each(difference, cuts):
+    tried = runs.some_of(cuts)
+    for wrong in runs.each(difference, tried):
         if wrong:
             raise runs.Failed(wrong)
-    return f"{len(worked)} worked examples, cut after each of {len(cuts)} bytes, are answered to the last whole line"
+    return f"{len(worked)} worked examples, cut after {len(tried)} of their {len(cuts)} bytes, are answered to the last whole line"
 
 
 if __name__ == "__main__":

@@ -97,7 +97,7 @@ def is_right(found, wanted):
 
 
 def main():
-    lines = runs.some_of(LINES)
+    lines = len(runs.some_of(range(LINES)))
     scripts = [told_script() for _ in range(lines)]
     ends = collections.Counter()
     for (text, wanted), found in zip(scripts, runs.each(runs.written_for, [text for text, _ in scripts])):

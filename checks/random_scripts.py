@@ -320,16 +320,16 @@ WANTED |= {f"pool stopped={reason}" for reason in ("enough", "noblock", "journal
 
 
 def main():
-    kinds, scripts = collections.Counter(), runs.some_of(SCRIPTS)
-    for wrong, found in runs.each(try_script, range(scripts)):
+    kinds, scripts = collections.Counter(), runs.some_of(range(SCRIPTS))
+    for wrong, found in runs.each(try_script, scripts):
         if wrong:
             raise runs.Failed(wrong)
         kinds += found
-    if set(kinds) - WANTED or scripts == SCRIPTS and WANTED - set(kinds):
+    if set(kinds) - WANTED or len(scripts) == SCRIPTS and WANTED - set(kinds):
         wrong = sorted(WANTED ^ set(kinds))
         raise runs.Failed(f"the scripts have other kinds of replies than they should: {wrong}")
     told = f"{kinds[ROUND]} {ROUND} and {kinds[ROUND_BESIDE]} beside a client"
-    return f"{scripts} random scripts, with {told}, have the replies of checks/machine.py, and their counts add up"
+    return f"{len(scripts)} random scripts, with {told}, have the replies of checks/machine.py, and their counts add up"
 
 
 if __name__ == "__main__":
