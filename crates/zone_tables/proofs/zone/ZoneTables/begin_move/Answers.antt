@@ -13,7 +13,6 @@ use Rattle.zone_tables.proofs.Facts.{held_by, is_sound}
 use Rattle.zone_tables.proofs.MoveEnds.{still_free, two_puts}
 use Rattle.zone_tables.proofs.SearchesAndCounts.{free_seen}
 use Rattle.state_core.specs.Pairs.{can_move}
-use Rattle.state_core.specs.ZoneState.{ZoneState}
 use Rattle.zone_tables.proofs.ListedAddresses.{fresh_serial, page_rests}
 use Rattle.zone_tables.specs.Fits.{MovesFit}
 use Rattle.zone_tables.specs.History.{told}
