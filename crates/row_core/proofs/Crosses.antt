@@ -57,7 +57,7 @@ allocation-send = record {
       tt,
       λ xs. (
         (tt, words_owned-keyless full_share xs (replicate (length xs) true) (block_of e.ptr) (count_of e.ptr)),
-        (struct_send (declared.shape Inside.the_type) (vec-send, tt)).owned (with_items v.vec xs, tt) vs,
+        (struct_send (declared.shape Inside.the_type) (vec-send, tt)).owned (with_items v.list xs, tt) vs,
       ),
     ),
   );

@@ -88,11 +88,14 @@ take_true zero k fits = refl
 take_true (suc n) zero fits = absurd (omega (arith, fits))
 take_true (suc n) (suc k) fits = ap (λ (l : List Bool). true ∷ l) (take_true n k (omega (arith, fits)))
 
+part_true : (k from n : ℕ) → from + n ≤ k → AreHere (part (replicate k true) from n) n
+part_true k zero n fits = take_true n k fits
+part_true zero (suc from) n fits = absurd (omega (arith, fits))
+part_true (suc k) (suc from) n fits = part_true k from n (omega (arith, fits))
+
 -- where all words are here, those of each part are
-pub part_here : (k from n : ℕ) → from + n ≤ k → AreHere (part (replicate k true) from n) n
-part_here k zero n fits = take_true n k (omega (arith, fits))
-part_here zero (suc from) n fits = absurd (omega (arith, fits))
-part_here (suc k) (suc from) n fits = part_here k from n (omega (arith, fits))
+pub part_here : (xs : List Bool) (k from n : ℕ) → AreHere xs k → from + n ≤ k → AreHere (part xs from n) n
+part_here xs k from n all fits = ap (λ (l : List Bool). part l from n) all ∙ part_true k from n fits
 
 module _ {X : Type 0} (xs ws : List X) (from n at m : ℕ) (fits : from + n ≤ length xs) (same : length ws ≡ n) where
   part_before : at + m ≤ from → part (spliced xs from n ws) at m ≡ part xs at m

@@ -73,7 +73,7 @@ module _ {M : Type 1} {𝓤 : Ura M} (𝓛 : Logic 𝓤) (v : Vec ℕ Global.the
       rewrite ! 0 (λ p. ‵ (in_block p (all_owned full_share v.items (block_of p) (count_of p)))) (sym at) refl $ frame ! $
       use0 𝓛 (raw (fact 𝓤 (v.len < 2 ^ 60))) (fact_i 𝓤 (v.len < 2 ^ 60) (emp 𝓤) (omega (arith, fit, v.ok.1))) $ frame ! $
       -- [what waits; the fields]
-      show ! (λ i. sem 𝓛 (fsep (feq ℕ i.vec.len v.len) (fall (List ℕ) (λ ys. fwand (Given ys) ((plainly (Words ∷ [])).own_val (with_items i.vec ys, tt) (one u ∷ [])))))) (record { vec = v }) $
+      show ! (λ i. sem 𝓛 (fsep (feq ℕ i.list.len v.len) (fall (List ℕ) (λ ys. fwand (Given ys) ((plainly (Words ∷ [])).own_val (with_items i.list ys, tt) (one u ∷ [])))))) (record { list = v }) $
       feq_i ! ℕ v.len v.len refl $ frame ! $ each ! (λ ys. wand 𝓤 (sem 𝓛 (Given ys)) (sem 𝓛 (Whole ys))) (λ ys. assume ! (‵ (Given ys)) $
       let zs = (with_items v ys).items in
       rewrite ! 0 (λ p. ‵ (fsep (feq ℕ (length ys) v.len) (all_owned full_share ys (block_of p) (count_of p)))) at refl $ move ! (1 ∷ []) $

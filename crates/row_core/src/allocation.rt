@@ -14,7 +14,7 @@ use std::marker::{Move, Owns};
 
 /// A vector of words, without the right to them. It waits for that right, and then frees the memory.
 pub(crate) struct Allocation {
-    vec: Vec<u64, Global>,
+    list: Vec<u64, Global>,
 }
 
 impl Owns for Allocation {
@@ -26,7 +26,7 @@ impl Owns for Allocation {
 }
 
 impl Move for Allocation {
-    ghost own_val = { λ e vs. fex Inside (λ v. fsep (feq ℕ v.vec.len e.len) (fall (List ℕ) (λ xs. fwand (fsep (feq ℕ (length xs) e.len) (words_owned full_share xs (replicate (length xs) true) (block_of e.ptr) (count_of e.ptr))) (Fields.own_val (record { vec = with_items v.vec xs }) vs)))) };
+    ghost own_val = { λ e vs. fex Inside (λ v. fsep (feq ℕ v.list.len e.len) (fall (List ℕ) (λ xs. fwand (fsep (feq ℕ (length xs) e.len) (words_owned full_share xs (replicate (length xs) true) (block_of e.ptr) (count_of e.ptr))) (Fields.own_val (record { list = with_items v.list xs }) vs)))) };
 }
 
 // What it owns names no thread, and a `&` to it shows nothing.
@@ -36,11 +36,11 @@ unsafe impl Sync for Allocation {}
 
 impl Allocation {
     /// Takes the right to the words out of a vector.
-    pub(crate) fn without_right(vec: Vec<u64, Global>) -> (Allocation, Right)
-        ensures { (result.0.ptr ≡ vec.ptr) × (result.0.len ≡ length vec.items)
-            × (result.1.ptr ≡ vec.ptr) × (result.1.items ≡ vec.items) × (result.1.halves ≡ []) × AreHere result.1.here (length vec.items) × InBlock vec.ptr × (length vec.items < 2 ^ 60) }
+    pub(crate) fn without_right(list: Vec<u64, Global>) -> (Allocation, Right)
+        ensures { (result.0.ptr ≡ list.ptr) × (result.0.len ≡ length list.items)
+            × (result.1.ptr ≡ list.ptr) × (result.1.items ≡ list.items) × (result.1.halves ≡ []) × AreHere result.1.here (length list.items) × InBlock list.ptr × (length list.items < 2 ^ 60) }
     {
-        (Allocation { vec }, Right {})
+        (Allocation { list }, Right {})
     }
 
     /// Puts the right to the words back.
@@ -49,7 +49,7 @@ impl Allocation {
         ensures { result.items ≡ right.items }
     {
         let Right {} = right;
-        let Allocation { vec } = self;
-        vec
+        let Allocation { list } = self;
+        list
     }
 }

@@ -66,9 +66,9 @@ impl Ground {
         ensures words { IfOk result (λ g. g.words ≡ replicate count 0) }
         ensures here { IfOk result (λ g. g.here ≡ replicate count true) }
     {
-        let mut vec = Vec::from_elem(alloc, 0u64, count)?;
-        let ptr = vec.as_mut_ptr();
-        let (allocation, right) = Allocation::without_right(vec);
+        let mut list = Vec::from_elem(alloc, 0u64, count)?;
+        let ptr = list.as_mut_ptr();
+        let (allocation, right) = Allocation::without_right(list);
         Ok(Ground {
             ptr,
             right,

@@ -114,10 +114,10 @@ impl Right {
     }
 
     /// The right to the words of such a vector.
-    pub(crate) fn of_vec(vec: Vec<u64, Lodged>) -> Right
-        ensures { (result.ptr ≡ vec.ptr) × (result.items ≡ vec.items) × (result.halves ≡ []) × AreHere result.here (length vec.items) }
+    pub(crate) fn of_vec(list: Vec<u64, Lodged>) -> Right
+        ensures { (result.ptr ≡ list.ptr) × (result.items ≡ list.items) × (result.halves ≡ []) × AreHere result.here (length list.items) }
     {
-        let _len = vec.dislodge();
+        let _len = list.dislodge();
         Right {}
     }
 }

@@ -12,7 +12,7 @@ use std_alloc::vec::Lodged;
 /// lost to its ground, which then keeps its memory for ever.
 #[derive(Drop)]
 pub struct Row {
-    vec: Vec<u64, Lodged>,
+    list: Vec<u64, Lodged>,
 }
 
 impl Model for Row {
@@ -24,9 +24,9 @@ impl Model for Row {
 
     ghost coded = { row_code };
 
-    ghost view = { λ r. record { at = r.vec.ptr; words = r.vec.items } };
+    ghost view = { λ r. record { at = r.list.ptr; words = r.list.items } };
 
-    ghost invariant = { λ r. (r.vec.len < 2 ^ 60) × InBlock r.vec.ptr };
+    ghost invariant = { λ r. (r.list.len < 2 ^ 60) × InBlock r.list.ptr };
 }
 
 impl Row {
@@ -41,7 +41,7 @@ impl Row {
         ensures { (result.at ≡ at) × (result.words ≡ right.items) }
     {
         Row {
-            vec: right.into_vec(at, len),
+            list: right.into_vec(at, len),
         }
     }
 
@@ -49,8 +49,8 @@ impl Row {
     pub(crate) fn into_right(self) -> Right
         ensures { (result.ptr ≡ self.at) × (result.items ≡ self.words) × (result.halves ≡ []) × AreHere result.here (length self.words) }
     {
-        let Row { vec } = self;
-        Right::of_vec(vec)
+        let Row { list } = self;
+        Right::of_vec(list)
     }
 
     /// The words.
@@ -58,7 +58,7 @@ impl Row {
     pub fn words(&self) -> &[u64]
         ensures { result.now ≡ self.now.words }
     {
-        self.vec.as_slice()
+        self.list.as_slice()
     }
 
     /// The words, to be written.
@@ -67,7 +67,7 @@ impl Row {
         ensures* writes_back { sem 𝓛 (lends_words self.entry result) }
         ensures value { result.now ≡ self.old.words }
     {
-        self.vec.as_mut_slice()
+        self.list.as_mut_slice()
     }
 
     /// How many words the row has.
@@ -75,7 +75,7 @@ impl Row {
     pub fn len(&self) -> usize
         ensures { result ≡ length self.now.words }
     {
-        self.vec.len()
+        self.list.len()
     }
 
     /// Copies the words of another row, which has as many.
@@ -84,7 +84,7 @@ impl Row {
         ensures words { self.new.words ≡ source.now.words }
         ensures at { self.new.at ≡ self.old.at }
     {
-        self.vec.as_mut_slice().copy_from_slice(source.words());
+        self.list.as_mut_slice().copy_from_slice(source.words());
     }
 
     /// Whether both rows have the same words.
@@ -100,9 +100,9 @@ impl Row {
         ensures first { (result.0.at ≡ self.at) × (result.0.words ≡ take mid self.words) }
         ensures second { (result.1.at ≡ self.at +ₚ mid * 8) × (result.1.words ≡ drop mid self.words) }
     {
-        let Row { mut vec } = self;
-        let (at, len) = (vec.as_mut_ptr(), vec.len());
-        let (first, second) = Right::of_vec(vec).cut(mid);
+        let Row { mut list } = self;
+        let (at, len) = (list.as_mut_ptr(), list.len());
+        let (first, second) = Right::of_vec(list).cut(mid);
         let after = unsafe { at.byte_add(mid * 8) };
         (Row::of(first, at, mid), Row::of(second, after, len - mid))
     }
@@ -113,9 +113,9 @@ impl Row {
         requires most { length self.words + length after.words < 2 ^ 60 }
         ensures { (result.at ≡ self.at) × (result.words ≡ self.words ++ after.words) }
     {
-        let Row { mut vec } = self;
-        let (at, len) = (vec.as_mut_ptr(), vec.len() + after.len());
-        Row::of(Right::of_vec(vec).join(after.into_right()), at, len)
+        let Row { mut list } = self;
+        let (at, len) = (list.as_mut_ptr(), list.len() + after.len());
+        Row::of(Right::of_vec(list).join(after.into_right()), at, len)
     }
 
     /// Parts the right to the words in two halves. From then on nobody writes them, and who has a half reads them.
@@ -123,9 +123,9 @@ impl Row {
         ensures first { (result.0.at ≡ self.at) × (result.0.words ≡ self.words) × (result.0.is_first ≡ true) }
         ensures second { (result.1.at ≡ self.at) × (result.1.words ≡ self.words) × (result.1.is_first ≡ false) }
     {
-        let Row { mut vec } = self;
-        let (at, len) = (vec.as_mut_ptr(), vec.len());
-        let (first, second) = Right::of_vec(vec).halve();
+        let Row { mut list } = self;
+        let (at, len) = (list.as_mut_ptr(), list.len());
+        let (first, second) = Right::of_vec(list).halve();
         (Half::of(first, at, len), Half::of(second, at, len))
     }
 }

@@ -1,4 +1,5 @@
-ghost use Rattle.std.specs.Prelude.{◌^◌, ◌<◌};
+ghost use Rattle.std.specs.Prelude.{◌≡◌, ◌+◌, ◌^◌, ◌<◌, length};
+ghost use Rattle.row_core.specs.Parts.{AreHere};
 
 use crate::{Ground, Half, Row};
 use std::alloc::Global;
@@ -36,10 +37,11 @@ fn rows_of_each_size_come_back(rt: HostRuntime) {
 
 /// The words of one row of this size are changed in the ground, and copied into the row after it.
 #[tactic(auto, using(crate::proofs::Lists::part_here))]
-fn change_one(rt: &impl Abort, alloc: Global, size: usize)
-    requires { size < 2 ^ 16 }
+fn change_one(rt: &impl Abort, mut ground: Ground, size: usize)
+    requires small { size < 2 ^ 16 }
+    requires words { length ground.words ≡ size + size }
+    requires here { AreHere ground.here (size + size) }
 {
-    let mut ground = Ground::open(alloc, size + size).expect(rt, "memory");
     ground.with(0, size, |words: &mut [u64]| words.fill(7));
     ground.copy_within(0, size, size);
     let whole = ground.part(0, size + size);
@@ -49,7 +51,8 @@ fn change_one(rt: &impl Abort, alloc: Global, size: usize)
 #[test]
 fn words_of_a_ground_are_changed_and_copied(rt: HostRuntime) {
     for size in [0, 1, 8, 64, 512] {
-        change_one(&rt, rt.alloc(), size);
+        let ground = Ground::open(rt.alloc(), size + size).expect(&rt, "memory");
+        change_one(&rt, ground, size);
     }
 }
 

@@ -29,17 +29,17 @@ with_right_spec 𝓤 𝓛 𝓜 𝓡 wired =
     fsplit ! $ fsplit ! $ fpick ! (λ typed. drop ! $ fpick ! (λ v. fsplit ! $ feq_l ! (λ len. move ! (1 ∷ []) $ fsplit ! $ fsplit ! $ none_had ! vss.1.0 (λ is₁. move ! (1 ∷ []) $ drop ! $
     -- [the words; what waits for them; the tokens]
     let Given = λ (ys : List ℕ). fsep (feq ℕ (length ys) e.len) (all_owned full_share ys (block_of e.ptr) (count_of e.ptr)) in
-    let Whole = λ (ys : List ℕ). (plainly (Words ∷ [])).own_val (with_items v.vec ys, tt) vss.0 in
+    let Whole = λ (ys : List ℕ). (plainly (Words ∷ [])).own_val (with_items v.list ys, tt) vss.0 in
     rewrite ! 0 (λ p. ‵ (words_owned (share_of r.halves) xs r.here (block_of p) (count_of p))) asked.0 refl $
     rewrite ! 0 (λ (gs : List Bool). ‵ (words_owned (share_of gs) xs r.here (block_of e.ptr) (count_of e.ptr))) asked.2 refl $
     rewrite ! 0 (λ (fs : List Bool). ‵ (words_owned full_share xs fs (block_of e.ptr) (count_of e.ptr))) asked.3 refl $ move ! (1 ∷ []) $
     use1 𝓛 (‵ (fwand (Given xs) (Whole xs))) (all_e 𝓤 (λ (ys : List ℕ). sem 𝓛 (fwand (Given ys) (Whole ys))) xs) $ move ! (1 ∷ 0 ∷ []) $
     feq_i ! ℕ (length xs) e.len asked.1 $ fjoin ! $ use2 𝓛 (‵ (Whole xs)) (apply∗ 𝓤 (sem 𝓛 (Given xs)) (sem 𝓛 (Whole xs))) $
-    one_had ! Words vec-laws (with_items v.vec xs) vss.0 (λ u is₀ good.
+    one_had ! Words vec-laws (with_items v.list xs) vss.0 (λ u is₀ good.
     regoal ! (λ (us : List Val). prop (WpFn 𝓤 𝓛.H 𝓣.C 𝓣.Λ fn (us ++ (vss.1.0 ++ [])) Post)) is₀ refl $
     regoal ! (λ (us : List Val). prop (WpFn 𝓤 𝓛.H 𝓣.C 𝓣.Λ fn ((one u ∷ []) ++ (us ++ [])) Post)) is₁ refl $
     enter ! 𝓣.C 𝓣.Λ fn (one u ∷ none ∷ []) Post $ alloc_all ! (λ l. pass_all ! refl ((subst (Typed Allocation.the_row.mir) is₀ typed).0, ((tt, tt), tt)) $
     sets ! (of_opd ! (get_in ! (fld ! refl (stop !)) (sub ! 0 refl (whole !)))) refl good $ sets ! (of_opd ! (get ! refl)) refl good $
     returns ! (look_at ! 0 refl) $ free_all ! refl $
-    suffices ! _ (ends_at 𝓛 f.ended stayed c z u (with_items v.vec xs) (tt, (tt, tt)) (tt, (tt, tt))) $ says ! (with_items_is v.vec xs (asked.1 ∙ sym len)) $
+    suffices ! _ (ends_at 𝓛 f.ended stayed c z u (with_items v.list xs) (tt, (tt, tt)) (tt, (tt, tt))) $ says ! (with_items_is v.list xs (asked.1 ∙ sym len)) $
     nothing ! $ nothing ! $ fjoin ! $ nothing ! $ fjoin ! $ move ! (2 ∷ 0 ∷ 1 ∷ []) $ done !))))))))
