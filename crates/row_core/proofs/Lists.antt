@@ -89,7 +89,7 @@ take_true (suc n) zero fits = absurd (omega (arith, fits))
 take_true (suc n) (suc k) fits = ap (λ (l : List Bool). true ∷ l) (take_true n k (omega (arith, fits)))
 
 part_true : (k from n : ℕ) → from + n ≤ k → AreHere (part (replicate k true) from n) n
-part_true k zero n fits = take_true n k fits
+part_true k zero n fits = take_true n k (omega (arith, fits))
 part_true zero (suc from) n fits = absurd (omega (arith, fits))
 part_true (suc k) (suc from) n fits = part_true k from n (omega (arith, fits))
 
