@@ -1,0 +1,7 @@
+use Rattle.std.proofs.Common.{ℕ, ◌+◌, ◌≤◌, arith}
+use Rattle.row_core.proofs.Lists.{part_here}
+use Rattle.row_core.proofs.tests.copy_one.Goals as goal
+
+pub copy_within-requires-clause-source : goal.copy_within-requires-clause-source
+copy_within-requires-clause-source c =
+    part_here c.args.ground.now.here (c.args.size + c.args.size) 0 c.args.size c.requires.here (omega arith)
