@@ -1,7 +1,9 @@
-"""A zone has no type that has an allocator, but for its lists and the box of its tables.
+"""A zone has no type that has an allocator, but for its lists, its ground of words and the box of its tables.
 
-The crates of a zone name no type of the standard library that has one, but in six lines: three of the file of `FixedVec`, and three
-for the box of a zone's tables. What they bring in of the standard library is listed here, and so are the crates that they use. `Global`,
+The crates of a zone name no type of the standard library that has one, but in the lines of `LINES`: in the file of `FixedVec`, for the box
+of a zone's tables, and where a ground keeps its allocation, which no function lends. Rows and grounds are vectors over that allocation,
+whose allocator `Lodged` has no memory to give. What these crates bring in of the standard library is listed here, by its parts too
+(`core`, `std_alloc`), and so are the crates that they use. `Global`,
 the type of the allocator, stands where it is brought in and as the type of a function's parameter, and nowhere else. So no field has
 it, no other name is given to it, and no type or constant is made of it. Comments and what is in quotes don't count.
 
@@ -15,9 +17,30 @@ import runs
 import sources
 from launch import program
 
-ZONE = "frame_core table_core scan_core state_core zone_tables zone_core".split()
+ZONE = "row_core frame_core table_core scan_core state_core zone_tables zone_core".split()
+PARTS = {"core", "std_alloc", "std_heap"}  # of the standard library
 BESIDE = {"arrayvec", "bitflags", "thiserror"}  # the other crates that they use: none of their types has an allocator
 LINES = {
+    "crates/row_core/src/allocation.rt": (
+        "    list: Vec<u64, Global>,\n",
+        "    pub(crate) fn without_right(list: Vec<u64, Global>) -> (Allocation, Right)\n",
+        "    pub(crate) fn with_right(self, right: Right) -> Vec<u64, Global>\n",
+    ),
+    "crates/row_core/src/ground.rt": ("        let mut list = Vec::from_elem(alloc, 0u64, count)?;\n",),
+    "crates/row_core/src/right.rt": (
+        "use std_alloc::vec::{Lodged, lodge};\n",
+        "    pub(crate) fn into_vec(self, ptr: *mut u64, len: usize) -> Vec<u64, Lodged>\n",
+        "    pub(crate) fn of_vec(list: Vec<u64, Lodged>) -> Right\n",
+    ),
+    "crates/row_core/src/row.rt": (
+        "use std_alloc::vec::Lodged;\n",
+        "    list: Vec<u64, Lodged>,\n",
+    ),
+    "crates/row_core/src/tests.rt": (
+        "fn rows_of_each_size_come_back(rt: HostRuntime) {\n",
+        "fn a_part_is_copied(rt: HostRuntime) {\n",
+        "fn a_thousand_grounds_are_opened_and_closed(rt: HostRuntime) {\n",
+    ),
     "crates/frame_core/src/fixed_vec.rt": (
         "    list: Vec<T>,\n",
         "        let list = Vec::with_capacity(alloc, room)?;\n",
@@ -32,9 +55,11 @@ LINES = {
 OWNERS = re.compile(
     r"\b(Vec|VecDeque|Box|String|Rc|Arc|Weak|HashMap|BTreeMap|HashSet|BTreeSet|BinaryHeap|LinkedList|Cow|HostRuntime|dyn|vec|format)\b"
 )
-BROUGHT_IN = re.compile(r"\buse\s+((?:std|core|alloc)\b[^;]*);")
-STANDARD = re.compile(r"\b(?:std|core|alloc)::")
+STANDARD_PART = rf"(?:std|alloc|{'|'.join(sorted(PARTS))})"
+BROUGHT_IN = re.compile(rf"\buse\s+({STANDARD_PART}\b[^;]*);")
+STANDARD = re.compile(rf"\b{STANDARD_PART}::")
 MAY_BRING_IN = {
+    "core::mem::replace_with",
     "std::alloc::AllocError",
     "std::alloc::Global",
     "std::alloc::{AllocError, Global}",
@@ -43,7 +68,11 @@ MAY_BRING_IN = {
     "std::fmt::{Display, Formatter}",
     "std::marker::Model",
     "std::marker::{Model, PhantomData}",
+    "std::marker::{Move, Owns}",
+    "std::mem::ManuallyDrop",
     "std::ops::{DerefSlice, DerefSliceMut, Index, IndexMut}",
+    "std::process::Abort",
+    "std::slice",
     "std::sync::ledger::Ledger",
     "std::sync::ledger::{Blank, Book, Ledger, Share}",
     "std::sync::ledger::{Book, Ledger}",
@@ -114,13 +143,14 @@ def closing(code, at):
 
 def wrong_crates(crates):
     """The crates that a crate of a zone uses, and that may have types with an allocator."""
-    return sorted({used for crate in ZONE for used in crates[crate]} - BESIDE - {*ZONE})
+    return sorted({used for crate in ZONE for used in crates[crate]} - BESIDE - PARTS - {*ZONE})
 
 
 # The check of this check: lines by which an allocator would come into a zone, each of which it has to find.
 
 OF_TABLES = "crates/zone_tables/src/moves.rt"
 OF_LISTS = "crates/frame_core/src/fixed_vec.rt"
+OF_ROWS = "crates/row_core/src/row.rt"
 PLANTED = [
     (OF_TABLES, "use std::alloc::Global as Heap;\nstruct Held {\n    heap: Heap,\n}\n"),
     (OF_TABLES, "pub(crate) struct Held {\n    heap: Global,\n}\n"),
@@ -138,6 +168,8 @@ PLANTED = [
     (OF_TABLES, "use std::alloc as heap;\n"),
     (OF_TABLES, "struct Held {\n    list: std::collections::Queue<u8>,\n}\n"),
     (OF_TABLES, "use std::collections::{Queue};\n"),
+    (OF_TABLES, "use std_alloc::deque::Queue;\n"),
+    (OF_ROWS, "pub fn given(self) -> Vec<u64, Lodged> {}\n"),
     (OF_TABLES, 'const WHERE: &str = "//"; struct Held { list: Vec<u8> }\n'),
     (OF_TABLES, "/* // */ struct Held { list: Vec<u8> }\n"),
     (OF_TABLES, "struct Held { list: Box<dyn Fn()> }\n"),
@@ -169,7 +201,7 @@ def main():
     if found := wrong_crates(crates):
         raise runs.Failed(f"a zone uses crates that may have types with an allocator: {', '.join(found)}")
     tried = try_itself(texts, crates)
-    return f"{len(texts)} files of a zone's crates name no type with an allocator but its lists and its box; {tried} ways to are found"
+    return f"{len(texts)} files of a zone's crates name no type with an allocator but its lists, its ground and its box; {tried} ways to are found"
 
 
 if __name__ == "__main__":

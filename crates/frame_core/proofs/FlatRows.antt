@@ -1,13 +1,14 @@
 -- The rows of frames whose words stand one after the other.
-use Rattle.std.proofs.Common.{◌≡◌, ℕ, zero, suc, ◌+◌, ◌-◌, ◌*◌, ◌<◌, ◌≤◌, List, [], ◌∷◌, ◌++◌, length, take, drop, get_or, replicate, refl, sym, ap, subst, ◌∙◌, arith}
+use Rattle.std.proofs.Common.{◌≡◌, ℕ, zero, suc, ◌+◌, ◌-◌, ◌*◌, ◌<◌, ◌≤◌, Bool, List, [], ◌∷◌, ◌++◌, length, take, drop, get_or, replicate, refl, sym, ap, subst, ◌∙◌, arith}
 use Rattle.std.specs.Prelude.{slice_set}
-use Rattle.std.specs.List.{All, refill}
-use Rattle.std.proofs.lemmas.List.{append_assoc, append-nil, drop_all, drop_at, drop-append-le, drop-drop, drop-take, length-append, length-drop, length-replicate, length-take-le, replicate-append-replicate, take_all, take_at, take-append-drop, take-append-le, take-set-le, take-take}
+use Rattle.std.specs.List.{All}
+use Rattle.std.proofs.lemmas.List.{append_assoc, append-nil, drop_all, drop_at, drop-append-le, drop-drop, length-append, length-drop, length-replicate, length-take-le, replicate-append-replicate, take_all, take_at, take-append-drop, take-append-le, take-set-le}
 use Rattle.std.proofs.lemmas.List.Concat.{flat_map-cons}
 use Rattle.std.proofs.lemmas.Grind.{drop-set_at}
 use Rattle.std.proofs.lemmas.Option.{unwrap_or-slice_get}
 use Rattle.std.proofs.Math.Seq.{take-append-add, drop-append-add, drop-cons}
-use borrow.Rule.Slice.PartMut.{put_mid, Post-is}
+use Rattle.row_core.specs.Parts.{part as part_of, spliced, AreHere}
+use Rattle.row_core.proofs.Lists.{part_here, spliced_long}
 use Rattle.frame_core.specs.Words.{joined, block_words, rows_of, with_words, words_of, HasBlock, put_from}
 
 -- each row has this many words
@@ -51,25 +52,6 @@ words_within size first frames n within =
     let rest : n ≡ first + frames + (n - (first + frames)) = omega arith in
     let all : n * size ≡ (first + frames + (n - (first + frames))) * size = ap (λ (m : ℕ). m * size) rest in
     omega (arith, all)
-
--- as many words came back as were lent
-refill_all : (old new : List ℕ) → length new ≡ length old → refill (length old) old new ≡ new
-refill_all old new same =
-    ap (λ (ws : List ℕ). take (length old) (new ++ ws)) (drop_all (length new) old (omega (arith, same)))
-    ∙ ap (take (length old)) (append-nil new) ∙ take_all (length old) new (omega (arith, same))
-
--- a part of the words was lent, and came back as others
-module _ (old part : List ℕ) (from count : ℕ) (within : from + count ≤ length old) (same : length part ≡ count) where
-  abbrev pub with_part : List ℕ
-  with_part = take from old ++ (part ++ drop (from + count) old)
-
-  pub refilled_words : refill (length old) old (put_mid from (from + count - from) old part) ≡ with_part
-  refilled_words =
-      let begins : length (take from old) ≡ from = length-take-le from old (omega arith) in
-      let long : length with_part ≡ length old = length-append (take from old) (part ++ drop (from + count) old)
-      ∙ omega (arith, begins, same, length-append part (drop (from + count) old), length-drop (from + count) old) in
-      ap (λ (ws : List ℕ). refill (length old) old (take from old ++ (part ++ ws))) (Post-is from (from + count) old (omega arith))
-      ∙ refill_all old with_part long
 
 module _ (size n : ℕ) (words : List ℕ) (long : length words ≡ n * size) (first frames : ℕ) (within : first + frames ≤ n) where
   abbrev pub front : List ℕ
@@ -163,57 +145,71 @@ module _ (size n : ℕ) (words : List ℕ) (long : length words ≡ n * size) (f
       ∙ sym (append_assoc (take from part ++ values) (drop (from + length values) part) back))
 
 -- the words of frames are lent from this place on, and come back
-module _ (size n : ℕ) (words : List ℕ) (long : length words ≡ n * size) (seen : List (List ℕ)) (seen_is : rows_of size n words ≡ seen) (first frames : ℕ) (enough : first + frames ≤ length seen) (place : ℕ) (place_is : place ≡ first) (lent : List ℕ) (lent_is : lent ≡ words) where
+module _ (size n : ℕ) (words : List ℕ) (long : length words ≡ n * size) (seen : List (List ℕ)) (seen_is : rows_of size n words ≡ seen) (first frames : ℕ) (enough : first + frames ≤ length seen) (place : ℕ) (place_is : place ≡ first) where
   within : first + frames ≤ n
   within = omega (arith, enough, ap length seen_is, length-rows_of size n words)
 
   at_is : place * size ≡ first * size
   at_is = ap (λ (f : ℕ). f * size) place_is
 
-  pub ends : place * size + frames * size ≤ length lent
-  ends = omega (arith, at_is, ap length lent_is, long, words_within size first frames n within)
+  pub ends : place * size + frames * size ≤ length words
+  ends = omega (arith, at_is, long, words_within size first frames n within)
 
-  pub lent_words : take (place * size + frames * size - place * size) (drop (place * size) lent) ≡ block_words seen first frames
+  pub lent_words : part_of words (place * size) (frames * size) ≡ block_words seen first frames
   lent_words =
-      let count : place * size + frames * size - place * size ≡ frames * size = omega arith in
-      ap (λ (k : ℕ). take k (drop (place * size) lent)) count
-      ∙ (λ i. take (frames * size) (drop (at_is i) (lent_is i)))
+      ap (λ (k : ℕ). take (frames * size) (drop k words)) at_is
       ∙ sym (part_is size n words long first frames within)
       ∙ ap (λ (rs : List (List ℕ)). block_words rs first frames) seen_is
 
-  pub lent_count : length (take (place * size + frames * size - place * size) (drop (place * size) lent)) ≡ frames * size
-  lent_count =
-      let count : place * size + frames * size - place * size ≡ frames * size = omega arith in
-      ap (λ (k : ℕ). length (take k (drop (place * size) lent))) count
-      ∙ length-take-le (frames * size) (drop (place * size) lent) (omega (arith, ends, length-drop (place * size) lent))
+  pub lent_count : length (part_of words (place * size) (frames * size)) ≡ frames * size
+  lent_count = length-take-le (frames * size) (drop (place * size) words) (omega (arith, ends, length-drop (place * size) words))
 
-  pub came_back : (ws : List ℕ) → length ws ≡ frames * size
-      → HasBlock seen (rows_of size n (refill (length words) words (put_mid (place * size) (place * size + frames * size - place * size) lent ws))) first frames ws
-  came_back ws same =
-      subst (λ (rs : List (List ℕ)). HasBlock rs (rows_of size n (refill (length words) words (put_mid (place * size) (place * size + frames * size - place * size) lent ws))) first frames ws) seen_is
-      (subst (λ (xs : List ℕ). HasBlock (rows_of size n words) (rows_of size n (refill (length words) words (put_mid (place * size) (place * size + frames * size - place * size) xs ws))) first frames ws) (sym lent_is)
-      (subst (λ (k : ℕ). HasBlock (rows_of size n words) (rows_of size n (refill (length words) words (put_mid k (k + frames * size - k) words ws))) first frames ws) (sym at_is)
-      (subst (λ (xs : List ℕ). HasBlock (rows_of size n words) (rows_of size n xs) first frames ws)
-      (sym (refilled_words words ws (first * size) (frames * size) (omega (arith, long, words_within size first frames n within)) same))
-      (has_words size n words long first frames within ws same))))
+  -- all words are here
+  pub lent_here : (here : List Bool) → AreHere here (n * size) → AreHere (part_of here (place * size) (frames * size)) (frames * size)
+  lent_here here all = part_here here (n * size) (place * size) (frames * size) all (omega (arith, ends, long))
+
+  pub came_back : (new ws : List ℕ) → new ≡ spliced words (place * size) (frames * size) ws → length ws ≡ frames * size → HasBlock seen (rows_of size n new) first frames ws
+  came_back new ws is same =
+      subst (λ (rs : List (List ℕ)). HasBlock rs (rows_of size n new) first frames ws) seen_is
+      (subst (λ (xs : List ℕ). HasBlock (rows_of size n words) (rows_of size n xs) first frames ws) (sym (is ∙ ap (λ (k : ℕ). spliced words k (frames * size) ws) at_is))
+      (has_words size n words long first frames within ws same))
+
+  -- there are as many words as before, and the rows are as long
+  pub came_long : (new ws : List ℕ) → new ≡ spliced words (place * size) (frames * size) ws → length ws ≡ frames * size → length new ≡ n * size
+  came_long new ws is same = ap length is ∙ spliced_long words (place * size) (frames * size) ends ws same ∙ long
+
+  pub came_sized : (new ws : List ℕ) → new ≡ spliced words (place * size) (frames * size) ws → length ws ≡ frames * size → AreSized size (rows_of size n new)
+  came_sized new ws is same = rows_sized size n new (came_long new ws is same)
 
   -- values are put among them
   module _ (from : ℕ) (values : List ℕ) (small : from + length values ≤ frames * size) where
-    pub values_end : place * size + from + length values ≤ length lent
+    pub values_end : place * size + from + length values ≤ length words
     values_end = omega (arith, ends, small)
 
-    pub values_put : (ws : List ℕ) → ws ≡ values
-        → HasBlock seen (rows_of size n (refill (length words) words (put_mid (place * size + from) (place * size + from + length values - (place * size + from)) lent ws))) first frames (put_from (block_words seen first frames) from values)
-    values_put ws ws_is =
-        let among = put_from (part size n words long first frames within) from values in
-        subst (λ (rs : List (List ℕ)). HasBlock rs (rows_of size n (refill (length words) words (put_mid (place * size + from) (place * size + from + length values - (place * size + from)) lent ws))) first frames (put_from (block_words rs first frames) from values)) seen_is
-        (subst (λ (xs : List ℕ). HasBlock (rows_of size n words) (rows_of size n (refill (length words) words (put_mid (place * size + from) (place * size + from + length values - (place * size + from)) lent xs))) first frames (put_from (block_words (rows_of size n words) first frames) from values)) (sym ws_is)
-        (subst (λ (xs : List ℕ). HasBlock (rows_of size n words) (rows_of size n (refill (length words) words (put_mid (place * size + from) (place * size + from + length values - (place * size + from)) xs values))) first frames (put_from (block_words (rows_of size n words) first frames) from values)) (sym lent_is)
-        (subst (λ (k : ℕ). HasBlock (rows_of size n words) (rows_of size n (refill (length words) words (put_mid (k + from) (k + from + length values - (k + from)) words values))) first frames (put_from (block_words (rows_of size n words) first frames) from values)) (sym at_is)
-        (subst (λ (xs : List ℕ). HasBlock (rows_of size n words) (rows_of size n xs) first frames (put_from (block_words (rows_of size n words) first frames) from values))
-        (sym (refilled_words words values (first * size + from) (length values) (omega (arith, long, words_within size first frames n within, small)) refl ∙ put_among size n words long first frames within from values small))
-        (subst (λ (xs : List ℕ). HasBlock (rows_of size n words) (rows_of size n (front size n words long first frames within ++ (among ++ back size n words long first frames within))) first frames (put_from xs from values)) (sym (part_is size n words long first frames within))
-        (has_words size n words long first frames within among (length-put size n words long first frames within from values small)))))))
+    pub values_here : (here : List Bool) → AreHere here (n * size) → AreHere (part_of here (place * size + from) (length values)) (length values)
+    values_here here all = part_here here (n * size) (place * size + from) (length values) all (omega (arith, values_end, long))
+
+    module _ (new : List ℕ) (is : new ≡ spliced words (place * size + from) (length values) values) where
+      abbrev among : List ℕ
+      among = put_from (part size n words long first frames within) from values
+
+      built_among : new ≡ front size n words long first frames within ++ (among ++ back size n words long first frames within)
+      built_among =
+          is ∙ ap (λ (k : ℕ). spliced words (k + from) (length values) values) at_is
+          ∙ put_among size n words long first frames within from values small
+
+      pub values_put : HasBlock seen (rows_of size n new) first frames (put_from (block_words seen first frames) from values)
+      values_put =
+          subst (λ (rs : List (List ℕ)). HasBlock rs (rows_of size n new) first frames (put_from (block_words rs first frames) from values)) seen_is
+          (subst (λ (xs : List ℕ). HasBlock (rows_of size n words) (rows_of size n xs) first frames (put_from (block_words (rows_of size n words) first frames) from values)) (sym built_among)
+          (subst (λ (xs : List ℕ). HasBlock (rows_of size n words) (rows_of size n (front size n words long first frames within ++ (among ++ back size n words long first frames within))) first frames (put_from xs from values)) (sym (part_is size n words long first frames within))
+          (has_words size n words long first frames within among (length-put size n words long first frames within from values small))))
+
+      pub values_long : length new ≡ n * size
+      values_long = ap length is ∙ spliced_long words (place * size + from) (length values) values_end values refl ∙ long
+
+      pub values_sized : AreSized size (rows_of size n new)
+      values_sized = rows_sized size n new values_long
 
 -- one frame is a block
 pub one_row : (rows : List (List ℕ)) (frame : ℕ) → frame < length rows → block_words rows frame 1 ≡ words_of rows frame
@@ -254,60 +250,37 @@ one_stored old new frame from values within is =
     one_changed old new frame (put_from (block_words old frame 1) from values) within is
     ∙ ap (λ (row : List ℕ). with_words old frame (put_from row from values)) (one_row old frame within)
 
--- the words of a frame are copied into a higher one: the list was parted where the words of the higher frame begin
-module _ (size n : ℕ) (words : List ℕ) (long : length words ≡ n * size) (seen : List (List ℕ)) (seen_is : rows_of size n words ≡ seen) (from to : ℕ) (upward : from < to) (enough : to < length seen) (begin : ℕ) (begin_is : begin ≡ to) (lent : List ℕ) (lent_is : lent ≡ words) (below above : List ℕ) (below_is : below ≡ take (begin * size) lent) (above_is : above ≡ drop (begin * size) lent) where
-  to_within : to + 1 ≤ n
-  to_within = omega (arith, enough, ap length seen_is, length-rows_of size n words)
+-- the words of a frame are copied into a higher one
+module _ (size n : ℕ) (words : List ℕ) (long : length words ≡ n * size) (seen : List (List ℕ)) (seen_is : rows_of size n words ≡ seen) (from to : ℕ) (upward : from < to) (enough : to < length seen) (source : ℕ) (source_is : source ≡ from) (target : ℕ) (target_is : target ≡ to) where
+  one : size ≡ 1 * size
+  one = omega arith
 
-  long_enough : to * size + size ≤ length words
-  long_enough = omega (arith, long, words_within size to 1 n to_within)
+  pub target_ends : target * size + size ≤ length words
+  target_ends = omega (arith, ends size n words long seen seen_is to 1 (omega (arith, enough)) target target_is)
 
-  words_below : below ≡ take (to * size) words
-  words_below = below_is ∙ (λ i. take (begin_is i * size) (lent_is i))
+  pub source_below : source * size + size ≤ target * size
+  source_below = omega (arith, ap (λ (k : ℕ). k * size) source_is, ap (λ (k : ℕ). k * size) target_is, words_within size from 1 to (omega (arith, upward)))
 
-  words_above : above ≡ drop (to * size) words
-  words_above = above_is ∙ (λ i. drop (begin_is i * size) (lent_is i))
+  pub source_here : (here : List Bool) → AreHere here (n * size) → AreHere (part_of here (source * size) size) size
+  source_here here all = part_here here (n * size) (source * size) size all (omega (arith, source_below, target_ends, long))
 
-  from_below : from * size + 1 * size ≤ to * size
-  from_below = words_within size from 1 to (omega (arith, upward))
+  pub target_here : (here : List Bool) → AreHere here (n * size) → AreHere (part_of here (target * size) size) size
+  target_here here all = part_here here (n * size) (target * size) size all (omega (arith, target_ends, long))
 
-  pub above_enough : size ≤ length above
-  above_enough = omega (arith, ap length words_above, length-drop (to * size) words, long_enough)
+  pub copied_long : (new : List ℕ) → new ≡ spliced words (target * size) size (part_of words (source * size) size) → length new ≡ n * size
+  copied_long new is =
+      ap length is ∙ spliced_long words (target * size) size target_ends (part_of words (source * size) size)
+      (length-take-le size (drop (source * size) words) (omega (arith, source_below, target_ends, length-drop (source * size) words))) ∙ long
 
-  pub below_enough : from * size + size ≤ length below
-  below_enough = omega (arith, ap length words_below, length-take-le (to * size) words (omega (arith, long_enough)), from_below)
-
-  pub taken_count : length (take (from * size + size - from * size) (drop (from * size) below)) ≡ size
-  taken_count =
-      let count : from * size + size - from * size ≡ size = omega arith in
-      ap (λ (k : ℕ). length (take k (drop (from * size) below))) count
-      ∙ length-take-le size (drop (from * size) below) (omega (arith, below_enough, length-drop (from * size) below))
-
-  taken_words : take (from * size + size - from * size) (drop (from * size) below) ≡ words_of seen from
-  taken_words =
-      let count : from * size + size - from * size ≡ 1 * size = omega arith in
-      (λ i. take (count i) (drop (from * size) (words_below i)))
-      ∙ sym (drop-take (from * size) (1 * size) (take (to * size) words))
-      ∙ ap (drop (from * size)) (take-take (from * size + 1 * size) (to * size) words from_below)
-      ∙ drop-take (from * size) (1 * size) words
-      ∙ sym (part_is size n words long from 1 (omega (arith, upward, to_within)))
-      ∙ ap (λ (rs : List (List ℕ)). block_words rs from 1) seen_is
-      ∙ one_row seen from (omega (arith, upward, enough))
-
-  pub copied_up : (ws : List ℕ) → ws ≡ take (from * size + size - from * size) (drop (from * size) below)
-      → rows_of size n (refill (length words) words (below ++ (ws ++ drop size above))) ≡ with_words seen to (words_of seen from)
-  copied_up ws taken =
-      let count : length ws ≡ size = ap length taken ∙ taken_count in
-      let same : length ws ≡ 1 * size = omega (arith, count) in
-      let one : size ≡ 1 * size = omega arith in
-      let rest : drop size above ≡ drop (to * size + 1 * size) words = (λ i. drop (one i) (words_above i)) ∙ drop-drop (1 * size) (to * size) words in
-      let put = take (to * size) words ++ (ws ++ drop (to * size + 1 * size) words) in
-      let put_long : length put ≡ length words = length-append (take (to * size) words) (ws ++ drop (to * size + 1 * size) words)
-      ∙ omega (arith, same, long_enough, length-take-le (to * size) words (omega (arith, long_enough)), length-append ws (drop (to * size + 1 * size) words), length-drop (to * size + 1 * size) words) in
-      (λ i. rows_of size n (refill (length words) words (words_below i ++ (ws ++ rest i))))
-      ∙ ap (rows_of size n) (refill_all words put put_long)
-      ∙ one_changed seen (rows_of size n put) to ws enough (subst (λ (rs : List (List ℕ)). HasBlock rs (rows_of size n put) to 1 ws) seen_is (has_words size n words long to 1 to_within ws same))
-      ∙ ap (with_words seen to) (taken ∙ taken_words)
+  pub copied_up : (new : List ℕ) → new ≡ spliced words (target * size) size (part_of words (source * size) size) → rows_of size n new ≡ with_words seen to (words_of seen from)
+  copied_up new is =
+      let below : from + 1 ≤ length seen = omega (arith, upward, enough) in
+      let ws = part_of words (source * size) size in
+      let ws_is : ws ≡ part_of words (source * size) (1 * size) = ap (λ (k : ℕ). take k (drop (source * size) words)) one in
+      let same : length ws ≡ 1 * size = ap length ws_is ∙ lent_count size n words long seen seen_is from 1 below source source_is in
+      one_changed seen (rows_of size n new) to ws enough
+      (came_back size n words long seen seen_is to 1 (omega (arith, enough)) target target_is new ws (is ∙ ap (λ (k : ℕ). spliced words (target * size) k ws) one) same)
+      ∙ ap (with_words seen to) (ws_is ∙ lent_words size n words long seen seen_is from 1 below source source_is ∙ one_row seen from (omega (arith, upward, enough)))
 
 -- rows of zeros
 pub blank_rows : (size n : ℕ) (words : List ℕ) → words ≡ replicate (n * size) 0 → rows_of size n words ≡ replicate n (replicate size 0)

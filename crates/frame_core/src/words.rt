@@ -4,11 +4,11 @@ ghost use Rattle.std.specs.List.{All};
 ghost use Rattle.frame_core.specs.Page.{blank_words};
 ghost use Rattle.frame_core.specs.Words.{words_of, word_of, words_from, with_words, with_word, put_from, block_words, HasBlock};
 
-use crate::fixed_vec::FixedVec;
 use crate::flags::PageFlags;
 use crate::numbers::{PageNo, WordNo as WordOf};
 use crate::page::Page;
 use crate::place::{FrameNo, ZoneNo};
+use row_core::Ground;
 use std::alloc::{AllocError, Global};
 use std::marker::Model;
 
@@ -16,18 +16,19 @@ use std::marker::Model;
 #[derive(Drop)]
 pub struct Words<const W: usize> {
     frames: u32,
-    words: FixedVec<u64>,
+    ground: Ground,
 }
 
 impl<const W: usize> Model for Words<W> {
     ghost use Rattle.std.specs.Prelude.{◌≡◌, ◌*◌, ◌≤◌, ℕ, List, length};
+    ghost use Rattle.row_core.specs.Parts.{AreHere};
     ghost use Rattle.frame_core.specs.Words.{rows_of};
 
     ghost Value = { List (List ℕ) };
 
-    ghost view = { λ w. rows_of W w.frames w.words.items };
+    ghost view = { λ w. rows_of W w.frames w.ground.words };
 
-    ghost invariant = { λ w. (W ≤ 65536) × (length w.words.items ≡ w.frames * W) };
+    ghost invariant = { λ w. (W ≤ 65536) × (length w.ground.words ≡ w.frames * W) × AreHere w.ground.here (w.frames * W) };
 }
 
 impl<const W: usize> Words<W> {
@@ -37,8 +38,8 @@ impl<const W: usize> Words<W> {
         ensures blank { IfOk result (λ rows. rows ≡ replicate frames (blank_words W)) }
         ensures frames { IfOk result (λ rows. length rows ≡ frames) }
     {
-        let words = FixedVec::filled(alloc, 0, frames as usize * W)?;
-        Ok(Words { frames, words })
+        let ground = Ground::open(alloc, frames as usize * W)?;
+        Ok(Words { frames, ground })
     }
 
     /// How many words a page has.
@@ -104,9 +105,8 @@ impl<const W: usize> Words<W> {
         ensures count { length result.now ≡ frames * W }
         ensures most { W ≤ 65536 }
     {
-        let words = &self.words;
-        let from = first.get() as usize * W;
-        &words[from..from + frames as usize * W]
+        let ground = &self.ground;
+        ground.part(first.get() as usize * W, frames as usize * W)
     }
 
     /// Lends the words of so many frames, one after the other, to `change`, and gives what it answers.
@@ -121,9 +121,8 @@ impl<const W: usize> Words<W> {
         ensures changed { (words : List ℕ) × (length words ≡ frames * W) × FnOnceReturnsAtMut F.FnOnce change (block_words self.old first frames) result words × HasBlock self.old self.new first frames words }
         ensures sized { All (λ row. length row ≡ W) self.new }
     {
-        let words = &mut self.words;
-        let from = first.get() as usize * W;
-        change(&mut words[from..from + frames as usize * W])
+        let ground = &mut self.ground;
+        ground.with(first.get() as usize * W, frames as usize * W, change)
     }
 
     /// Gives the words of so many frames, one after the other, from one on these values.
@@ -135,9 +134,8 @@ impl<const W: usize> Words<W> {
         ensures most { W ≤ 65536 }
         ensures sized { All (λ row. length row ≡ W) self.new }
     {
-        let words = &mut self.words;
-        let from = first.get() as usize * W + from;
-        words[from..from + values.len()].copy_from_slice(values);
+        let ground = &mut self.ground;
+        ground.store(first.get() as usize * W + from, values);
     }
 
     /// Sets all words of so many frames to 0.
@@ -146,9 +144,8 @@ impl<const W: usize> Words<W> {
         ensures blank { HasBlock self.old self.new first frames (replicate (frames * W) 0) }
         ensures sized { All (λ row. length row ≡ W) self.new }
     {
-        let words = &mut self.words;
-        let from = first.get() as usize * W;
-        words[from..from + frames as usize * W].fill(0);
+        let ground = &mut self.ground;
+        ground.clear(first.get() as usize * W, frames as usize * W);
     }
 
     /// The page in a frame: its words with this zone, number and flags.
@@ -200,10 +197,8 @@ impl<const W: usize> Words<W> {
         ensures copied { self.new ≡ with_words self.old to (words_of self.old from) }
         ensures frames { length self.new ≡ length self.old }
     {
-        let words = &mut self.words;
-        let (below, above) = words.split_at_mut(to.get() as usize * W);
-        let from = from.get() as usize * W;
-        above[..W].copy_from_slice(&below[from..from + W]);
+        let ground = &mut self.ground;
+        ground.copy_within(from.get() as usize * W, to.get() as usize * W, W);
     }
 
     fn row(&self, frame: FrameNo) -> &[u64]

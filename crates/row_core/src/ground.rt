@@ -119,6 +119,35 @@ impl Ground {
         answer
     }
 
+    /// Gives the words from one on these values. They have to be here.
+    #[inline(always)]
+    pub fn store(&mut self, from: usize, values: &[u64])
+        requires within { from + length values.now ≤ length self.old.words }
+        requires here { AreHere (part self.old.here from (length values.now)) (length values.now) }
+        ensures words { self.new.words ≡ spliced self.old.words from (length values.now) values.now }
+        ensures here { self.new.here ≡ self.old.here }
+        ensures at { self.new.at ≡ self.old.at }
+    {
+        let mut row = self.lend(from, values.len());
+        row.words_mut().copy_from_slice(values);
+        self.take_back(from, row);
+    }
+
+    /// Sets the words of a part to 0. It has to be here.
+    #[inline(always)]
+    #[tactic(auto, using(crate::proofs::Lists::part_long))]
+    pub fn clear(&mut self, from: usize, count: usize)
+        requires within { from + count ≤ length self.old.words }
+        requires here { AreHere (part self.old.here from count) count }
+        ensures words { self.new.words ≡ spliced self.old.words from count (replicate count 0) }
+        ensures here { self.new.here ≡ self.old.here }
+        ensures at { self.new.at ≡ self.old.at }
+    {
+        let mut row = self.lend(from, count);
+        row.words_mut().fill(0);
+        self.take_back(from, row);
+    }
+
     /// Copies a part into another, which lies beside it. Both have to be here.
     #[inline(always)]
     #[tactic(auto, using(crate::proofs::Lists::here_again, crate::proofs::Lists::lent_beside, crate::proofs::Lists::part_long))]

@@ -1,35 +1,28 @@
-use Rattle.std.proofs.Common.{◌<◌, ◌≤◌, ◌+◌, ℕ, length, ap, sym, ◌∙◌, arith}
-use Rattle.std.proofs.lemmas.List.{length-take-le}
-use Rattle.frame_core.specs.Words.{words_of, with_words}
-use Rattle.frame_core.proofs.FlatRows.{above_enough, copied_up, ends, length-rows_of, taken_count}
+use Rattle.std.proofs.Common.{length, ap, sym, ◌∙◌, arith}
+use Rattle.frame_core.proofs.FlatRows.{copied_long, copied_up, length-rows_of, source_below, source_here, target_ends, target_here}
 use Rattle.frame_core.proofs.words.Words.copy.Goals as goal
 
-pub split_at_mut-below-requires : goal.split_at_mut-below-requires
-split_at_mut-below-requires g c =
-    let within : c.args.to + 1 ≤ length c.args.self.now = omega (arith, c.requires.within) in
-    omega (arith, ends g.row.W _ _ c.self.invariant.1 _ c.self.view_is c.args.to 1 within _ c.get.ensures.value _ c.deref_mut.ensures.value)
+pub copy_within-requires-clause-within : goal.copy_within-requires-clause-within
+copy_within-requires-clause-within g c =
+    let ends = target_ends g.row.W _ _ c.self.invariant.1 _ c.self.view_is _ _ c.requires.upward c.requires.within _ c.get.ensures.value _ c.get-2.ensures.value in
+    let below = source_below g.row.W _ _ c.self.invariant.1 _ c.self.view_is _ _ c.requires.upward c.requires.within _ c.get.ensures.value _ c.get-2.ensures.value in
+    (omega (arith, ends, below), ends)
 
-pub slice_bounds-copy_from_slice-end : goal.slice_bounds-copy_from_slice-end
-slice_bounds-copy_from_slice-end g c =
-    above_enough g.row.W _ _ c.self.invariant.1 _ c.self.view_is c.args.from _ c.requires.upward c.requires.within _ c.get.ensures.value _ c.deref_mut.ensures.value _ _ c.split_at_mut-below.ensures.front c.split_at_mut-below.ensures.back
+pub copy_within-requires-clause-source : goal.copy_within-requires-clause-source
+copy_within-requires-clause-source g c = source_here g.row.W _ _ c.self.invariant.1 _ c.self.view_is _ _ c.requires.upward c.requires.within _ c.get.ensures.value _ c.get-2.ensures.value _ c.self.invariant.2
 
-pub slice_bounds-copy_from_slice-end-2 : goal.slice_bounds-copy_from_slice-end-2
-slice_bounds-copy_from_slice-end-2 g c =
-    let enough = above_enough g.row.W _ _ c.self.invariant.1 _ c.self.view_is c.args.from _ c.requires.upward c.requires.within _ c.get.ensures.value _ c.deref_mut.ensures.value _ _ c.split_at_mut-below.ensures.front c.split_at_mut-below.ensures.back in
-    sym (length-take-le g.row.W c.split_at_mut-below.result.1.now enough)
+pub copy_within-requires-clause-target : goal.copy_within-requires-clause-target
+copy_within-requires-clause-target g c = target_here g.row.W _ _ c.self.invariant.1 _ c.self.view_is _ _ c.requires.upward c.requires.within _ c.get.ensures.value _ c.get-2.ensures.value _ c.self.invariant.2
 
-pub copy_from_slice-requires : goal.copy_from_slice-requires
-copy_from_slice-requires g c =
-    let upward : c.get-2.result < c.args.to = omega (arith, c.get-2.ensures.value, c.requires.upward) in
-    let enough = above_enough g.row.W _ _ c.self.invariant.1 _ c.self.view_is c.get-2.result _ upward c.requires.within _ c.get.ensures.value _ c.deref_mut.ensures.value _ _ c.split_at_mut-below.ensures.front c.split_at_mut-below.ensures.back in
-    length-take-le g.row.W c.split_at_mut-below.result.1.now enough
-    ∙ sym (taken_count g.row.W _ _ c.self.invariant.1 _ c.self.view_is c.get-2.result _ upward c.requires.within _ c.get.ensures.value _ c.deref_mut.ensures.value _ _ c.split_at_mut-below.ensures.front c.split_at_mut-below.ensures.back)
+pub invariant_of-self : goal.invariant_of-self
+invariant_of-self g c = (
+  c.self.invariant.0,
+  copied_long g.row.W _ _ c.self.invariant.1 _ c.self.view_is _ _ c.requires.upward c.requires.within _ c.get.ensures.value _ c.get-2.ensures.value _ c.copy_within.ensures.words,
+  c.copy_within.ensures.here ∙ c.self.invariant.2,
+)
 
 pub returns-clause-copied : goal.returns-clause-copied
-returns-clause-copied g c =
-    let upward : c.get-2.result < c.args.to = omega (arith, c.get-2.ensures.value, c.requires.upward) in
-    copied_up g.row.W _ _ c.self.invariant.1 _ c.self.view_is c.get-2.result _ upward c.requires.within _ c.get.ensures.value _ c.deref_mut.ensures.value _ _ c.split_at_mut-below.ensures.front c.split_at_mut-below.ensures.back c.copy_from_slice.new.self c.copy_from_slice.ensures.after
-    ∙ ap (λ (frame : ℕ). with_words c.args.self.now c.args.to (words_of c.args.self.now frame)) c.get-2.ensures.value
+returns-clause-copied g c = copied_up g.row.W _ _ c.self.invariant.1 _ c.self.view_is _ _ c.requires.upward c.requires.within _ c.get.ensures.value _ c.get-2.ensures.value _ c.copy_within.ensures.words
 
 pub returns-clause-frames : goal.returns-clause-frames
 returns-clause-frames g c = length-rows_of g.row.W c.self.inside.frames _ ∙ sym (length-rows_of g.row.W c.self.inside.frames _) ∙ ap length c.self.view_is

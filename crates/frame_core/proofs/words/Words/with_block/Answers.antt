@@ -1,22 +1,32 @@
-use Rattle.std.proofs.Common.{length, refl, sym, ◌∙◌}
-use Rattle.std.specs.List.{length_refill}
-use Rattle.frame_core.proofs.FlatRows.{came_back, ends, lent_count, lent_words, rows_sized}
+use Rattle.std.proofs.Common.{◌∙◌, ℕ, List, subst}
+use Rattle.std.specs.Fn.{FnOnceReturnsAtMut}
+use Rattle.frame_core.proofs.FlatRows.{came_back, came_long, came_sized, ends, lent_here, lent_words}
 use Rattle.frame_core.proofs.words.Words.with_block.Goals as goal
 
-pub slice_bounds-change-end : goal.slice_bounds-change-end
-slice_bounds-change-end g c = ends g.row.W _ _ c.self.invariant.1 _ c.self.view_is c.args.first c.args.frames c.requires.frames _ c.get.ensures.value _ c.deref_mut.ensures.value
+pub with-requires-clause-within : goal.with-requires-clause-within
+with-requires-clause-within g c = ends g.row.W _ _ c.self.invariant.1 _ c.self.view_is c.args.first c.args.frames c.requires.frames _ c.get.ensures.value
 
-pub change-requires : goal.change-requires
-change-requires g c = c.requires.callable _ (lent_words g.row.W _ _ c.self.invariant.1 _ c.self.view_is c.args.first c.args.frames c.requires.frames _ c.get.ensures.value _ c.deref_mut.ensures.value)
+pub with-requires-clause-here : goal.with-requires-clause-here
+with-requires-clause-here g c = lent_here g.row.W _ _ c.self.invariant.1 _ c.self.view_is c.args.first c.args.frames c.requires.frames _ c.get.ensures.value _ c.self.invariant.2
+
+pub with-requires-clause-callable : goal.with-requires-clause-callable
+with-requires-clause-callable g c = λ p is. c.requires.callable p (is ∙ lent_words g.row.W _ _ c.self.invariant.1 _ c.self.view_is c.args.first c.args.frames c.requires.frames _ c.get.ensures.value)
+
+pub invariant_of-self : goal.invariant_of-self
+invariant_of-self g c = (
+  c.self.invariant.0,
+  came_long g.row.W _ _ c.self.invariant.1 _ c.self.view_is c.args.first c.args.frames c.requires.frames _ c.get.ensures.value _ c.with.ensures.changed.0 c.with.ensures.changed.3 c.with.ensures.changed.1,
+  c.with.ensures.here ∙ c.self.invariant.2,
+)
 
 pub returns-clause-changed : goal.returns-clause-changed
 returns-clause-changed g c =
-    let same = c.change.auto.arg2 ∙ lent_count g.row.W _ _ c.self.invariant.1 _ c.self.view_is c.args.first c.args.frames c.requires.frames _ c.get.ensures.value _ c.deref_mut.ensures.value in (
-      c.change.new.arg2,
-      same,
-      record { shown = _; shows = lent_words g.row.W _ _ c.self.invariant.1 _ c.self.view_is c.args.first c.args.frames c.requires.frames _ c.get.ensures.value _ c.deref_mut.ensures.value; left = _; met = c.change.ensures; leaves = refl },
-      came_back g.row.W _ _ c.self.invariant.1 _ c.self.view_is c.args.first c.args.frames c.requires.frames _ c.get.ensures.value _ c.deref_mut.ensures.value c.change.new.arg2 same,
+    let left = c.with.ensures.changed.0 in (
+      left,
+      c.with.ensures.changed.1,
+      subst (λ (words : List ℕ). FnOnceReturnsAtMut g.F.FnOnce c.args.change words c.with.result left) (lent_words g.row.W _ _ c.self.invariant.1 _ c.self.view_is c.args.first c.args.frames c.requires.frames _ c.get.ensures.value) c.with.ensures.changed.2,
+      came_back g.row.W _ _ c.self.invariant.1 _ c.self.view_is c.args.first c.args.frames c.requires.frames _ c.get.ensures.value _ left c.with.ensures.changed.3 c.with.ensures.changed.1,
     )
 
 pub returns-clause-sized : goal.returns-clause-sized
-returns-clause-sized g c = rows_sized g.row.W _ _ (sym (length_refill (length c.self.inside.words.items) c.self.inside.words.items _ refl) ∙ c.self.invariant.1)
+returns-clause-sized g c = came_sized g.row.W _ _ c.self.invariant.1 _ c.self.view_is c.args.first c.args.frames c.requires.frames _ c.get.ensures.value _ c.with.ensures.changed.0 c.with.ensures.changed.3 c.with.ensures.changed.1
