@@ -1,14 +1,16 @@
 -- The rows of frames whose words stand one after the other.
-use Rattle.std.proofs.Common.{◌≡◌, ℕ, zero, suc, ◌+◌, ◌-◌, ◌*◌, ◌<◌, ◌≤◌, Bool, List, [], ◌∷◌, ◌++◌, length, take, drop, get_or, replicate, refl, sym, ap, subst, ◌∙◌, arith}
+use Rattle.std.proofs.Common.{◌≡◌, ℕ, zero, suc, ◌+◌, ◌-◌, ◌*◌, ◌<◌, ◌≤◌, Bool, true, false, List, [], ◌∷◌, ◌++◌, length, take, drop, get_or, replicate, refl, sym, ap, subst, ◌∙◌, arith}
 use Rattle.std.specs.Prelude.{slice_set}
 use Rattle.std.specs.List.{All}
-use Rattle.std.proofs.lemmas.List.{append_assoc, append-nil, drop_all, drop_at, drop-append-le, drop-drop, length-append, length-drop, length-replicate, length-take-le, replicate-append-replicate, take_all, take_at, take-append-drop, take-append-le, take-set-le}
+use Rattle.std.proofs.lemmas.List.{append_assoc, append-nil, drop_all, drop_at, drop-append-le, drop-drop, length-append, length-drop, length-replicate, length-take-le, replicate-append-replicate, take_at, take-append-drop, take-append-le, take-set-le}
 use Rattle.std.proofs.lemmas.List.Concat.{flat_map-cons}
 use Rattle.std.proofs.lemmas.Grind.{drop-set_at}
 use Rattle.std.proofs.lemmas.Option.{unwrap_or-slice_get}
 use Rattle.std.proofs.Math.Seq.{take-append-add, drop-append-add, drop-cons}
 use Rattle.row_core.specs.Parts.{part as part_of, spliced, AreHere}
 use Rattle.row_core.proofs.Lists.{part_here, spliced_long}
+use Rattle.frame_core.specs.BlankFrames.{AreBlank}
+use Rattle.frame_core.proofs.BlankFrames.{all_blank, blank_beside, left_long}
 use Rattle.frame_core.specs.Words.{joined, block_words, rows_of, with_words, words_of, HasBlock, put_from}
 
 -- each row has this many words
@@ -181,6 +183,19 @@ module _ (size n : ℕ) (words : List ℕ) (long : length words ≡ n * size) (s
   pub came_sized : (new ws : List ℕ) → new ≡ spliced words (place * size) (frames * size) ws → length ws ≡ frames * size → AreSized size (rows_of size n new)
   came_sized new ws is same = rows_sized size n new (came_long new ws is same)
 
+  -- they are no longer known to be blank
+  module _ (known : List Bool) (listed : length known ≡ n) where
+    pub among_listed : first + frames ≤ length known
+    among_listed = omega (arith, within, listed)
+
+    pub came_blank : AreBlank size known (rows_of size n words) → (left : List Bool) → left ≡ spliced known first frames (replicate frames false)
+        → (new ws : List ℕ) → HasBlock seen (rows_of size n new) first frames ws → (length left ≡ n) × AreBlank size left (rows_of size n new)
+    came_blank blank left left_is new ws is = (
+      ap length left_is ∙ left_long known first frames among_listed ∙ listed,
+      subst (λ (frames : List Bool). AreBlank size frames (rows_of size n new)) (sym left_is)
+          (blank_beside known first frames among_listed size seen (rows_of size n new) ws is (subst (AreBlank size known) seen_is blank)),
+    )
+
   -- values are put among them
   module _ (from : ℕ) (values : List ℕ) (small : from + length values ≤ frames * size) where
     pub values_end : place * size + from + length values ≤ length words
@@ -272,15 +287,28 @@ module _ (size n : ℕ) (words : List ℕ) (long : length words ≡ n * size) (s
       ap length is ∙ spliced_long words (target * size) size target_ends (part_of words (source * size) size)
       (length-take-le size (drop (source * size) words) (omega (arith, source_below, target_ends, length-drop (source * size) words))) ∙ long
 
-  pub copied_up : (new : List ℕ) → new ≡ spliced words (target * size) size (part_of words (source * size) size) → rows_of size n new ≡ with_words seen to (words_of seen from)
-  copied_up new is =
+  -- the higher one has those words
+  copied_here : (new : List ℕ) → new ≡ spliced words (target * size) size (part_of words (source * size) size) → HasBlock seen (rows_of size n new) to 1 (part_of words (source * size) size)
+  copied_here new is =
       let below : from + 1 ≤ length seen = omega (arith, upward, enough) in
       let ws = part_of words (source * size) size in
       let ws_is : ws ≡ part_of words (source * size) (1 * size) = ap (λ (k : ℕ). take k (drop (source * size) words)) one in
       let same : length ws ≡ 1 * size = ap length ws_is ∙ lent_count size n words long seen seen_is from 1 below source source_is in
-      one_changed seen (rows_of size n new) to ws enough
-      (came_back size n words long seen seen_is to 1 (omega (arith, enough)) target target_is new ws (is ∙ ap (λ (k : ℕ). spliced words (target * size) k ws) one) same)
-      ∙ ap (with_words seen to) (ws_is ∙ lent_words size n words long seen seen_is from 1 below source source_is ∙ one_row seen from (omega (arith, upward, enough)))
+      came_back size n words long seen seen_is to 1 (omega (arith, enough)) target target_is new ws (is ∙ ap (λ (k : ℕ). spliced words (target * size) k ws) one) same
+
+  pub target_listed : (known : List Bool) → length known ≡ n → to + 1 ≤ length known
+  target_listed known listed = among_listed size n words long seen seen_is to 1 (omega (arith, enough)) target target_is known listed
+
+  pub copied_blank : (known : List Bool) → length known ≡ n → AreBlank size known (rows_of size n words) → (left : List Bool) → left ≡ spliced known to 1 (replicate 1 false)
+      → (new : List ℕ) → new ≡ spliced words (target * size) size (part_of words (source * size) size) → (length left ≡ n) × AreBlank size left (rows_of size n new)
+  copied_blank known listed blank left left_is new is =
+      came_blank size n words long seen seen_is to 1 (omega (arith, enough)) target target_is known listed blank left left_is new (part_of words (source * size) size) (copied_here new is)
+
+  pub copied_up : (new : List ℕ) → new ≡ spliced words (target * size) size (part_of words (source * size) size) → rows_of size n new ≡ with_words seen to (words_of seen from)
+  copied_up new is =
+      let ws_is : part_of words (source * size) size ≡ part_of words (source * size) (1 * size) = ap (λ (k : ℕ). take k (drop (source * size) words)) one in
+      one_changed seen (rows_of size n new) to (part_of words (source * size) size) enough (copied_here new is)
+      ∙ ap (with_words seen to) (ws_is ∙ lent_words size n words long seen seen_is from 1 (omega (arith, upward, enough)) source source_is ∙ one_row seen from (omega (arith, upward, enough)))
 
 -- rows of zeros
 pub blank_rows : (size n : ℕ) (words : List ℕ) → words ≡ replicate (n * size) 0 → rows_of size n words ≡ replicate n (replicate size 0)
@@ -295,3 +323,9 @@ blank_rows size n words is = ap (rows_of size n) is ∙ zeros n
         ∙ ap (λ (row : List ℕ). row ∷ rows_of size m (drop size (replicate size 0 ++ replicate (m * size) 0))) (take_at (replicate size 0) (replicate (m * size) 0) size (length-replicate size 0))
         ∙ ap (λ (ws : List ℕ). replicate size 0 ∷ rows_of size m ws) (drop_at (replicate size 0) (replicate (m * size) 0) size (length-replicate size 0))
         ∙ ap (λ (rows : List (List ℕ)). replicate size 0 ∷ rows) (zeros m)
+
+-- frames that were never written are known to be blank
+pub opened_blank : (size n : ℕ) (words : List ℕ) → words ≡ replicate (n * size) 0 → (known : List Bool) → known ≡ replicate n true → AreBlank size known (rows_of size n words)
+opened_blank size n words is known known_is =
+    subst (λ (frames : List Bool). AreBlank size frames (rows_of size n words)) (sym known_is)
+    (subst (AreBlank size (replicate n true)) (sym (blank_rows size n words is)) (all_blank size n))

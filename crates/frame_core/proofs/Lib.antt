@@ -1,3 +1,4 @@
+mod BlankFrames
 pub mod Bounds
 pub mod Each
 pub mod Ends

@@ -1,6 +1,7 @@
 pub mod Access
 pub mod Address
 pub mod Below
+pub mod BlankFrames
 pub mod Blocks
 pub mod Ends
 pub mod FixedVec

@@ -18,6 +18,7 @@
 #![tactic(auto)]
 
 mod access;
+mod blank_frames;
 mod copied;
 mod fixed_vec;
 mod flags;

@@ -4,6 +4,7 @@ ghost use Rattle.std.specs.List.{All};
 ghost use Rattle.frame_core.specs.Page.{blank_words};
 ghost use Rattle.frame_core.specs.Words.{words_of, word_of, words_from, with_words, with_word, put_from, block_words, HasBlock};
 
+use crate::blank_frames::BlankFrames;
 use crate::flags::PageFlags;
 use crate::numbers::{PageNo, WordNo as WordOf};
 use crate::page::Page;
@@ -17,18 +18,20 @@ use std::marker::Model;
 pub struct Words<const W: usize> {
     frames: u32,
     ground: Ground,
+    blank_frames: BlankFrames,
 }
 
 impl<const W: usize> Model for Words<W> {
     ghost use Rattle.std.specs.Prelude.{◌≡◌, ◌*◌, ◌≤◌, ℕ, List, length};
     ghost use Rattle.row_core.specs.Parts.{AreHere};
+    ghost use Rattle.frame_core.specs.BlankFrames.{AreBlank};
     ghost use Rattle.frame_core.specs.Words.{rows_of};
 
     ghost Value = { List (List ℕ) };
 
     ghost view = { λ w. rows_of W w.frames w.ground.words };
 
-    ghost invariant = { λ w. (W ≤ 65536) × (length w.ground.words ≡ w.frames * W) × AreHere w.ground.here (w.frames * W) };
+    ghost invariant = { λ w. (W ≤ 65536) × (length w.ground.words ≡ w.frames * W) × AreHere w.ground.here (w.frames * W) × (length w.blank_frames ≡ w.frames) × AreBlank W w.blank_frames (rows_of W w.frames w.ground.words) };
 }
 
 impl<const W: usize> Words<W> {
@@ -39,7 +42,12 @@ impl<const W: usize> Words<W> {
         ensures frames { IfOk result (λ rows. length rows ≡ frames) }
     {
         let ground = Ground::open(alloc, frames as usize * W)?;
-        Ok(Words { frames, ground })
+        let blank_frames = BlankFrames::open(alloc, frames)?;
+        Ok(Words {
+            frames,
+            ground,
+            blank_frames,
+        })
     }
 
     /// How many words a page has.
@@ -89,13 +97,16 @@ impl<const W: usize> Words<W> {
         self.store_block(frame, 1, from, values);
     }
 
-    /// Sets all words of the frame to 0.
+    /// Sets all words of the frame to 0. A frame that is known to be blank isn't written.
     pub fn blank(&mut self, frame: FrameNo)
         requires { frame < length self.old }
         ensures blank { self.new ≡ with_words self.old frame (blank_words W) }
         ensures frames { length self.new ≡ length self.old }
     {
-        self.blank_block(frame, 1);
+        if !self.blank_frames.contains(frame) {
+            self.blank_block(frame, 1);
+            self.blank_frames.insert(frame);
+        }
     }
 
     /// The words of so many frames, from a first one on, one after the other.
@@ -121,6 +132,7 @@ impl<const W: usize> Words<W> {
         ensures changed { (words : List ℕ) × (length words ≡ frames * W) × FnOnceReturnsAtMut F.FnOnce change (block_words self.old first frames) result words × HasBlock self.old self.new first frames words }
         ensures sized { All (λ row. length row ≡ W) self.new }
     {
+        self.blank_frames.remove(first, frames);
         let ground = &mut self.ground;
         ground.with(first.get() as usize * W, frames as usize * W, change)
     }
@@ -134,6 +146,7 @@ impl<const W: usize> Words<W> {
         ensures most { W ≤ 65536 }
         ensures sized { All (λ row. length row ≡ W) self.new }
     {
+        self.blank_frames.remove(first, frames);
         let ground = &mut self.ground;
         ground.store(first.get() as usize * W + from, values);
     }
@@ -144,6 +157,7 @@ impl<const W: usize> Words<W> {
         ensures blank { HasBlock self.old self.new first frames (replicate (frames * W) 0) }
         ensures sized { All (λ row. length row ≡ W) self.new }
     {
+        self.blank_frames.remove(first, frames);
         let ground = &mut self.ground;
         ground.clear(first.get() as usize * W, frames as usize * W);
     }
@@ -197,6 +211,7 @@ impl<const W: usize> Words<W> {
         ensures copied { self.new ≡ with_words self.old to (words_of self.old from) }
         ensures frames { length self.new ≡ length self.old }
     {
+        self.blank_frames.remove(to, 1);
         let ground = &mut self.ground;
         ground.copy_within(from.get() as usize * W, to.get() as usize * W, W);
     }

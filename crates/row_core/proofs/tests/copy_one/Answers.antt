@@ -1,4 +1,4 @@
-use Rattle.std.proofs.Common.{ℕ, ◌+◌, ◌≤◌, arith}
+use Rattle.std.proofs.Common.{◌+◌, arith}
 use Rattle.row_core.proofs.Lists.{part_here}
 use Rattle.row_core.proofs.tests.copy_one.Goals as goal
 

@@ -1,6 +1,16 @@
-use Rattle.std.proofs.Common.{rules}
-use Rattle.frame_core.proofs.FlatRows.{blank_rows, length-rows_of}
+use Rattle.std.proofs.Common.{rules, ◌*◌, true, length, ap, ◌∙◌}
+use lib.ListN.{length-replicate}
+use Rattle.frame_core.proofs.FlatRows.{blank_rows, length-rows_of, opened_blank}
 use Rattle.frame_core.proofs.words.Words.open.Goals as goal
+
+pub invariant_of-result : goal.invariant_of-result
+invariant_of-result g c = (
+  c.requires,
+  ap length c.in_ok-ground.ensures.words ∙ length-replicate (c.args.frames * g.row.W) 0,
+  c.in_ok-ground.ensures.here,
+  ap length c.in_ok-blank_frames.ensures ∙ length-replicate c.args.frames true,
+  opened_blank g.row.W c.args.frames _ c.in_ok-ground.ensures.words _ c.in_ok-blank_frames.ensures,
+)
 
 pub returns-clause-blank : goal.returns-clause-blank
 returns-clause-blank g c = search (rules, blank_rows)

@@ -1,0 +1,88 @@
+-- Which frames stay known to be blank.
+use Rattle.std.proofs.Common.{◌≡◌, ℕ, ◌+◌, ◌-◌, ◌<◌, ◌≤◌, Bool, true, false, true≢false, ◌⊎◌, inl, inr, List, [], ◌++◌, length, take, drop, get_or, replicate, refl, sym, ap, ◌∙◌, arith}
+use Rattle.std.specs.Prelude.{slice_set}
+use Rattle.std.proofs.lemmas.List.{get_or-append-add, get_or_append_left, get_or-drop, get_or_past, get_or-replicate, get_or-set_other, get_or-take, set-get_or, length-replicate, take_at}
+use Rattle.std.proofs.lemmas.Grind.{get_or-set_at}
+use Rattle.std.proofs.lemmas.Option.{unwrap_or-slice_get}
+use Rattle.std.proofs.lemmas.Bool.{cases_lt}
+use Rattle.row_core.specs.Parts.{spliced}
+use Rattle.row_core.proofs.Lists.{front_long, rest_stays, spliced_long}
+use Rattle.frame_core.specs.Page.{blank_words}
+use Rattle.frame_core.specs.Words.{words_of, with_words, HasBlock}
+use Rattle.frame_core.specs.BlankFrames.{AreBlank}
+
+module _ {X : Type 0} (xs ys : List X) (d : X) where
+  -- what stands before this place is the same
+  same_before : (at i : ℕ) → take at xs ≡ take at ys → i < at → get_or xs i d ≡ get_or ys i d
+  same_before at i same before = sym (get_or-take at xs i d before) ∙ ap (λ (l : List X). get_or l i d) same ∙ get_or-take at ys i d before
+
+  -- what stands from this place on is the same
+  same_after : (at i : ℕ) → drop at xs ≡ drop at ys → at ≤ i → get_or xs i d ≡ get_or ys i d
+  same_after at i same after =
+      let sum : at + (i - at) ≡ i = omega arith in
+      ap (λ (k : ℕ). get_or xs k d) (sym sum) ∙ sym (get_or-drop at xs (i - at) d) ∙ ap (λ (l : List X). get_or l (i - at) d) same ∙ get_or-drop at ys (i - at) d ∙ ap (λ (k : ℕ). get_or ys k d) sum
+
+-- so many frames are no longer known to be blank
+module _ (known : List Bool) (first frames : ℕ) (within : first + frames ≤ length known) where
+  abbrev left : List Bool
+  left = spliced known first frames (replicate frames false)
+
+  forgotten : (frame : ℕ) → first ≤ frame → frame < first + frames → get_or left frame false ≡ false
+  forgotten frame least most =
+      let at : frame ≡ length (take first known) + (frame - first) = omega (arith, least, front_long known first frames within) in
+      ap (λ (k : ℕ). get_or left k false) at
+      ∙ get_or-append-add (take first known) (replicate frames false ++ drop (first + frames) known) (frame - first) false
+      ∙ get_or_append_left (replicate frames false) (drop (first + frames) known) false (frame - first) (omega (arith, least, most, length-replicate frames false))
+      ∙ get_or-replicate frames (frame - first) false false (omega (arith, least, most))
+
+  still_before : (frame : ℕ) → frame < first → get_or left frame false ≡ get_or known frame false
+  still_before frame before = same_before left known false first frame (take_at (take first known) (replicate frames false ++ drop (first + frames) known) first (front_long known first frames within)) before
+
+  still_after : (frame : ℕ) → first + frames ≤ frame → get_or left frame false ≡ get_or known frame false
+  still_after frame after = same_after left known false (first + frames) frame (rest_stays known first frames within (replicate frames false) (length-replicate frames false)) after
+
+  pub left_long : length left ≡ length known
+  left_long = spliced_long known first frames within (replicate frames false) (length-replicate frames false)
+
+  -- those frames got other words, and the rest are as they were
+  pub blank_beside : (size : ℕ) (old new : List (List ℕ)) (words : List ℕ) → HasBlock old new first frames words → AreBlank size known old → AreBlank size left new
+  blank_beside size old new words is blank frame told = by_place (cases_lt frame first) (cases_lt frame (first + frames))
+    where
+      kept : get_or left frame false ≡ get_or known frame false → get_or new frame [] ≡ get_or old frame [] → words_of new frame ≡ blank_words size
+      kept same row = unwrap_or-slice_get new frame [] ∙ row ∙ sym (unwrap_or-slice_get old frame [])
+          ∙ blank frame (unwrap_or-slice_get known frame false ∙ sym same ∙ sym (unwrap_or-slice_get left frame false) ∙ told)
+
+      by_place : (frame < first) ⊎ (first ≤ frame) → (frame < first + frames) ⊎ (first + frames ≤ frame) → words_of new frame ≡ blank_words size
+      by_place (inl before) other = kept (still_before frame before) (same_before new old [] first frame is.before before)
+      by_place (inr least) (inr after) = kept (still_after frame after) (same_after new old [] (first + frames) frame is.after after)
+      by_place (inr least) (inl most) = absurd (true≢false (sym told ∙ unwrap_or-slice_get left frame false ∙ forgotten frame least most))
+
+-- a frame is known to be blank from now on
+pub blank_too : (size : ℕ) (known : List Bool) (rows : List (List ℕ)) (frame : ℕ) → words_of rows frame ≡ blank_words size → AreBlank size known rows → AreBlank size (slice_set known frame true) rows
+blank_too size known rows frame row blank other told = by_order (cases_lt other frame) (cases_lt frame other)
+  where
+    kept : get_or (slice_set known frame true) other false ≡ get_or known other false → words_of rows other ≡ blank_words size
+    kept same = blank other (unwrap_or-slice_get known other false ∙ sym same ∙ sym (unwrap_or-slice_get (slice_set known frame true) other false) ∙ told)
+
+    by_order : (other < frame) ⊎ (frame ≤ other) → (frame < other) ⊎ (other ≤ frame) → words_of rows other ≡ blank_words size
+    by_order (inl less) more = kept (get_or-set_other known frame other true false (omega (arith, less)))
+    by_order (inr least) (inl less) = kept (get_or-set_other known frame other true false (omega (arith, less)))
+    by_order (inr least) (inr most) = let same : other ≡ frame = omega (arith, least, most) in ap (words_of rows) same ∙ row
+
+-- frames that were never written
+pub all_blank : (size n : ℕ) → AreBlank size (replicate n true) (replicate n (blank_words size))
+all_blank size n frame told = by_order (cases_lt frame n)
+  where
+    by_order : (frame < n) ⊎ (n ≤ frame) → words_of (replicate n (blank_words size)) frame ≡ blank_words size
+    by_order (inl below) = unwrap_or-slice_get (replicate n (blank_words size)) frame [] ∙ get_or-replicate n frame (blank_words size) [] below
+    by_order (inr past) = absurd (true≢false (sym told ∙ unwrap_or-slice_get (replicate n true) frame false ∙ get_or_past (replicate n true) frame false (omega (arith, past, length-replicate n true))))
+
+-- a frame that is given words has them
+pub words_given : (rows new : List (List ℕ)) (frame : ℕ) (words : List ℕ) → new ≡ with_words rows frame words → frame < length rows → words_of new frame ≡ words
+words_given rows new frame words is within =
+    ap (λ (rs : List (List ℕ)). words_of rs frame) is ∙ unwrap_or-slice_get (with_words rows frame words) frame []
+    ∙ get_or-set_at rows frame frame words [] refl within
+
+-- a frame that is given its own words stays as it is
+pub words_kept : (rows : List (List ℕ)) (frame : ℕ) (words : List ℕ) → words_of rows frame ≡ words → rows ≡ with_words rows frame words
+words_kept rows frame words is = sym (set-get_or rows frame []) ∙ ap (with_words rows frame) (sym (unwrap_or-slice_get rows frame []) ∙ is)
