@@ -427,11 +427,30 @@ static void both_sizes(uint32_t page_words)
     every_number_of_blocks(page_words);
 }
 
+/* What one of these leaves behind is seen by the tools that look for memory that is lost. */
+static void a_thousand_pools(void)
+{
+    int number;
+
+    for (number = 0; number < 1000; number++) {
+        compactd_pool pool = {0};
+
+        OK(compactd_open(&pool, number % 2 ? 8 : 512, 1));
+        OK(compactd_map(&pool, 0, 0, 0, 0, &frame));
+        OK(compactd_store(&pool, 0, 0, 0, 7, 1));
+        OK(compactd_compact(&pool, &is_so));
+        OK(compactd_take_order(&pool, 8, &frame));
+        OK(compactd_read_block(&pool, frame, 8, 0, words, 1));
+        OK(compactd_close(&pool));
+    }
+}
+
 int main(void)
 {
     HOLDS(compactd_version() == COMPACTD_VERSION);
     texts();
     free_runs();
+    a_thousand_pools();
     both_sizes(8);
     both_sizes(512);
     return wrong;
