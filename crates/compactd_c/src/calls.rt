@@ -14,6 +14,9 @@ use state_core::{ZoneAnswer, ZoneError};
 /// The number of a call on a closed pool.
 pub(crate) const CLOSED: u32 = 51;
 
+/// The number that says that the scanners of a round have met.
+pub(crate) const MET: u32 = 53;
+
 /// Makes the call that a client asks for. The error is the number of the refusal.
 pub(crate) fn make(pool: &mut Pool, client: u32, asked: Asked) -> Result<ZoneAnswer, u32>
     ensures answer { number_in result ≡ answer pool.old.zone (refusal_for client asked) }

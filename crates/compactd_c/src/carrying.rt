@@ -11,12 +11,9 @@ ghost use Rattle.state_core.specs.Packed.{IsPacked};
 ghost use Rattle.state_core.specs.Pairs.{HaveMet, next_pair};
 ghost use Rattle.state_core.specs.ZoneState.{ZoneState, is_quiet};
 
-use crate::calls::{CLOSED, number as number_for, told};
+use crate::calls::{CLOSED, MET, number as number_for, told};
 use crate::pool::Pool;
 use state_core::Ended;
-
-/// The number of an isolation whose scanners have met.
-const MET: u32 = 53;
 
 /// A page that is moving. C has its words beside it.
 #[repr(C)]

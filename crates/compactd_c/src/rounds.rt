@@ -1,9 +1,9 @@
 //! What C calls to run rounds, and to make the moves of a round itself.
 
-ghost use Rattle.std.specs.Prelude.{◌≡◌, ◌↔◌, true, false, length, IsTrue, None, Some};
+ghost use Rattle.std.specs.Prelude.{◌≡◌, ◌+◌, ◌≤◌, ◌⊎◌, ◌↔◌, true, false, length, IsTrue, None, Some};
 ghost use Rattle.compactd_c.specs.Answers.{answer, left};
 ghost use Rattle.compactd_c.specs.Carried.{is_moving};
-ghost use Rattle.frame_core.specs.Moves.{out};
+ghost use Rattle.frame_core.specs.Moves.{moved as pages_moved, out};
 ghost use Rattle.frame_core.specs.declared.record.Cause.{Cause};
 ghost use Rattle.state_core.specs.Ending.{put_back_to_source};
 ghost use Rattle.state_core.specs.Isolating.{isolate_refusal};
@@ -12,11 +12,13 @@ ghost use Rattle.state_core.specs.Pairs.{HaveMet};
 ghost use Rattle.state_core.specs.Rounds.{round_begun};
 ghost use Rattle.state_core.specs.ZoneState.{ZoneState, is_quiet};
 ghost use Rattle.state_core.specs.declared.error.ZoneError.{ZoneError};
-ghost use Rattle.zone_core.specs.OneThread.{all_moved};
+ghost use Rattle.zone_core.specs.OneThread.{moved_at_most, all_moved};
 
-use crate::calls::{CLOSED, numbered};
+use crate::calls::{CLOSED, MET, number, numbered};
 use crate::carrying::MovingPage;
 use crate::pool::Pool;
+use state_core::ZoneError;
+use zone_core::Answered;
 
 /// Runs a whole round on the thread that calls, and tells whether its scanners met; else the journal had no room for a
 /// further move, or the pool has taken 2^32 - 1 pages in its rounds.
@@ -39,7 +41,42 @@ pub extern "C" fn compactd_compact(pool: &mut Pool, met: &mut bool) -> u32
     0
 }
 
-/// Begins a round whose pages C carries itself.
+/// Moves the next pages of the round that was begun last, so many at most, as `compactd_compact` moves them. Gets how many were moved,
+/// and why no more were: 0 where they are as many as were asked for, and else MET or JOURNAL_FULL.
+///
+/// Refused as CLOSED.
+#[unsafe(no_mangle)]
+pub extern "C" fn compactd_move_pages(
+    pool: &mut Pool,
+    most: u32,
+    moved: &mut u32,
+    stopped: &mut u32,
+) -> u32
+    ensures answer { result ≡ answer pool.old.zone (λ z. None) }
+    ensures zone { pool.new.zone ≡ left pool.old.zone (λ z. None) (moved_at_most most) }
+    ensures moved { (z : ZoneState) → pool.old.zone ≡ Some z → (moved.new ≤ most) × (pages_moved (moved_at_most most z).records ≡ pages_moved z.records + moved.new) }
+    ensures all { (z : ZoneState) → pool.old.zone ≡ Some z → stopped.new ≡ 0 → moved.new ≡ most }
+    ensures met { (z : ZoneState) → pool.new.zone ≡ Some z → stopped.new ≡ 53 → HaveMet z }
+    ensures full { (z : ZoneState) → pool.new.zone ≡ Some z → stopped.new ≡ 2 → isolate_refusal z ≡ Some ZoneError.JournalFull }
+    ensures reasons { (z : ZoneState) → pool.old.zone ≡ Some z → (stopped.new ≡ 0) ⊎ ((stopped.new ≡ 53) ⊎ (stopped.new ≡ 2)) }
+    // Where nothing was stuck and the scanners met, the zone is packed.
+    ensures packed { (z : ZoneState) → pool.new.zone ≡ Some z → stopped.new ≡ 53 → is_quiet z ≡ true → length (out z.records) ≡ 0 → IsPacked z }
+    ensures kept { ¬ (result ≡ 0) → (moved.new ≡ moved.old) × (stopped.new ≡ stopped.old) }
+{
+    let Some(zone) = pool.zone() else {
+        return CLOSED;
+    };
+    let slice = zone.move_pages(most);
+    *moved = slice.moved;
+    *stopped = match slice.last {
+        Answered::Page => 0,
+        Answered::Met => MET,
+        Answered::JournalFull => number(ZoneError::JournalFull),
+    };
+    0
+}
+
+/// Begins a round whose pages C carries itself, or that it makes in slices.
 ///
 /// Refused as CLOSED.
 #[unsafe(no_mangle)]

@@ -1,8 +1,8 @@
 //! A zone whose pages have one of two sizes.
 
-ghost use Rattle.std.specs.Prelude.{◌≡◌, ◌≤◌, ◌↔◌, ◌&&◌, nat_lt, true, ℕ, false, length, reverse, slice_get, is_some, Some, None, IsTrue, IsOk, IfOk, IfErr, OnOk, OnErr, IfSome};
+ghost use Rattle.std.specs.Prelude.{◌≡◌, ◌+◌, ◌≤◌, ◌↔◌, ◌&&◌, nat_lt, true, ℕ, false, length, reverse, slice_get, is_some, Some, None, IsTrue, IsOk, IfOk, IfErr, OnOk, OnErr, IfSome};
 ghost use Rattle.std.specs.Result.{result_err};
-ghost use Rattle.frame_core.specs.Moves.{out};
+ghost use Rattle.frame_core.specs.Moves.{moved, out};
 ghost use Rattle.frame_core.specs.declared.record.Cause.{Cause};
 ghost use Rattle.state_core.specs.Access.{access_refusal, value_at, loaded, stored};
 ghost use Rattle.state_core.specs.Bulk.{bulk_refusal, values_at, loaded_all, stored_all};
@@ -19,7 +19,7 @@ ghost use Rattle.state_core.specs.ZoneState.{is_quiet};
 ghost use Rattle.zone_core.specs.Counted.{IsCounted};
 ghost use Rattle.zone_core.specs.FreeRuns.{fragmentation, maximal_runs};
 ghost use Rattle.zone_core.specs.NextMoving.{IsNextMoving, IsNoneMoving};
-ghost use Rattle.zone_core.specs.OneThread.{all_moved};
+ghost use Rattle.zone_core.specs.OneThread.{moved_at_most, all_moved};
 ghost use Rattle.compactd_c.specs.Asked.{address_of, is_address, is_client, is_block, ranged, refusal_for, answer_for, after_asked};
 ghost use Rattle.compactd_c.specs.Kinds.{IsPageSize};
 ghost use Rattle.compactd_c.specs.Looks.{look_refusal, audit_refusal};
@@ -38,7 +38,7 @@ use frame_core::{
 use state_core::{Audit, Ended, Info, Look, Next, ZoneAnswer, ZoneError};
 use std::alloc::Global;
 use std::marker::Model;
-use zone_core::{Answered, BareZone, MovingPage as Found};
+use zone_core::{Answered, BareZone, MovingPage as Found, Slice};
 
 /// The two kinds of zones.
 #[derive(Drop)]
@@ -387,6 +387,22 @@ impl Zone {
             Kind::Large(zone) => zone.compact(),
         };
         stopped == Answered::Met
+    }
+
+    /// Moves the next pages of a round, so many at most.
+    pub(crate) fn move_pages(&mut self, most: u32) -> Slice
+        ensures zone { self.new ≡ moved_at_most most self.old }
+        ensures moved { moved self.new.records ≡ moved self.old.records + result.moved }
+        ensures most { result.moved ≤ most }
+        ensures page { result.last ≡ Answered.Page → result.moved ≡ most }
+        ensures met { result.last ≡ Answered.Met → HaveMet self.new }
+        ensures full { result.last ≡ Answered.JournalFull → isolate_refusal self.new ≡ Some ZoneError.JournalFull }
+        ensures packed { result.last ≡ Answered.Met → is_quiet self.new ≡ true → length (out self.new.records) ≡ 0 → IsPacked self.new }
+    {
+        match &mut self.kind {
+            Kind::Small(zone) => zone.move_pages(most),
+            Kind::Large(zone) => zone.move_pages(most),
+        }
     }
 
     /// Isolates the next page of a round, whose words go where C wants them. There is none where the scanners have met.

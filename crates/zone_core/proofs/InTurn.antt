@@ -1,5 +1,5 @@
 -- A round that moves one page after the other.
-use Rattle.std.proofs.Common.{◌≡◌, ℕ, zero, suc, ◌-◌, ◌<◌, ◌≤◌, refl, sym, ap, subst, ◌∙◌, arith, cond}
+use Rattle.std.proofs.Common.{◌≡◌, ℕ, zero, suc, ◌+◌, ◌-◌, ◌<◌, ◌≤◌, refl, sym, ap, subst, ◌∙◌, arith, cond}
 use Rattle.std.specs.Prelude.{Bool, true, false, nat_eq, is_some, is_none, Option, Some, None}
 use Rattle.std.proofs.lemmas.Bool.{eqb-true, and_parts}
 use Rattle.std.specs.FinMap as map
@@ -21,7 +21,7 @@ use Rattle.zone_core.specs.ByHand.{scan_pair}
 use Rattle.zone_core.proofs.OneThread.{IsBetween, between_moved, unpinned}
 
 -- it stays where it stopped, however many moves it may still make
-stays : (most : ℕ) (z : ZoneState) → moved_next z ≡ None → moved_at_most most z ≡ z
+pub stays : (most : ℕ) (z : ZoneState) → moved_next z ≡ None → moved_at_most most z ≡ z
 stays zero z stopped = refl
 stays (suc most) z stopped = ap (going_on (moved_at_most most) z) stopped
 
@@ -57,6 +57,12 @@ none_left z none = none_left_by z (moved_next z) refl none
 either_way : (f g : ZoneState → ZoneState) (z : ZoneState) (o : Option ZoneState) → ((next : ZoneState) → o ≡ Some next → f next ≡ g next) → going_on f z o ≡ going_on g z o
 either_way f g z None same = refl
 either_way f g z (Some next) same = same next refl
+
+-- after one move there is one less to make
+pub one_further : (most at : ℕ) (z next : ZoneState) → at < most → moved_next z ≡ Some next → moved_at_most (most - (at + 1)) next ≡ moved_at_most (most - at) z
+one_further most at z next less moved =
+    let left : most - at ≡ suc (most - (at + 1)) = omega (arith, less) in
+    sym (ap (λ (n : ℕ). moved_at_most n z) left ∙ ap (going_on (moved_at_most (most - (at + 1))) z) moved)
 
 -- so many moves are enough as the journal has places left: more make no difference
 enough : (n m : ℕ) (z : ZoneState) → z.room ≤ n → z.room ≤ m → moved_at_most n z ≡ moved_at_most m z

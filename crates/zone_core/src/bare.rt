@@ -20,6 +20,8 @@ mod rounds;
 mod tables;
 mod words;
 
+pub use one_thread::Slice;
+
 use frame_core::{Address, BlockNo, Journal, ZoneNo};
 use state_core::{Info, Look, ZoneError};
 use std::alloc::Global;

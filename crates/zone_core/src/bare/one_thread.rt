@@ -1,21 +1,30 @@
-//! A round on the thread that calls.
+//! A round on the thread that calls, at once or in slices.
 
-ghost use Rattle.std.specs.Prelude.{◌≡◌, true, length};
-ghost use Rattle.frame_core.specs.Moves.{out};
+ghost use Rattle.std.specs.Prelude.{◌≡◌, ◌+◌, ◌≤◌, true, length, Some};
+ghost use Rattle.frame_core.specs.Moves.{moved, out};
 ghost use Rattle.state_core.specs.Isolating.{isolate_refusal};
 ghost use Rattle.state_core.specs.Packed.{IsPacked};
 ghost use Rattle.state_core.specs.Pairs.{HaveMet};
 ghost use Rattle.state_core.specs.Rounds.{round_begun};
 ghost use Rattle.state_core.specs.Valid.{IsValidZone};
 ghost use Rattle.state_core.specs.ZoneState.{is_quiet};
+ghost use Rattle.state_core.specs.declared.error.ZoneError.{ZoneError};
 ghost use Rattle.zone_core.specs.Alone.{IsAtRest};
 ghost use Rattle.zone_core.specs.ByHand.{by_hand};
-ghost use Rattle.zone_core.specs.OneThread.{last_for, all_moved};
+ghost use Rattle.zone_core.specs.OneThread.{last_for, moved_at_most, all_moved};
 ghost use Rattle.zone_core.specs.Outcome.{IsSame};
 ghost use Rattle.zone_core.specs.ZoneIdentity.{HasIdentity};
 
 use crate::bare::BareZone;
 use crate::seats::Answered;
+
+/// What came of a slice of a round: how many pages were moved, and the last answer. That is `Page` where as many were moved as were
+/// asked for. Else it says why there were fewer.
+#[derive(Clone, Copy, Debug, PartialEq, Eq)]
+pub struct Slice {
+    pub moved: u32,
+    pub last: Answered,
+}
 
 impl<const W: usize> BareZone<W> {
     /// Runs one round on the thread that calls. Each page that can be moved goes up into a free frame, the lowest page first: it is isolated
@@ -40,6 +49,30 @@ impl<const W: usize> BareZone<W> {
             if let Some(last) = self.move_next() {
                 return last;
             }
+        }
+    }
+
+    /// Moves the next pages of the round that was begun last, so many at most, as `compact` moves them. So a round can be made in slices,
+    /// with other calls between them.
+    pub fn move_pages(&mut self, most: u32) -> Slice
+        ensures zone { self.new ≡ moved_at_most most self.old }
+        ensures moved { moved self.new.records ≡ moved self.old.records + result.moved }
+        ensures most { result.moved ≤ most }
+        ensures page { result.last ≡ Answered.Page → result.moved ≡ most }
+        ensures met { result.last ≡ Answered.Met → HaveMet self.new }
+        ensures full { result.last ≡ Answered.JournalFull → isolate_refusal self.new ≡ Some ZoneError.JournalFull }
+        // Where nothing was stuck and the scanners met, the zone is packed.
+        ensures packed { result.last ≡ Answered.Met → is_quiet self.new ≡ true → length (out self.new.records) ≡ 0 → IsPacked self.new }
+        ensures identity { HasIdentity self.old.number self.old.blocks self.new }
+    {
+        for moved in 0..most {
+            if let Some(last) = self.move_next() {
+                return Slice { moved, last };
+            }
+        }
+        Slice {
+            moved: most,
+            last: Answered::Page,
         }
     }
 }

@@ -80,6 +80,7 @@ impl<const W: usize> BareZone<W> {
     #[inline(always)]
     pub(crate) fn move_next(&mut self) -> Option<Answered>
         ensures moved { IfNone result (moved_next self.old ≡ Some self.new) }
+        ensures count { IfNone result (moved self.new.records ≡ moved self.old.records + 1) }
         ensures none { IfSome result (λ last. moved_next self.old ≡ None) }
         ensures stays { IfSome result (λ last. self.new ≡ self.old) }
         ensures last { IfSome result (λ last. last ≡ last_for (isolate_refusal self.old)) }
