@@ -1,0 +1,5 @@
+pub mod Choices
+pub mod Costs
+pub mod Counts
+pub mod Moves
+pub mod Placements

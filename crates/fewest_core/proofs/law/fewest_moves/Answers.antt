@@ -1,0 +1,25 @@
+use Rattle.fewest_core.proofs.Choices.{attained, picked}
+use Rattle.fewest_core.proofs.Moves.{fewest, told, possible, room}
+use Rattle.fewest_core.proofs.Placements.{fewest_elsewhere}
+use Rattle.fewest_core.proofs.law.fewest_moves.Goals as goal
+
+pub returns-clause-fewest : goal.returns-clause-fewest
+returns-clause-fewest c = fewest
+
+pub returns-clause-told : goal.returns-clause-told
+returns-clause-told c = told
+
+pub returns-clause-possible : goal.returns-clause-possible
+returns-clause-possible c = possible
+
+pub returns-clause-room : goal.returns-clause-room
+returns-clause-room c = room
+
+pub returns-clause-elsewhere : goal.returns-clause-elsewhere
+returns-clause-elsewhere c size n z place moved = fewest_elsewhere z place moved size n
+
+pub returns-clause-attained : goal.returns-clause-attained
+returns-clause-attained c = attained
+
+pub returns-clause-picked : goal.returns-clause-picked
+returns-clause-picked c = picked

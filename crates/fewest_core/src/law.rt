@@ -1,0 +1,22 @@
+//! What no list of moves can beat.
+
+ghost use Rattle.std.specs.Prelude.{◌≡◌, ℕ, ◌+◌, ◌<◌, ◌≤◌, ◌*◌, Bool, true, false, Option, List, length};
+ghost use Rattle.fewest_core.specs.FewestMoves.{Move, AreMoves, IsRearranged, after_moves, cost, cost_of, costs, is_elsewhere, is_open, least, run_count};
+ghost use Rattle.frame_core.specs.Below.{count_below};
+ghost use Rattle.frame_core.specs.Moves.{moved};
+ghost use Rattle.state_core.specs.Packed.{free_runs, left_runs, unmarked_free};
+ghost use Rattle.state_core.specs.ZoneState.{ZoneState, frame_count};
+
+/// To make n aligned runs of a zone free by moves, at least as many moves are needed as the n cheapest open runs cost together, and
+/// the journal tells of each. Moves can't make more runs free than are open, nor more than the free frames fill. No placement of the
+/// pages leaves n runs free with fewer pages elsewhere. Some n open runs cost just the least, and so do those that are chosen by
+/// their costs.
+pub fn fewest_moves()
+    ensures fewest { (size n : ℕ) (z : ZoneState) (moves : List Move) → AreMoves z moves → n ≤ free_runs (after_moves z moves) size → least n z size ≤ length moves }
+    ensures told { (z : ZoneState) (moves : List Move) → moved (after_moves z moves).records ≡ moved z.records + length moves }
+    ensures possible { (size : ℕ) (z : ZoneState) (moves : List Move) → AreMoves z moves → free_runs (after_moves z moves) size ≤ length (costs z size) }
+    ensures room { (size : ℕ) (z : ZoneState) (moves : List Move) → 0 < size → AreMoves z moves → size * free_runs (after_moves z moves) size ≤ unmarked_free z }
+    ensures elsewhere { (size n : ℕ) (z : ZoneState) (place : ℕ → Option ℕ) → IsRearranged z place → n ≤ left_runs z place size → least n z size ≤ count_below (is_elsewhere z place) (frame_count z) }
+    ensures attained { (size n : ℕ) (z : ZoneState) → n ≤ length (costs z size) → (chosen : ℕ → Bool) × ((run : ℕ) → chosen run ≡ true → is_open z size run ≡ true) × (count_below chosen (run_count z size) ≡ n) × (cost_of chosen z size ≡ least n z size) }
+    ensures picked { (size most : ℕ) (z : ZoneState) (chosen : ℕ → Bool) → ((run : ℕ) → chosen run ≡ true → (is_open z size run ≡ true) × (cost z size run ≤ most)) → ((run : ℕ) → run < run_count z size → chosen run ≡ false → is_open z size run ≡ true → most ≤ cost z size run) → cost_of chosen z size ≡ least (count_below chosen (run_count z size)) z size }
+{}
