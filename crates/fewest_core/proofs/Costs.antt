@@ -155,7 +155,7 @@ module _ (passes : ℕ → Bool) (cost_at : ℕ → ℕ) where
 
   record Choice (n runs : ℕ) : Type 0 where
     pick : ℕ → Bool
-    opened : (run : ℕ) → pick run ≡ true → passes run ≡ true
+    opened : (run : ℕ) → pick run ≡ true → (run < runs) × (passes run ≡ true)
     many : count_below pick runs ≡ n
     paid : cost_below pick cost_at runs ≡ first n (costs_below passes cost_at runs)
 
@@ -170,11 +170,11 @@ module _ (passes : ℕ → Bool) (cost_at : ℕ → ℕ) where
   unfolding with_run
   with_it run b pick = cond-true (eqb run run) b (pick run) (eq-eqb run run refl)
 
-  with_open : (run : ℕ) (b : Bool) (pick : ℕ → Bool) → (b ≡ true → passes run ≡ true) → ((k : ℕ) → pick k ≡ true → passes k ≡ true) → (k : ℕ) → with_run run b pick k ≡ true → passes k ≡ true
+  with_open : (run : ℕ) (b : Bool) (pick : ℕ → Bool) → (b ≡ true → passes run ≡ true) → ((k : ℕ) → pick k ≡ true → (k < run) × (passes k ≡ true)) → (k : ℕ) → with_run run b pick k ≡ true → (k < suc run) × (passes k ≡ true)
   unfolding with_run
   with_open run b pick here others k is = elim (eqb_tells k run) [
-    | inl at ↦ ap passes at.1 ∙ here (sym (cond-true (eqb k run) b (pick k) at.0) ∙ is)
-    | inr other ↦ others k (sym (cond-false (eqb k run) b (pick k) other.0) ∙ is)
+    | inl at ↦ (omega (arith, at.1), ap passes at.1 ∙ here (sym (cond-true (eqb k run) b (pick k) at.0) ∙ is))
+    | inr other ↦ (let old = others k (sym (cond-false (eqb k run) b (pick k) other.0) ∙ is) in (omega (arith, old.0), old.1))
   ]
 
   -- the choice, with one more run taken or left out
@@ -212,7 +212,7 @@ module _ (passes : ℕ → Bool) (cost_at : ℕ → ℕ) where
     by_none (suc m) e = absurd (omega arith)
   choose n (suc run) within = choose_next n run (passes run) refl (λ m. choose m run) within
 
-pub choice_attains : (passes : ℕ → Bool) (cost_at : ℕ → ℕ) (runs n : ℕ) → n ≤ length (costs_below passes cost_at runs) → (chosen : ℕ → Bool) × ((run : ℕ) → chosen run ≡ true → passes run ≡ true) × (count_below chosen runs ≡ n) × (cost_below chosen cost_at runs ≡ sum (take n (costs_below passes cost_at runs)))
+pub choice_attains : (passes : ℕ → Bool) (cost_at : ℕ → ℕ) (runs n : ℕ) → n ≤ length (costs_below passes cost_at runs) → (chosen : ℕ → Bool) × ((run : ℕ) → chosen run ≡ true → (run < runs) × (passes run ≡ true)) × (count_below chosen runs ≡ n) × (cost_below chosen cost_at runs ≡ sum (take n (costs_below passes cost_at runs)))
 choice_attains passes cost_at runs n within =
     let found = choose passes cost_at n runs within in
     (found.pick, found.opened, found.many, omega (arith, found.paid, first_is n (costs_below passes cost_at runs)))
@@ -236,7 +236,7 @@ pub picked_least : (passes : ℕ → Bool) (cost_at : ℕ → ℕ) (chosen : ℕ
 picked_least passes cost_at chosen t runs low high =
     let opened = λ (run : ℕ) (is : chosen run ≡ true). (low run is).0 in
     let best = choice_attains passes cost_at runs (count_below chosen runs) (enough_open passes cost_at chosen opened runs) in
-    let no_more = exchange cost_at chosen best.0 t runs (λ run is. (low run is).1) (λ run h out in_best. high run h out (best.1 run in_best)) in
+    let no_more = exchange cost_at chosen best.0 t runs (λ run is. (low run is).1) (λ run h out in_best. high run h out (best.1 run in_best).1) in
     let same : t * count_below best.0 runs ≡ t * count_below chosen runs = ap (λ (k : ℕ). t * k) best.2 in
     omega (arith, no_more, same, best.3, cheapest passes cost_at chosen opened (count_below chosen runs) runs (omega arith))
 

@@ -3,3 +3,4 @@ pub mod Costs
 pub mod Counts
 pub mod Moves
 pub mod Placements
+pub mod Reached

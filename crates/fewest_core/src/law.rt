@@ -5,6 +5,7 @@ ghost use Rattle.fewest_core.specs.FewestMoves.{Move, AreMoves, IsRearranged, af
 ghost use Rattle.frame_core.specs.Below.{count_below};
 ghost use Rattle.frame_core.specs.Moves.{moved};
 ghost use Rattle.state_core.specs.Packed.{free_runs, left_runs, unmarked_free};
+ghost use Rattle.state_core.specs.Valid.{IsValidZone};
 ghost use Rattle.state_core.specs.ZoneState.{ZoneState, frame_count};
 
 /// To make n aligned runs of a zone free by moves, at least as many moves are needed as the n cheapest open runs cost together, and
@@ -16,7 +17,8 @@ pub fn fewest_moves()
     ensures told { (z : ZoneState) (moves : List Move) → moved (after_moves z moves).records ≡ moved z.records + length moves }
     ensures possible { (size : ℕ) (z : ZoneState) (moves : List Move) → AreMoves z moves → free_runs (after_moves z moves) size ≤ length (costs z size) }
     ensures room { (size : ℕ) (z : ZoneState) (moves : List Move) → 0 < size → AreMoves z moves → size * free_runs (after_moves z moves) size ≤ unmarked_free z }
+    ensures reached { (size n : ℕ) (z : ZoneState) → 0 < size → IsValidZone z → n ≤ length (costs z size) → size * n ≤ unmarked_free z → (moves : List Move) × AreMoves z moves × (n ≤ free_runs (after_moves z moves) size) × (length moves ≡ least n z size) }
     ensures elsewhere { (size n : ℕ) (z : ZoneState) (place : ℕ → Option ℕ) → IsRearranged z place → n ≤ left_runs z place size → least n z size ≤ count_below (is_elsewhere z place) (frame_count z) }
-    ensures attained { (size n : ℕ) (z : ZoneState) → n ≤ length (costs z size) → (chosen : ℕ → Bool) × ((run : ℕ) → chosen run ≡ true → is_open z size run ≡ true) × (count_below chosen (run_count z size) ≡ n) × (cost_of chosen z size ≡ least n z size) }
+    ensures attained { (size n : ℕ) (z : ZoneState) → n ≤ length (costs z size) → (chosen : ℕ → Bool) × ((run : ℕ) → chosen run ≡ true → (run < run_count z size) × (is_open z size run ≡ true)) × (count_below chosen (run_count z size) ≡ n) × (cost_of chosen z size ≡ least n z size) }
     ensures picked { (size most : ℕ) (z : ZoneState) (chosen : ℕ → Bool) → ((run : ℕ) → chosen run ≡ true → (is_open z size run ≡ true) × (cost z size run ≤ most)) → ((run : ℕ) → run < run_count z size → chosen run ≡ false → is_open z size run ≡ true → most ≤ cost z size run) → cost_of chosen z size ≡ least (count_below chosen (run_count z size)) z size }
 {}

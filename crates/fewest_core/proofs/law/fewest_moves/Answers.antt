@@ -1,6 +1,7 @@
 use Rattle.fewest_core.proofs.Choices.{attained, picked}
 use Rattle.fewest_core.proofs.Moves.{fewest, told, possible, room}
 use Rattle.fewest_core.proofs.Placements.{fewest_elsewhere}
+use Rattle.fewest_core.proofs.Reached.{reached}
 use Rattle.fewest_core.proofs.law.fewest_moves.Goals as goal
 
 pub returns-clause-fewest : goal.returns-clause-fewest
@@ -14,6 +15,9 @@ returns-clause-possible c = possible
 
 pub returns-clause-room : goal.returns-clause-room
 returns-clause-room c = room
+
+pub returns-clause-reached : goal.returns-clause-reached
+returns-clause-reached c = reached
 
 pub returns-clause-elsewhere : goal.returns-clause-elsewhere
 returns-clause-elsewhere c size n z place moved = fewest_elsewhere z place moved size n
