@@ -4,3 +4,4 @@ pub mod Counts
 pub mod Moves
 pub mod Placements
 pub mod Reached
+pub mod SevenPages

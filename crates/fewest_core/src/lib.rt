@@ -5,6 +5,8 @@
 //! off, may make the same runs free with fewer moves.
 #![tactic(auto)]
 
+mod example;
 mod law;
 
+pub use example::worked_example;
 pub use law::fewest_moves;
