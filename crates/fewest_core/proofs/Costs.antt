@@ -239,4 +239,3 @@ picked_least passes cost_at chosen t runs low high =
     let no_more = exchange cost_at chosen best.0 t runs (λ run is. (low run is).1) (λ run h out in_best. high run h out (best.1 run in_best).1) in
     let same : t * count_below best.0 runs ≡ t * count_below chosen runs = ap (λ (k : ℕ). t * k) best.2 in
     omega (arith, no_more, same, best.3, cheapest passes cost_at chosen opened (count_below chosen runs) runs (omega arith))
-

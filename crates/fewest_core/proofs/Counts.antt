@@ -111,10 +111,10 @@ cost_strict chosen cost_at other (suc run) r h is less each = elim (eqb_tells r 
       let b : cond (chosen run) (other run) 0 ≡ other run = ap (λ (b : Bool). cond b (other run) 0) here in
       omega (arith, a, b, less_here, cost_within chosen cost_at other run each))
   | inr not_it ↦ omega (
-      arith,
-      pick_within (chosen run) (cost_at run) (other run) 0 (λ at. omega (arith, each run at)),
-      cost_strict chosen cost_at other run r (omega (arith, not_it.1)) is less each,
-    )
+    arith,
+    pick_within (chosen run) (cost_at run) (other run) 0 (λ at. omega (arith, each run at)),
+    cost_strict chosen cost_at other run r (omega (arith, not_it.1)) is less each,
+  )
 ]
 
 -- a chosen run costs no more than all of them

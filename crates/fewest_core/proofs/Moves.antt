@@ -1,6 +1,6 @@
 -- What a move does to a zone: it frees one frame at most, and shuts and opens none.
 use Rattle.std.proofs.Common.{◌≡◌, ◌≢◌, ℕ, ◌+◌, ◌*◌, ◌/◌, ◌<◌, ◌≤◌, Bool, true, false, not, ◌&&◌, ◌||◌, eqb, List, [], ◌∷◌, length, inl, inr, refl, sym, ap, ◌∙◌, arith}
-use Rattle.std.specs.Prelude.{Option, Some, None}
+use Rattle.std.specs.Prelude.{Option, Some}
 use Rattle.std.specs.FinMap as map
 use Rattle.std.proofs.lemmas.Bool.{and_parts, or_from, not-true, eq-eqb, eqb-true, both_ways, and_right, and_from, cases_Bool}
 use Rattle.std.proofs.lemmas.Bool.Decides.{eqb_tells}
@@ -15,7 +15,7 @@ use Rattle.state_core.specs.Pairs.{is_marked, can_move, is_free_unmarked}
 use Rattle.state_core.specs.ZoneState.{ZoneState, frame_count, takes_up, is_used, is_held, is_free}
 use Rattle.state_core.specs.declared.placement.Placement.{Placement}
 use Rattle.state_core.specs.declared.placement.Placement.TheVariants.{At, Moving}
-use Rattle.fewest_core.specs.FewestMoves.{run_count, cost, costs, cost_below, is_moving, has_to_stay, is_kept, is_shut, is_open, least, Move, IsMove, under_way, after_move, after_moves, AreMoves}
+use Rattle.fewest_core.specs.FewestMoves.{run_count, cost, costs, cost_below, is_moving, has_to_stay, is_immovable, is_shut, is_open, least, Move, IsMove, under_way, after_move, after_moves, AreMoves}
 use Rattle.fewest_core.proofs.Costs.{cheapest, enough_open}
 use Rattle.fewest_core.proofs.Counts.{one_less, none_beside, none_chosen, count_swapped}
 
@@ -70,16 +70,16 @@ frames_same z (m ∷ moves) = frames_same (after_move z m) moves
 pub free_unused : (z : ZoneState) (frame : ℕ) → is_free_unmarked z frame ≡ true → is_used z frame ≡ false
 free_unused z frame free = not-true _ (and_parts (not (is_used z frame)) (not (is_held z frame)) (and_parts (not (is_marked z frame)) (is_free z frame) free).1).0
 
--- a frame that no page takes up isn't kept by one that has to stay
-unused_unkept : (z : ZoneState) (frame : ℕ) → is_used z frame ≡ false → is_kept z frame ≡ false
-unused_unkept z frame unused = none_some (λ page. has_to_stay z page && takes_up (map.get z.placement page) frame) (frame_count z) (λ page h. and_right (has_to_stay z page) (takes_up (map.get z.placement page) frame)
+-- a frame that no page takes up isn't immovable
+unused_movable : (z : ZoneState) (frame : ℕ) → is_used z frame ≡ false → is_immovable z frame ≡ false
+unused_movable z frame unused = none_some (λ page. has_to_stay z page && takes_up (map.get z.placement page) frame) (frame_count z) (λ page h. and_right (has_to_stay z page) (takes_up (map.get z.placement page) frame)
     (some_none (λ q. takes_up (map.get z.placement q) frame) (frame_count z) unused page h))
 
 free_open : (z : ZoneState) (frame : ℕ) → is_free_unmarked z frame ≡ true → is_shut z frame ≡ false
 free_open z frame free =
     let parts = and_parts (not (is_marked z frame)) (is_free z frame) free in
     let inner = and_parts (not (is_used z frame)) (not (is_held z frame)) parts.1 in
-    or_from (is_marked z frame) _ (not-true _ parts.0) (or_from (is_held z frame) _ (not-true _ inner.1) (unused_unkept z frame (free_unused z frame free)))
+    or_from (is_marked z frame) _ (not-true _ parts.0) (or_from (is_held z frame) _ (not-true _ inner.1) (unused_movable z frame (free_unused z frame free)))
 
 -- whether all frames of a run are free frames of unmarked pageblocks
 abbrev pub is_empty : ZoneState → ℕ → ℕ → Bool

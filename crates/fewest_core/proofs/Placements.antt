@@ -1,6 +1,6 @@
 -- Whatever placement of the pages leaves runs free, as many pages are in another frame.
 use Rattle.std.proofs.Common.{◌≡◌, ◌≢◌, ℕ, zero, suc, ◌+◌, ◌*◌, ◌<◌, ◌≤◌, Bool, true, false, not, ◌&&◌, ◌||◌, eqb, inl, inr, refl, sym, ap, ◌∙◌, arith}
-use Rattle.std.specs.Prelude.{Option, Some, None, is_some, nat_eq}
+use Rattle.std.specs.Prelude.{Option, Some, None, is_some}
 use Rattle.std.specs.FinMap as map
 use Rattle.std.proofs.lemmas.Bool.{and_parts, and_from, or_from, or_parts, not-true, eq-eqb, eqb-true, ne_eqb, both_ways, cases_Bool}
 use Rattle.frame_core.proofs.Searches.{some_at, some_one, some_none, none_some, count_from_full}
@@ -11,7 +11,7 @@ use Rattle.state_core.specs.Pairs.{is_marked, can_move}
 use Rattle.state_core.specs.ZoneState.{ZoneState, frame_count, takes_up, is_used, is_held}
 use Rattle.state_core.specs.declared.placement.Placement.{Placement}
 use Rattle.state_core.specs.declared.placement.Placement.TheVariants.{At, Moving}
-use Rattle.fewest_core.specs.FewestMoves.{run_count, cost, cost_below, is_moving, has_to_stay, is_kept, is_shut, is_open, least, is_apart, is_elsewhere, IsRearranged}
+use Rattle.fewest_core.specs.FewestMoves.{run_count, cost, cost_below, is_moving, has_to_stay, is_immovable, is_shut, is_open, least, is_apart, is_elsewhere, IsRearranged}
 use Rattle.fewest_core.proofs.Costs.{cheapest}
 use Rattle.fewest_core.proofs.Counts.{taken, taken_within, cost_within, one_less, none_beside, none_chosen}
 
@@ -74,7 +74,7 @@ module _ (z : ZoneState) (place : ℕ → Option ℕ) where
     left_open frame free =
         let parts = and_parts (is_unmarked z frame) (is_left_free z place frame) free in
         let inner = and_parts (not (some_below (λ p. is_place (place p) frame) (frame_count z))) (not (is_held z frame)) parts.1 in
-        let kept : is_kept z frame ≡ false = none_some (λ page. has_to_stay z page && takes_up (map.get z.placement page) frame) (frame_count z) (λ page h. away_by frame page (has_to_stay z page) refl free h) in
+        let kept : is_immovable z frame ≡ false = none_some (λ page. has_to_stay z page && takes_up (map.get z.placement page) frame) (frame_count z) (λ page h. away_by frame page (has_to_stay z page) refl free h) in
         or_from (is_marked z frame) _ (not-true _ parts.0) (or_from (is_held z frame) _ (not-true _ inner.1) kept)
 
     used_left : (frame : ℕ) → left_free frame ≡ true → is_used z frame ≡ true → left_by (frame_count z) frame ≡ true

@@ -1,11 +1,11 @@
 -- Where enough runs are open and enough frames are free, as many moves suffice as the cheapest open runs cost.
-use Rattle.std.proofs.Common.{◌≡◌, ◌≢◌, ℕ, zero, suc, ◌+◌, ◌-◌, ◌*◌, ◌/◌, ◌<◌, ◌≤◌, Bool, true, false, not, ◌&&◌, ◌||◌, cond, eqb, List, [], ◌∷◌, length, ◌⊎◌, inl, inr, refl, sym, ap, ◌∙◌, arith}
+use Rattle.std.proofs.Common.{◌≡◌, ◌≢◌, ℕ, zero, suc, ◌+◌, ◌-◌, ◌*◌, ◌/◌, ◌<◌, ◌≤◌, Bool, true, false, not, ◌&&◌, cond, List, [], ◌∷◌, length, inl, inr, refl, sym, ap, ◌∙◌, arith}
 use Rattle.std.specs.Prelude.{Option, Some, None, IsSome, nat_eq}
 use Rattle.std.specs.FinMap as map
 use Rattle.std.proofs.lemmas.Bool.{and_parts, and_from, or_parts, not-true, not-false, eq-eqb, eqb-true, both_ways, cases_Bool}
 use Rattle.std.proofs.lemmas.Bool.Decides.{eqb_tells, leb_tells}
-use Rattle.frame_core.proofs.Searches.{some_at, some_one, some_none, none_some, count_some, count_from_all}
-use Rattle.frame_core.specs.Below.{one_if, count_below, count_from, some_below}
+use Rattle.frame_core.proofs.Searches.{some_at, some_one, some_none, none_some, count_from_all}
+use Rattle.frame_core.specs.Below.{one_if, count_below, count_from}
 use Rattle.state_core.proofs.Runs.{count_split, one_more_run, quotient}
 use Rattle.state_core.specs.Packed.{free_runs, unmarked_free}
 use Rattle.state_core.specs.Pairs.{is_marked, can_move, is_free_unmarked}
@@ -15,7 +15,7 @@ use Rattle.state_core.specs.declared.placement.Placement.{Placement}
 use Rattle.state_core.specs.declared.placement.Placement.TheVariants.{At, Moving}
 use Rattle.fewest_core.specs.FewestMoves.{run_count, cost, costs, cost_below, is_moving, has_to_stay, is_shut, is_open, least, Move, IsMove, after_move, after_moves, AreMoves}
 use Rattle.fewest_core.proofs.Choices.{attained}
-use Rattle.fewest_core.proofs.Counts.{taken, taken_within, taken_strict, count_within, count_but_one, count_apart, count_strict, cost_strict, cost_part, some_paid, some_counted, none_counted}
+use Rattle.fewest_core.proofs.Counts.{taken, taken_within, taken_strict, count_within, count_but_one, count_apart, cost_strict, cost_part, some_paid, some_counted, none_counted}
 use Rattle.fewest_core.proofs.Moves.{page_there, others_same, shut_once, free_unused, is_empty, fewest, used_at, target_not_source}
 
 -- each page is in the zone, and a frame is of one page at most
@@ -247,9 +247,12 @@ module _ (size runs : ℕ) (chosen : ℕ → Bool) where
         let more = count_within (λ k. is_free_unmarked z (size * runs + k)) (λ k. is_spare z (size * runs + k)) rest (λ k h. spare_outside runs (size * runs + k) out (omega arith) (omega arith)) in
         omega (
           arith,
-          ap (count_below (is_free_unmarked z)) all, ap (count_below (is_spare z)) all,
-          count_split (is_free_unmarked z) (size * runs) rest, count_split (is_spare z) (size * runs) rest,
-          more, upto runs,
+          ap (count_below (is_free_unmarked z)) all,
+          ap (count_below (is_spare z)) all,
+          count_split (is_free_unmarked z) (size * runs) rest,
+          count_split (is_spare z) (size * runs) rest,
+          more,
+          upto runs,
         )
 
     none_past : chosen runs ≡ false

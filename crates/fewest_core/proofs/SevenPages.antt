@@ -4,19 +4,19 @@ use Rattle.std.specs.Prelude.{Option, Some, None, nat_eq, slice_index}
 use Rattle.std.specs.FinMap as map
 use Rattle.std.specs.FinSet as set
 use Rattle.std.specs.Ordering.{nat_cmp}
-use Rattle.std.proofs.lemmas.Bool.{cond-true, cond-false, eq-eqb, ne_eqb, and_right}
+use Rattle.std.proofs.lemmas.Bool.{cond-true, cond-false, and_right}
 use Rattle.std.proofs.lemmas.Bool.Decides.{eqb_tells}
 use Rattle.frame_core.proofs.Searches.{none_some, some_same}
-use Rattle.frame_core.specs.Below.{count_below, count_from, some_below}
+use Rattle.frame_core.specs.Below.{count_from, some_below}
 use Rattle.frame_core.specs.History.{pins}
 use Rattle.state_core.proofs.Entries.{get_insert_same, get_insert_other}
 use Rattle.state_core.specs.Packed.{free_runs, whole_runs}
 use Rattle.state_core.specs.Pairs.{is_marked, can_move, is_free_unmarked}
-use Rattle.state_core.specs.ZoneState.{ZoneState, frame_count, takes_up, covers, is_used, is_held, is_free}
+use Rattle.state_core.specs.ZoneState.{ZoneState, frame_count, takes_up, covers, is_used, is_held}
 use Rattle.state_core.specs.declared.placement.Placement.{Placement}
 use Rattle.state_core.specs.declared.placement.Placement.TheVariants.{At}
 use Rattle.fewest_core.specs.Example.{frame_list, placed, example, example_move}
-use Rattle.fewest_core.specs.FewestMoves.{costs, costs_below, has_to_stay, is_moving, is_kept, is_shut, is_open, cost, least, IsMove, after_move}
+use Rattle.fewest_core.specs.FewestMoves.{costs, costs_below, has_to_stay, is_moving, is_immovable, is_shut, is_open, cost, least, IsMove, after_move}
 use Rattle.fewest_core.proofs.Moves.{page_there, others_same}
 
 -- where no number from m on passes, it is enough to search below m
@@ -88,20 +88,20 @@ module _ (z : ZoneState) (frames : ℕ → ℕ) (seven : HasSeven z frames) wher
   free_is : (frame : ℕ) → is_free_unmarked z frame ≡ not (used_by_seven frame)
   free_is frame = (λ i. not (marked_is frame i) && (not (used_is frame i) && not (held_is frame i))) ∙ and_true (not (used_by_seven frame))
 
-  abbrev kept_by_seven : ℕ → Bool
-  kept_by_seven frame = some_below (λ page. nat_eq page 3 && nat_eq frame (frames page)) 7
+  abbrev immovable_by_seven : ℕ → Bool
+  immovable_by_seven frame = some_below (λ page. nat_eq page 3 && nat_eq frame (frames page)) 7
 
-  kept_at : (frame page : ℕ) → page < 7 → (has_to_stay z page && takes_up (map.get z.placement page) frame) ≡ (nat_eq page 3 && nat_eq frame (frames page))
-  kept_at frame page h = (λ i. (is_moving (seven.here page h i) || not (seven.pinned page h i)) && takes_up (seven.here page h i) frame) ∙ ap (λ (b : Bool). b && nat_eq frame (frames page)) (not_not (nat_eq page 3))
+  immovable_at : (frame page : ℕ) → page < 7 → (has_to_stay z page && takes_up (map.get z.placement page) frame) ≡ (nat_eq page 3 && nat_eq frame (frames page))
+  immovable_at frame page h = (λ i. (is_moving (seven.here page h i) || not (seven.pinned page h i)) && takes_up (seven.here page h i) frame) ∙ ap (λ (b : Bool). b && nat_eq frame (frames page)) (not_not (nat_eq page 3))
 
-  kept_is : (frame : ℕ) → is_kept z frame ≡ kept_by_seven frame
-  kept_is frame =
+  immovable_is : (frame : ℕ) → is_immovable z frame ≡ immovable_by_seven frame
+  immovable_is frame =
       ap (some_below (λ page. has_to_stay z page && takes_up (map.get z.placement page) frame)) size_is
       ∙ some_first (λ page. has_to_stay z page && takes_up (map.get z.placement page) frame) 7 505 (λ k h. and_right (has_to_stay z k) _ (ap (λ (o : Option Placement). takes_up o frame) (seven.past k h)))
-      ∙ some_same (λ page. nat_eq page 3 && nat_eq frame (frames page)) (λ page. has_to_stay z page && takes_up (map.get z.placement page) frame) 7 (λ k h. sym (kept_at frame k h))
+      ∙ some_same (λ page. nat_eq page 3 && nat_eq frame (frames page)) (λ page. has_to_stay z page && takes_up (map.get z.placement page) frame) 7 (λ k h. sym (immovable_at frame k h))
 
-  shut_is : (frame : ℕ) → is_shut z frame ≡ kept_by_seven frame
-  shut_is frame = λ i. marked_is frame i || (held_is frame i || kept_is frame i)
+  shut_is : (frame : ℕ) → is_shut z frame ≡ immovable_by_seven frame
+  shut_is frame = λ i. marked_is frame i || (held_is frame i || immovable_is frame i)
 
 -- the pages of the example are in their frames
 seven_now : HasSeven example (slice_index frame_list)

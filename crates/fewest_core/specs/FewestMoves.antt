@@ -1,4 +1,5 @@
--- What it costs to make aligned runs of a zone free by moves alone, and which moves may be made.
+-- What it costs to make aligned runs of a zone free by moves alone, and which moves may be made. `Example.antt` has a small zone
+-- on which these words are worked out.
 use Rattle.std.specs.Prelude.{◌≡◌, ℕ, zero, suc, ◌*◌, ◌/◌, ◌<◌, Bool, true, false, not, ◌&&◌, ◌||◌, if◌then◌else◌, List, [], ◌∷◌, nat_eq, nat_le, take, ⊤, Option, Some, None}
 use Rattle.std.specs.List.{sum}
 use Rattle.std.specs.FinMap as map
@@ -26,13 +27,13 @@ is_moving (Some (Moving serial source target)) = true
 abbrev pub has_to_stay : ZoneState → ℕ → Bool
 has_to_stay z page = is_moving (map.get z.placement page) || not (can_move z page)
 
--- whether a page that has to stay takes a frame up
-abbrev pub is_kept : ZoneState → ℕ → Bool
-is_kept z frame = some_below (λ page. has_to_stay z page && takes_up (map.get z.placement page) frame) (frame_count z)
+-- whether a frame is immovable: a page that has to stay takes it up
+abbrev pub is_immovable : ZoneState → ℕ → Bool
+is_immovable z frame = some_below (λ page. has_to_stay z page && takes_up (map.get z.placement page) frame) (frame_count z)
 
--- whether a frame is shut: it is in a marked pageblock, is handed out, or is taken up by a page that has to stay
+-- whether a frame is shut: it is in a marked pageblock, handed out, or immovable
 abbrev pub is_shut : ZoneState → ℕ → Bool
-is_shut z frame = is_marked z frame || (is_held z frame || is_kept z frame)
+is_shut z frame = is_marked z frame || (is_held z frame || is_immovable z frame)
 
 -- whether a run is open: no frame of it is shut
 abbrev pub is_open : ZoneState → ℕ → ℕ → Bool
@@ -100,16 +101,16 @@ abbrev pub AreMoves : ZoneState → List Move → Type 0
 AreMoves z [] = ⊤
 AreMoves z (m ∷ moves) = IsMove z m × AreMoves (after_move z m) moves
 
--- whether two frames, each of which may be none, are two
+-- whether both frames are there, and they are two
 abbrev pub is_apart : Option ℕ → Option ℕ → Bool
 is_apart (Some a) (Some b) = not (nat_eq a b)
 is_apart _ _ = false
 
--- whether a page would be in another frame than now if the pages had this placement
+-- whether a page is in a frame now, and would be in another one if the pages had this placement
 abbrev pub is_elsewhere : ZoneState → (ℕ → Option ℕ) → ℕ → Bool
 is_elsewhere z place page = is_apart (places_now z page) (place page)
 
--- the pages have this placement, and each page that has to stay keeps its frame; there is none while a page is moving
+-- a placement of the pages in which each page that has to stay keeps its frame; while a page is moving there is none
 pub record IsRearranged (z : ZoneState) (place : ℕ → Option ℕ) : Type 0 where
   pub placed : IsPlacement z place
   pub stay : (page : ℕ) → has_to_stay z page ≡ true → place page ≡ places_now z page

@@ -5,7 +5,7 @@ ghost use Rattle.fewest_core.specs.Example.{example, example_move};
 ghost use Rattle.fewest_core.specs.FewestMoves.{IsMove, after_move, cost, costs, is_open, least};
 ghost use Rattle.state_core.specs.Packed.{free_runs};
 
-/// Of the four runs of 128 frames of the example, three are open and cost 3, 1 and 2. The other has one page, which is pinned. No run
+/// Of the four runs of 128 frames in the example three are open, and cost 3, 1 and 2. In the other the one page is pinned. No run
 /// is free, and one move makes one free.
 pub fn worked_example()
     ensures costs { costs example 128 ≡ 1 ∷ 2 ∷ 3 ∷ [] }

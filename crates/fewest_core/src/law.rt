@@ -8,10 +8,13 @@ ghost use Rattle.state_core.specs.Packed.{free_runs, left_runs, unmarked_free};
 ghost use Rattle.state_core.specs.Valid.{IsValidZone};
 ghost use Rattle.state_core.specs.ZoneState.{ZoneState, frame_count};
 
-/// To make n aligned runs of a zone free by moves, at least as many moves are needed as the n cheapest open runs cost together, and
-/// the journal tells of each. Moves can't make more runs free than are open, nor more than the free frames fill. No placement of the
-/// pages leaves n runs free with fewer pages elsewhere. Some n open runs cost just the least, and so do those that are chosen by
-/// their costs.
+/// To make n aligned runs free by moves takes at least as many moves as the n cheapest open runs cost together (`fewest`), and the
+/// journal tells of each (`told`). Moves make no more runs free than are open (`possible`), nor more than the free frames of unmarked
+/// pageblocks fill (`room`). Where so many are open and so many frames are free, that least number of moves is enough (`reached`).
+///
+/// Without moves: where some placement of the pages would leave n runs free, at least so many pages would be elsewhere
+/// (`elsewhere`). Some n open runs cost just the least (`attained`), and so do open runs that are chosen by their costs, each at
+/// most as dear as each open run that is left out (`picked`).
 pub fn fewest_moves()
     ensures fewest { (size n : ℕ) (z : ZoneState) (moves : List Move) → AreMoves z moves → n ≤ free_runs (after_moves z moves) size → least n z size ≤ length moves }
     ensures told { (z : ZoneState) (moves : List Move) → moved (after_moves z moves).records ≡ moved z.records + length moves }
