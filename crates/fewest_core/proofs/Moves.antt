@@ -149,13 +149,13 @@ free_after z [] are = omega arith
 free_after z (m ∷ moves) are = omega (arith, free_after (after_move z m) moves are.1, free_once z m are.0)
 
 -- runs that are free have no more frames than were free before the moves
-pub room : (size : ℕ) (z : ZoneState) (moves : List Move) → 0 < size → AreMoves z moves → size * free_runs (after_moves z moves) size ≤ unmarked_free z
-room size z moves some are =
+pub fits : (size : ℕ) (z : ZoneState) (moves : List Move) → 0 < size → AreMoves z moves → size * free_runs (after_moves z moves) size ≤ unmarked_free z
+fits size z moves some are =
     let v = after_moves z moves in
     let fit : size * run_count v size ≤ frame_count v = omega arith in
     omega (arith, runs_most (is_free_unmarked v) size (run_count v size), count_mono (is_free_unmarked v) (size * run_count v size) (frame_count v) fit, free_after z moves are)
 
--- the journal tells of each move
-pub told : (z : ZoneState) (moves : List Move) → moved (after_moves z moves).records ≡ moved z.records + length moves
-told z [] = omega arith
-told z (m ∷ moves) = omega (arith, told (after_move z m) moves)
+-- the journal has a record of each move
+pub recorded : (z : ZoneState) (moves : List Move) → moved (after_moves z moves).records ≡ moved z.records + length moves
+recorded z [] = omega arith
+recorded z (m ∷ moves) = omega (arith, recorded (after_move z m) moves)

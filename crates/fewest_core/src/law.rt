@@ -9,17 +9,17 @@ ghost use Rattle.state_core.specs.Valid.{IsValidZone};
 ghost use Rattle.state_core.specs.ZoneState.{ZoneState, frame_count};
 
 /// To make n aligned runs free by moves takes at least as many moves as the n cheapest open runs cost together (`fewest`), and the
-/// journal tells of each (`told`). Moves make no more runs free than are open (`possible`), nor more than the free frames of unmarked
-/// pageblocks fill (`room`). Where so many are open and so many frames are free, that least number of moves is enough (`reached`).
+/// journal has a record of each (`recorded`). Moves make no more runs free than are open (`possible`), nor more than the free frames of unmarked
+/// pageblocks fill (`fits`). Where so many are open and so many frames are free, that least number of moves is enough (`reached`).
 ///
 /// Without moves: where some placement of the pages would leave n runs free, at least so many pages would be elsewhere
 /// (`elsewhere`). Some n open runs cost just the least (`attained`), and so do open runs that are chosen by their costs, each at
 /// most as dear as each open run that is left out (`picked`).
 pub fn fewest_moves()
     ensures fewest { (size n : ℕ) (z : ZoneState) (moves : List Move) → AreMoves z moves → n ≤ free_runs (after_moves z moves) size → least n z size ≤ length moves }
-    ensures told { (z : ZoneState) (moves : List Move) → moved (after_moves z moves).records ≡ moved z.records + length moves }
+    ensures recorded { (z : ZoneState) (moves : List Move) → moved (after_moves z moves).records ≡ moved z.records + length moves }
     ensures possible { (size : ℕ) (z : ZoneState) (moves : List Move) → AreMoves z moves → free_runs (after_moves z moves) size ≤ length (costs z size) }
-    ensures room { (size : ℕ) (z : ZoneState) (moves : List Move) → 0 < size → AreMoves z moves → size * free_runs (after_moves z moves) size ≤ unmarked_free z }
+    ensures fits { (size : ℕ) (z : ZoneState) (moves : List Move) → 0 < size → AreMoves z moves → size * free_runs (after_moves z moves) size ≤ unmarked_free z }
     ensures reached { (size n : ℕ) (z : ZoneState) → 0 < size → IsValidZone z → n ≤ length (costs z size) → size * n ≤ unmarked_free z → (moves : List Move) × AreMoves z moves × (n ≤ free_runs (after_moves z moves) size) × (length moves ≡ least n z size) }
     ensures elsewhere { (size n : ℕ) (z : ZoneState) (place : ℕ → Option ℕ) → IsRearranged z place → n ≤ left_runs z place size → least n z size ≤ count_below (is_elsewhere z place) (frame_count z) }
     ensures attained { (size n : ℕ) (z : ZoneState) → n ≤ length (costs z size) → (chosen : ℕ → Bool) × ((run : ℕ) → chosen run ≡ true → (run < run_count z size) × (is_open z size run ≡ true)) × (count_below chosen (run_count z size) ≡ n) × (cost_of chosen z size ≡ least n z size) }

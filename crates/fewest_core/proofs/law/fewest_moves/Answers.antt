@@ -1,5 +1,5 @@
 use Rattle.fewest_core.proofs.Choices.{attained, picked}
-use Rattle.fewest_core.proofs.Moves.{fewest, told, possible, room}
+use Rattle.fewest_core.proofs.Moves.{fewest, recorded, possible, fits}
 use Rattle.fewest_core.proofs.Placements.{fewest_elsewhere}
 use Rattle.fewest_core.proofs.Reached.{reached}
 use Rattle.fewest_core.proofs.law.fewest_moves.Goals as goal
@@ -7,14 +7,14 @@ use Rattle.fewest_core.proofs.law.fewest_moves.Goals as goal
 pub returns-clause-fewest : goal.returns-clause-fewest
 returns-clause-fewest c = fewest
 
-pub returns-clause-told : goal.returns-clause-told
-returns-clause-told c = told
+pub returns-clause-recorded : goal.returns-clause-recorded
+returns-clause-recorded c = recorded
 
 pub returns-clause-possible : goal.returns-clause-possible
 returns-clause-possible c = possible
 
-pub returns-clause-room : goal.returns-clause-room
-returns-clause-room c = room
+pub returns-clause-fits : goal.returns-clause-fits
+returns-clause-fits c = fits
 
 pub returns-clause-reached : goal.returns-clause-reached
 returns-clause-reached c = reached
