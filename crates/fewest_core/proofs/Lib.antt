@@ -4,4 +4,5 @@ pub mod Counts
 pub mod Moves
 pub mod Placements
 pub mod Reached
+pub mod Rounds
 pub mod SevenPages

@@ -12,6 +12,7 @@ use Rattle.state_core.specs.Pairs.{is_marked, can_move, is_free_unmarked}
 use Rattle.state_core.specs.ZoneState.{ZoneState, frame_count, takes_up, is_used, is_held}
 use Rattle.state_core.specs.declared.placement.Placement.{Placement}
 use Rattle.state_core.specs.declared.placement.Placement.TheVariants.{At, Moving}
+use Rattle.state_core.specs.declared.round.Pair.{Pair}
 
 -- how many aligned runs of `size` frames a zone has: run 0 begins at frame 0, run 1 at frame `size`, and so on
 abbrev pub run_count : ZoneState → ℕ → ℕ
@@ -74,6 +75,10 @@ pub record Move : Type 0 where
   pub page : ℕ
   pub source : ℕ
   pub target : ℕ
+
+-- the move of a pair, as a round takes it
+abbrev pub move_of : Pair → Move
+move_of pair = record { page = pair.page; source = pair.source; target = pair.target }
 
 -- a move may be made: the page is in its source and may be taken from it, and the target is a free frame of an unmarked pageblock
 pub record IsMove (z : ZoneState) (m : Move) : Type 0 where

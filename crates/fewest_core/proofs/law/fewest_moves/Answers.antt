@@ -2,6 +2,7 @@ use Rattle.fewest_core.proofs.Choices.{attained, picked}
 use Rattle.fewest_core.proofs.Moves.{fewest, recorded, possible, fits}
 use Rattle.fewest_core.proofs.Placements.{fewest_elsewhere}
 use Rattle.fewest_core.proofs.Reached.{reached}
+use Rattle.fewest_core.proofs.Rounds.{round_moves}
 use Rattle.fewest_core.proofs.law.fewest_moves.Goals as goal
 
 pub returns-clause-fewest : goal.returns-clause-fewest
@@ -18,6 +19,9 @@ returns-clause-fits c = fits
 
 pub returns-clause-reached : goal.returns-clause-reached
 returns-clause-reached c = reached
+
+pub returns-clause-rounds : goal.returns-clause-rounds
+returns-clause-rounds c = round_moves
 
 pub returns-clause-elsewhere : goal.returns-clause-elsewhere
 returns-clause-elsewhere c size n z place moved = fewest_elsewhere z place moved size n
