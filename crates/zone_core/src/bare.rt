@@ -20,9 +20,8 @@ mod rounds;
 mod tables;
 mod words;
 
-pub use one_thread::Slice;
-
 use frame_core::{Address, BlockNo, Journal, ZoneNo};
+pub use one_thread::Slice;
 use state_core::{Info, Look, ZoneError};
 use std::alloc::Global;
 use std::marker::Model;
