@@ -39,7 +39,7 @@ pub enum Trial<'a> {
     Zone(u32, &'a [Part<'a>]),
     /// The rows are played with a world of one pageblock.
     World(CallForm, &'a [Row<'a>]),
-    /// Calls that are drawn are made with a world of eight, and after each what the zone keeps is what walks find.
+    /// Calls that are drawn are made with a world of eight, and now and then what the zone keeps is what walks find.
     Drawn,
 }
 

@@ -1,4 +1,4 @@
-//! After each call, what a zone keeps of its addresses, frames and counts is what walks find.
+//! What a zone keeps of its addresses, frames and counts is what walks find.
 
 use super::answers::Answer;
 use super::calls::Call;
