@@ -1,0 +1,6 @@
+pub mod Changing
+pub mod Gathering
+pub mod Layering
+pub mod Levels
+pub mod Masking
+pub mod Searching

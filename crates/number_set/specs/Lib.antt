@@ -1,0 +1,5 @@
+pub mod Bits
+pub mod Finds
+pub mod Layers
+pub mod Levels
+pub mod Numbers

@@ -1,0 +1,174 @@
+//! The levels of a set above its fourth.
+
+ghost use Rattle.std.specs.Prelude.{◌≡◌, ℕ, ◌^◌, ◌<◌, ◌≤◌, MatchOption, IfOk, IfSome};
+ghost use Rattle.std.specs.FinSet as set;
+ghost use Rattle.number_set.specs.Finds.{IsFirst, IsLast, IsNext, IsPrevious, NoneAtAll, NoneAbove, NoneBelow};
+
+use crate::upper_levels::UpperLevels;
+use crate::word::{highest_bit, lowest_bit, next_bit, previous_bit};
+use crate::words::Words;
+use std::alloc::{AllocError, Global};
+use std::marker::Model;
+
+/// The first two levels of a set, and its third where `L` isn't 2.
+#[derive(Drop)]
+pub struct NumberSet<const L: usize> {
+    words: Words,
+    above: UpperLevels<L>,
+}
+
+impl<const L: usize> Model for NumberSet<L> {
+    ghost use Rattle.std.specs.Prelude.{◌≡◌, ◌≢◌, ◌≤◌, length};
+    ghost use Rattle.number_set.specs.Layers.{Summarizes};
+    ghost use Rattle.number_set.specs.Levels.{level_numbers};
+    ghost use Rattle.number_set.specs.Numbers.{Numbers, coded_numbers};
+
+    ghost Value = { Numbers };
+
+    ghost coded = { coded_numbers };
+
+    ghost view = { λ s. level_numbers L s.above s.words };
+
+    ghost invariant = { λ s. L ≡ 4 → (length s.words ≤ s.above.bound) × (s.above.bound ≤ 262144) × Summarizes s.above.members s.words };
+}
+
+impl<const L: usize> NumberSet<L> {
+    /// An empty set with room for the numbers below a bound, or an error where there is no memory for it. No other call takes
+    /// memory.
+    pub fn open(alloc: Global, bound: u32) -> Result<Self, AllocError>
+        requires levels { (2 ≤ L) × (L ≤ 4) }
+        requires bound { bound ≤ 64 ^ L }
+        ensures empty { IfOk result (λ s. s.members ≡ set.empty) }
+        ensures bound { IfOk result (λ s. bound ≤ s.bound) }
+    {
+        if L != 4 {
+            return Ok(NumberSet {
+                words: Words::open(alloc, 0)?,
+                above: UpperLevels::open(alloc, bound)?,
+            });
+        }
+        let count = (bound + 63) / 64;
+        Ok(NumberSet {
+            words: Words::open(alloc, count)?,
+            above: UpperLevels::open(alloc, count)?,
+        })
+    }
+
+    /// Whether a number is a member.
+    #[inline]
+    pub fn contains(&self, number: u32) -> bool
+        requires { number < self.now.bound }
+        ensures { result ≡ set.contains self.now.members number }
+    {
+        if L != 4 {
+            return self.above.contains(number);
+        }
+        self.words.get(number / 64) >> (number % 64) & 1 == 1
+    }
+
+    /// Puts a number in.
+    #[inline]
+    pub fn insert(&mut self, number: u32)
+        requires { number < self.old.bound }
+        ensures { self.new ≡ record self.old { members = set.insert self.old.members number } }
+    {
+        if L != 4 {
+            self.above.insert(number);
+            return;
+        }
+        let word = number / 64;
+        let had = self.words.get(word);
+        self.words.set(word, had | 1 << (number % 64));
+        if had == 0 {
+            self.above.insert(word);
+        }
+    }
+
+    /// Takes a number out.
+    #[inline]
+    pub fn remove(&mut self, number: u32)
+        requires { number < self.old.bound }
+        ensures { self.new ≡ record self.old { members = set.remove self.old.members number } }
+    {
+        if L != 4 {
+            self.above.remove(number);
+            return;
+        }
+        let word = number / 64;
+        let left = self.words.get(word) & !(1 << (number % 64));
+        self.words.set(word, left);
+        if left == 0 {
+            self.above.remove(word);
+        }
+    }
+
+    /// The lowest number of the set, if it has one.
+    #[inline]
+    pub fn first(&self) -> Option<u32>
+        ensures first { MatchOption result (NoneAtAll (set.contains self.now.members)) (IsFirst (set.contains self.now.members)) }
+        ensures within { IfSome result (λ n. n < self.now.bound) }
+    {
+        if L != 4 {
+            return self.above.first();
+        }
+        let Some(word) = self.above.first() else {
+            return None;
+        };
+        Some(64 * word + lowest_bit(self.words.get(word)))
+    }
+
+    /// The highest number of the set, if it has one.
+    #[inline]
+    pub fn last(&self) -> Option<u32>
+        ensures last { MatchOption result (NoneAtAll (set.contains self.now.members)) (IsLast (set.contains self.now.members)) }
+        ensures within { IfSome result (λ n. n < self.now.bound) }
+    {
+        if L != 4 {
+            return self.above.last();
+        }
+        let Some(word) = self.above.last() else {
+            return None;
+        };
+        Some(64 * word + highest_bit(self.words.get(word)))
+    }
+
+    /// The lowest number of the set above another one, if it has one.
+    #[inline]
+    pub fn after(&self, number: u32) -> Option<u32>
+        requires { number < self.now.bound }
+        ensures next { MatchOption result (NoneAbove (set.contains self.now.members) number) (IsNext (set.contains self.now.members) number) }
+        ensures within { IfSome result (λ n. n < self.now.bound) }
+    {
+        if L != 4 {
+            return self.above.after(number);
+        }
+        let here = number / 64;
+        if let Some(bit) = next_bit(self.words.get(here), number % 64) {
+            return Some(64 * here + bit);
+        }
+        let Some(word) = self.above.after(here) else {
+            return None;
+        };
+        Some(64 * word + lowest_bit(self.words.get(word)))
+    }
+
+    /// The highest number of the set below another one, if it has one.
+    #[inline]
+    pub fn before(&self, number: u32) -> Option<u32>
+        requires { number < self.now.bound }
+        ensures previous { MatchOption result (NoneBelow (set.contains self.now.members) number) (IsPrevious (set.contains self.now.members) number) }
+        ensures within { IfSome result (λ n. n < self.now.bound) }
+    {
+        if L != 4 {
+            return self.above.before(number);
+        }
+        let here = number / 64;
+        if let Some(bit) = previous_bit(self.words.get(here), number % 64) {
+            return Some(64 * here + bit);
+        }
+        let Some(word) = self.above.before(here) else {
+            return None;
+        };
+        Some(64 * word + highest_bit(self.words.get(word)))
+    }
+}

@@ -1,0 +1,168 @@
+//! The levels of a set above its fourth.
+
+ghost use Rattle.std.specs.Prelude.{◌≡◌, ℕ, ◌<◌, ◌≤◌, MatchOption, IfOk, IfSome};
+ghost use Rattle.std.specs.FinSet as set;
+ghost use Rattle.number_set.specs.Finds.{IsFirst, IsLast, IsNext, IsPrevious, NoneAtAll, NoneAbove, NoneBelow};
+
+use crate::two_levels::TwoLevels;
+use crate::word::{highest_bit, lowest_bit, next_bit, previous_bit};
+use crate::words::Words;
+use std::alloc::{AllocError, Global};
+use std::marker::Model;
+
+/// The first two levels of a set, and its third where `L` isn't 2.
+#[derive(Drop)]
+pub(crate) struct UpperLevels<const L: usize> {
+    words: Words,
+    above: TwoLevels,
+}
+
+impl<const L: usize> Model for UpperLevels<L> {
+    ghost use Rattle.std.specs.Prelude.{◌≡◌, ◌≢◌, ◌≤◌, length};
+    ghost use Rattle.number_set.specs.Layers.{Summarizes};
+    ghost use Rattle.number_set.specs.Levels.{upper_numbers};
+    ghost use Rattle.number_set.specs.Numbers.{Numbers, coded_numbers};
+
+    ghost Value = { Numbers };
+
+    ghost coded = { coded_numbers };
+
+    ghost view = { λ s. upper_numbers L s.above s.words };
+
+    ghost invariant = { λ s. L ≢ 2 → (length s.words ≤ 4096) × Summarizes s.above s.words };
+}
+
+impl<const L: usize> UpperLevels<L> {
+    /// Empty levels with room for the numbers below a bound, or an error where there is no memory for them.
+    pub(crate) fn open(alloc: Global, bound: u32) -> Result<Self, AllocError>
+        requires two { L ≡ 2 → bound ≤ 4096 }
+        requires three { bound ≤ 262144 }
+        ensures empty { IfOk result (λ s. s.members ≡ set.empty) }
+        ensures bound { IfOk result (λ s. bound ≤ s.bound) }
+        ensures most { IfOk result (λ s. s.bound ≤ 262144) }
+    {
+        let count = if L == 2 { 0 } else { (bound + 63) / 64 };
+        Ok(UpperLevels {
+            words: Words::open(alloc, count)?,
+            above: TwoLevels::new(),
+        })
+    }
+
+    /// Whether a number is a member.
+    #[inline]
+    pub(crate) fn contains(&self, number: u32) -> bool
+        requires { number < self.now.bound }
+        ensures { result ≡ set.contains self.now.members number }
+    {
+        if L == 2 {
+            return self.above.contains(number);
+        }
+        self.words.get(number / 64) >> (number % 64) & 1 == 1
+    }
+
+    /// Puts a number in.
+    #[inline]
+    pub(crate) fn insert(&mut self, number: u32)
+        requires { number < self.old.bound }
+        ensures { self.new ≡ record self.old { members = set.insert self.old.members number } }
+    {
+        if L == 2 {
+            self.above.insert(number);
+            return;
+        }
+        let word = number / 64;
+        let had = self.words.get(word);
+        self.words.set(word, had | 1 << (number % 64));
+        if had == 0 {
+            self.above.insert(word);
+        }
+    }
+
+    /// Takes a number out.
+    #[inline]
+    pub(crate) fn remove(&mut self, number: u32)
+        requires { number < self.old.bound }
+        ensures { self.new ≡ record self.old { members = set.remove self.old.members number } }
+    {
+        if L == 2 {
+            self.above.remove(number);
+            return;
+        }
+        let word = number / 64;
+        let left = self.words.get(word) & !(1 << (number % 64));
+        self.words.set(word, left);
+        if left == 0 {
+            self.above.remove(word);
+        }
+    }
+
+    /// The lowest number of the set, if it has one.
+    #[inline]
+    pub(crate) fn first(&self) -> Option<u32>
+        ensures first { MatchOption result (NoneAtAll (set.contains self.now.members)) (IsFirst (set.contains self.now.members)) }
+        ensures within { IfSome result (λ n. n < self.now.bound) }
+    {
+        if L == 2 {
+            return self.above.first();
+        }
+        let Some(word) = self.above.first() else {
+            return None;
+        };
+        Some(64 * word + lowest_bit(self.words.get(word)))
+    }
+
+    /// The highest number of the set, if it has one.
+    #[inline]
+    pub(crate) fn last(&self) -> Option<u32>
+        ensures last { MatchOption result (NoneAtAll (set.contains self.now.members)) (IsLast (set.contains self.now.members)) }
+        ensures within { IfSome result (λ n. n < self.now.bound) }
+    {
+        if L == 2 {
+            return self.above.last();
+        }
+        let Some(word) = self.above.last() else {
+            return None;
+        };
+        Some(64 * word + highest_bit(self.words.get(word)))
+    }
+
+    /// The lowest number of the set above another one, if it has one.
+    #[inline]
+    pub(crate) fn after(&self, number: u32) -> Option<u32>
+        requires { number < self.now.bound }
+        ensures next { MatchOption result (NoneAbove (set.contains self.now.members) number) (IsNext (set.contains self.now.members) number) }
+        ensures within { IfSome result (λ n. n < self.now.bound) }
+    {
+        if L == 2 {
+            return self.above.after(number);
+        }
+        let here = number / 64;
+        if let Some(bit) = next_bit(self.words.get(here), number % 64) {
+            return Some(64 * here + bit);
+        }
+        let Some(word) = self.above.after(here) else {
+            return None;
+        };
+        Some(64 * word + lowest_bit(self.words.get(word)))
+    }
+
+    /// The highest number of the set below another one, if it has one.
+    #[inline]
+    pub(crate) fn before(&self, number: u32) -> Option<u32>
+        requires { number < self.now.bound }
+        ensures previous { MatchOption result (NoneBelow (set.contains self.now.members) number) (IsPrevious (set.contains self.now.members) number) }
+        ensures within { IfSome result (λ n. n < self.now.bound) }
+    {
+        if L == 2 {
+            return self.above.before(number);
+        }
+        let here = number / 64;
+        if let Some(bit) = previous_bit(self.words.get(here), number % 64) {
+            return Some(64 * here + bit);
+        }
+        let Some(word) = self.above.before(here) else {
+            return None;
+        };
+        Some(64 * word + highest_bit(self.words.get(word)))
+    }
+}
