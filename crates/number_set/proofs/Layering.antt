@@ -1,190 +1,134 @@
--- A layer of a set: words, and above them the set of those that aren't empty.
-use Rattle.std.proofs.Common.{◌≡◌, ◌≢◌, ℕ, zero, suc, ◌+◌, ◌-◌, ◌*◌, ◌/◌, ◌%◌, ◌^◌, ◌<◌, ◌≤◌, Bool, true, false, not, List, length, replicate, inl, inr, refl, sym, ap, ◌∙◌, slice_index, length-set, get_or-set_same, get_or-set_other, eq-eqb, arith}
-use Rattle.std.specs.Prelude.{nat_eq, nat_lt, ◌&&◌, ◌||◌, bit_and, bit_or, slice_set}
+-- A level of a set, and the set above it: what was put in and taken out, and what searches find.
+use Rattle.std.proofs.Common.{◌≡◌, ℕ, zero, suc, ◌+◌, ◌*◌, ◌/◌, ◌%◌, ◌<◌, ◌≤◌, Bool, true, false, not, List, length, replicate, inl, inr, refl, sym, ap, ◌∙◌, subst, slice_index, eq-eqb, arith}
+use Rattle.std.specs.Prelude.{nat_eq, nat_lt, ◌&&◌, ◌||◌}
 use Rattle.std.specs.Ordering.{nat_cmp}
 use Rattle.std.specs.FinSet as set
-use Rattle.std.proofs.lemmas.Bool.{ne_eqb, ltb-false, ltb-true, lt-ltb, le-ltb}
-use Rattle.std.proofs.lemmas.Bool.Decides.{eqb_tells, leb_tells, nat_tests}
-use Rattle.std.proofs.lemmas.List.{get_or_past, length-replicate}
-use Rattle.std.proofs.lemmas.Nat.{and_le_l, le_or_l, le_or_r}
-use Rattle.number_set.specs.Bits.{has_bit, has_number}
-use Rattle.number_set.specs.Finds.{IsFirst, IsLast, IsNext, IsPrevious, NoneAtAll, NoneAbove, NoneBelow}
+use Rattle.std.specs.Global.{Vec}
+use Rattle.std.specs.Vec.{with_items}
+use Rattle.std.proofs.lemmas.Bool.{ne_eqb}
+use Rattle.std.proofs.lemmas.Bool.Decides.{eqb_tells}
+use Rattle.std.proofs.lemmas.List.{with_items_is}
+use Rattle.number_set.specs.Bits.{has_bit, has_number, is_filled}
+use Rattle.number_set.specs.Finds.{IsFirst, IsLast, IsNext, IsPrevious, NoneAtAll, NoneAbove, NoneBelow, IsFirstIn, IsLastIn, NoneAboveIn, NoneBelowIn}
 use Rattle.number_set.specs.Layers.{Summarizes}
-use Rattle.number_set.specs.Numbers.{numbers_of}
+use Rattle.number_set.specs.Numbers.{Numbers, numbers_in, numbers_of}
 use Rattle.number_set.proofs.Gathering.{member, list_members, member_insert, member_remove, same_members}
-use Rattle.number_set.proofs.Masking.{clash, has_bit_added, has_bit_removed, has_bit_pow, has_bit_zero, pow_below, pow_some}
+use Rattle.number_set.proofs.Masking.{clash, has_bit_zero}
+use Rattle.number_set.proofs.Numbering.{no_number}
 
-zero_not_less : (n : ℕ) → nat_lt 0 n ≡ false → n ≡ 0
-zero_not_less n e = omega (arith, ltb-false 0 n e)
+-- a number was put in
+module _ (words new : List ℕ) (number : ℕ) where
+  module _ (filled : (word : ℕ) → is_filled new word ≡ (nat_eq word (number / 64) || is_filled words word)) (above : set.FinSet nat_cmp) (each : Summarizes above words) where
+    -- as the first one of its word, which was put in above
+    pub put_above : (after : set.FinSet nat_cmp) → after ≡ set.insert above (number / 64) → Summarizes after new
+    put_above after put i = ap (λ s. set.contains s i) put ∙ member_insert above (number / 64) i ∙ ap (λ b. nat_eq i (number / 64) || b) (each i) ∙ sym (filled i)
 
--- what is found in the words, by what is found above them
-module _ (words : List ℕ) (above : set.FinSet nat_cmp) (each : Summarizes above words) where
-  bit_here : (i b : ℕ) → b < 64 → has_number words (64 * i + b) ≡ has_bit (slice_index words i) b
-  bit_here i b low =
-      let here : (64 * i + b) / 64 ≡ i = omega arith in
-      let rest : (64 * i + b) % 64 ≡ b = omega arith in
-      λ j. has_bit (slice_index words (here j)) (rest j)
+    -- beside others of its word
+    pub kept_above : not (is_filled words (number / 64)) ≡ false → Summarizes above new
+    kept_above had i = each i ∙ sym (filled i ∙ absorbed) where
+      was : (b : Bool) → not b ≡ false → b ≡ true
+      was true e = refl
+      was false e = clash true refl e
+      absorbed : (nat_eq i (number / 64) || is_filled words i) ≡ is_filled words i
+      absorbed = elim (eqb_tells i (number / 64)) [
+        | inl at ↦ ap (λ b. b || is_filled words i) (eq-eqb i (number / 64) at.1) ∙ sym (ap (is_filled words) at.1 ∙ was (is_filled words (number / 64)) had)
+        | inr away ↦ ap (λ b. b || is_filled words i) (ne_eqb i (number / 64) away.1)
+      ]
 
-  bit_of : (n i : ℕ) → n / 64 ≡ i → has_number words n ≡ has_bit (slice_index words i) (n % 64)
-  bit_of n i at = ap (λ k. has_bit (slice_index words k) (n % 64)) at
+  pub numbers_put : ((n : ℕ) → has_number new n ≡ (nat_eq n number || has_number words n)) → (s : set.FinSet nat_cmp) → numbers_of words ≡ s → numbers_of new ≡ set.insert s number
+  numbers_put put s view = same_members (numbers_of new) (set.insert s number) (λ n. member new n ∙ put n ∙ ap (λ b. nat_eq n number || b) (ap (λ p. p n) (list_members words s view)) ∙ sym (member_insert s number n))
 
-  no_number : (n i : ℕ) → n / 64 ≡ i → set.contains above i ≡ false → has_number words n ≡ false
-  no_number n i at isnt = bit_of n i at ∙ ap (λ w. has_bit w (n % 64)) (zero_not_less (slice_index words i) (sym (each i) ∙ isnt)) ∙ has_bit_zero (n % 64)
+-- a number was taken out
+module _ (words new : List ℕ) (number : ℕ) where
+  module _ (is_last : Bool) (filled : (word : ℕ) → is_filled new word ≡ (not (is_last && nat_eq word (number / 64)) && is_filled words word)) (above : set.FinSet nat_cmp) (each : Summarizes above words) where
+    -- as the last one of its word, which was taken out above
+    pub cut_above : is_last ≡ true → (after : set.FinSet nat_cmp) → after ≡ set.remove above (number / 64) → Summarizes after new
+    cut_above last after cut i = ap (λ s. set.contains s i) cut ∙ member_remove above (number / 64) i ∙ ap (λ b. not (nat_eq i (number / 64)) && b) (each i) ∙ ap (λ b. not (b && nat_eq i (number / 64)) && is_filled words i) (sym last) ∙ sym (filled i)
 
-  pub some_word : (i : ℕ) → set.contains above i ≡ true → 0 < slice_index words i
-  some_word i is = ltb-true 0 (slice_index words i) (sym (each i) ∙ is)
+    -- others of its word are left
+    pub left_above : is_last ≡ false → Summarizes above new
+    left_above others i = each i ∙ ap (λ b. not (b && nat_eq i (number / 64)) && is_filled words i) (sym others) ∙ sym (filled i)
 
-  pub word_within : (i : ℕ) → set.contains above i ≡ true → i < length words
-  word_within i is = elim (leb_tells (length words) i) [
-    | inl past ↦ (let some = some_word i is in let none = get_or_past words i 0 past.1 in absurd (omega arith))
-    | inr within ↦ within.1
-  ]
+  pub numbers_cut : ((n : ℕ) → has_number new n ≡ (not (nat_eq n number) && has_number words n)) → (s : set.FinSet nat_cmp) → numbers_of words ≡ s → numbers_of new ≡ set.remove s number
+  numbers_cut cut s view = same_members (numbers_of new) (set.remove s number) (λ n. member new n ∙ cut n ∙ ap (λ b. not (nat_eq n number) && b) (ap (λ p. p n) (list_members words s view)) ∙ sym (member_remove s number n))
 
-  pub none_at_all : NoneAtAll (set.contains above) → NoneAtAll (has_number words)
-  none_at_all none n = no_number n (n / 64) refl (none (n / 64))
+-- what is found in a level, by what is found above it
+module _ (words : List ℕ) (above s : set.FinSet nat_cmp) (each : Summarizes above words) (view : numbers_of words ≡ s) where
+  told : has_number words ≡ set.contains s
+  told = list_members words s view
 
-  pub first_number : (i b : ℕ) → IsFirst (set.contains above) i → IsFirst (has_bit (slice_index words i)) b → b < 64 → IsFirst (has_number words) (64 * i + b)
-  first_number i b word bit low = record {
-    passes = bit_here i b low ∙ bit.passes;
-    before = λ n h. elim (eqb_tells (n / 64) i) [
-      | inl same ↦ bit_of n i same.1 ∙ bit.before (n % 64) (omega (arith, same.1, h))
-      | inr other ↦ no_number n (n / 64) refl (word.before (n / 64) (omega (arith, other.1, h, low)))
+  no_member : (n : ℕ) → set.contains above (n / 64) ≡ false → has_number words n ≡ false
+  no_member n isnt = no_number words n (sym (each (n / 64)) ∙ isnt)
+
+  pub filled_by : (word : ℕ) → set.contains above word ≡ true → is_filled words word ≡ true
+  filled_by word is = sym (each word) ∙ is
+
+  pub none_in : NoneAtAll (set.contains above) → NoneAtAll (set.contains s)
+  none_in none = subst (λ p. NoneAtAll p) told (λ n. no_member n (none (n / 64)))
+
+  pub first_in : (word n : ℕ) → IsFirst (set.contains above) word → IsFirstIn (has_number words) word n → IsFirst (set.contains s) n
+  first_in word n up here = subst (λ p. IsFirst p n) told (record {
+    passes = here.passes;
+    before = λ k less. elim (eqb_tells (k / 64) word) [
+      | inl same ↦ here.before k same.1 less
+      | inr other ↦ no_member k (up.before (k / 64) (omega (arith, other.1, less, here.here)))
     ];
-  }
+  })
 
-  pub last_number : (i b : ℕ) → IsLast (set.contains above) i → IsLast (has_bit (slice_index words i)) b → b < 64 → IsLast (has_number words) (64 * i + b)
-  last_number i b word bit low = record {
-    passes = bit_here i b low ∙ bit.passes;
-    after = λ n h. elim (eqb_tells (n / 64) i) [
-      | inl same ↦ bit_of n i same.1 ∙ bit.after (n % 64) (omega (arith, same.1, h))
-      | inr other ↦ no_number n (n / 64) refl (word.after (n / 64) (omega (arith, other.1, h, low)))
+  pub last_in : (word n : ℕ) → IsLast (set.contains above) word → IsLastIn (has_number words) word n → IsLast (set.contains s) n
+  last_in word n up here = subst (λ p. IsLast p n) told (record {
+    passes = here.passes;
+    after = λ k more. elim (eqb_tells (k / 64) word) [
+      | inl same ↦ here.after k same.1 more
+      | inr other ↦ no_member k (up.after (k / 64) (omega (arith, other.1, more, here.here)))
     ];
-  }
+  })
 
-  -- the next number above one is in the same word
-  pub next_here : (from b : ℕ) → IsNext (has_bit (slice_index words (from / 64))) (from % 64) b → b < 64 → IsNext (has_number words) from (64 * (from / 64) + b)
-  next_here from b bit low = record {
-    above = omega (arith, bit.above);
-    passes = bit_here (from / 64) b low ∙ bit.passes;
-    between = λ n h l. let at : n / 64 ≡ from / 64 = omega (arith, h, l, low) in
-        bit_of n (from / 64) at ∙ bit.between (n % 64) (omega (arith, at, h)) (omega (arith, at, l));
-  }
+  -- the next number above one is in the same word, or in a word above it
+  pub next_in_word : (from n : ℕ) → IsNext (has_number words) from n → IsNext (set.contains s) from n
+  next_in_word from n next = subst (λ p. IsNext p from n) told next
 
-  -- or in a word above it
-  pub next_there : (from i b : ℕ) → NoneAbove (has_bit (slice_index words (from / 64))) (from % 64) → IsNext (set.contains above) (from / 64) i → IsFirst (has_bit (slice_index words i)) b → b < 64 → IsNext (has_number words) from (64 * i + b)
-  next_there from i b none word bit low = record {
-    above = omega (arith, word.above);
-    passes = bit_here i b low ∙ bit.passes;
-    between = λ n h l. elim (eqb_tells (n / 64) i) [
-      | inl last ↦ bit_of n i last.1 ∙ bit.before (n % 64) (omega (arith, last.1, l))
-      | inr other ↦ elim (eqb_tells (n / 64) (from / 64)) [
-        | inl first ↦ bit_of n (from / 64) first.1 ∙ none (n % 64) (omega (arith, first.1, h))
-        | inr middle ↦ no_number n (n / 64) refl (word.between (n / 64) (omega (arith, middle.1, h)) (omega (arith, other.1, l, low)))
+  pub next_in_other : (from word n : ℕ) → NoneAboveIn (has_number words) from → IsNext (set.contains above) (from / 64) word → IsFirstIn (has_number words) word n → IsNext (set.contains s) from n
+  next_in_other from word n none up here = subst (λ p. IsNext p from n) told (record {
+    above = omega (arith, up.above, here.here);
+    passes = here.passes;
+    between = λ k more less. elim (eqb_tells (k / 64) word) [
+      | inl same ↦ here.before k same.1 less
+      | inr other ↦ elim (eqb_tells (k / 64) (from / 64)) [
+        | inl start ↦ none k start.1 more
+        | inr middle ↦ no_member k (up.between (k / 64) (omega (arith, middle.1, more)) (omega (arith, other.1, less, here.here)))
       ]
     ];
-  }
+  })
 
-  pub no_next_number : (from : ℕ) → NoneAbove (has_bit (slice_index words (from / 64))) (from % 64) → NoneAbove (set.contains above) (from / 64) → NoneAbove (has_number words) from
-  no_next_number from none no_word n h = elim (eqb_tells (n / 64) (from / 64)) [
-    | inl same ↦ bit_of n (from / 64) same.1 ∙ none (n % 64) (omega (arith, same.1, h))
-    | inr other ↦ no_number n (n / 64) refl (no_word (n / 64) (omega (arith, other.1, h)))
-  ]
+  pub none_next : (from : ℕ) → NoneAboveIn (has_number words) from → NoneAbove (set.contains above) (from / 64) → NoneAbove (set.contains s) from
+  none_next from none no_word = subst (λ p. NoneAbove p from) told (λ k more. elim (eqb_tells (k / 64) (from / 64)) [
+    | inl same ↦ none k same.1 more
+    | inr other ↦ no_member k (no_word (k / 64) (omega (arith, other.1, more)))
+  ])
 
-  -- the next number below one is in the same word
-  pub previous_here : (from b : ℕ) → IsPrevious (has_bit (slice_index words (from / 64))) (from % 64) b → b < 64 → IsPrevious (has_number words) from (64 * (from / 64) + b)
-  previous_here from b bit low = record {
-    below = omega (arith, bit.below);
-    passes = bit_here (from / 64) b low ∙ bit.passes;
-    between = λ n h l. let at : n / 64 ≡ from / 64 = omega (arith, h, l) in
-        bit_of n (from / 64) at ∙ bit.between (n % 64) (omega (arith, at, h)) (omega (arith, at, l));
-  }
+  -- the next number below one is in the same word, or in a word below it
+  pub previous_in_word : (from n : ℕ) → IsPrevious (has_number words) from n → IsPrevious (set.contains s) from n
+  previous_in_word from n previous = subst (λ p. IsPrevious p from n) told previous
 
-  -- or in a word below it
-  pub previous_there : (from i b : ℕ) → NoneBelow (has_bit (slice_index words (from / 64))) (from % 64) → IsPrevious (set.contains above) (from / 64) i → IsLast (has_bit (slice_index words i)) b → b < 64 → IsPrevious (has_number words) from (64 * i + b)
-  previous_there from i b none word bit low = record {
-    below = omega (arith, word.below, low);
-    passes = bit_here i b low ∙ bit.passes;
-    between = λ n h l. elim (eqb_tells (n / 64) i) [
-      | inl last ↦ bit_of n i last.1 ∙ bit.after (n % 64) (omega (arith, last.1, h))
-      | inr other ↦ elim (eqb_tells (n / 64) (from / 64)) [
-        | inl first ↦ bit_of n (from / 64) first.1 ∙ none (n % 64) (omega (arith, first.1, l))
-        | inr middle ↦ no_number n (n / 64) refl (word.between (n / 64) (omega (arith, other.1, h)) (omega (arith, middle.1, l)))
+  pub previous_in_other : (from word n : ℕ) → NoneBelowIn (has_number words) from → IsPrevious (set.contains above) (from / 64) word → IsLastIn (has_number words) word n → IsPrevious (set.contains s) from n
+  previous_in_other from word n none up here = subst (λ p. IsPrevious p from n) told (record {
+    below = omega (arith, up.below, here.here);
+    passes = here.passes;
+    between = λ k more less. elim (eqb_tells (k / 64) word) [
+      | inl same ↦ here.after k same.1 more
+      | inr other ↦ elim (eqb_tells (k / 64) (from / 64)) [
+        | inl start ↦ none k start.1 less
+        | inr middle ↦ no_member k (up.between (k / 64) (omega (arith, other.1, more, here.here)) (omega (arith, middle.1, less)))
       ]
     ];
-  }
+  })
 
-  pub no_previous_number : (from : ℕ) → NoneBelow (has_bit (slice_index words (from / 64))) (from % 64) → NoneBelow (set.contains above) (from / 64) → NoneBelow (has_number words) from
-  no_previous_number from none no_word n h = elim (eqb_tells (n / 64) (from / 64)) [
-    | inl same ↦ bit_of n (from / 64) same.1 ∙ none (n % 64) (omega (arith, same.1, h))
-    | inr other ↦ no_number n (n / 64) refl (no_word (n / 64) (omega (arith, other.1, h)))
-  ]
-
--- what stands above the words, after one of them changed
-module _ (words : List ℕ) (above : set.FinSet nat_cmp) (each : Summarizes above words) (word bits : ℕ) (within : word < length words) where
-  here : slice_index (slice_set words word bits) word ≡ bits
-  here = get_or-set_same words word bits 0 within
-
-  pub summarized_put : 0 < bits → Summarizes (set.insert above word) (slice_set words word bits)
-  summarized_put some i = member_insert above word i ∙ elim (eqb_tells i word) [
-    | inl at ↦ ap (λ b. b || set.contains above i) (eq-eqb i word at.1) ∙ sym (ap (λ k. nat_lt 0 (slice_index (slice_set words word bits) k)) at.1 ∙ ap (nat_lt 0) here ∙ lt-ltb 0 bits some)
-    | inr away ↦ ap (λ b. b || set.contains above i) (ne_eqb i word away.1) ∙ each i ∙ sym (ap (nat_lt 0) (get_or-set_other words word i bits 0 away.1))
-  ]
-
-  pub summarized_cut : bits ≡ 0 → Summarizes (set.remove above word) (slice_set words word bits)
-  summarized_cut none i = member_remove above word i ∙ elim (eqb_tells i word) [
-    | inl at ↦ ap (λ b. not b && set.contains above i) (eq-eqb i word at.1) ∙ sym (ap (λ k. nat_lt 0 (slice_index (slice_set words word bits) k)) at.1 ∙ ap (nat_lt 0) (here ∙ none))
-    | inr away ↦ ap (λ b. not b && set.contains above i) (ne_eqb i word away.1) ∙ each i ∙ sym (ap (nat_lt 0) (get_or-set_other words word i bits 0 away.1))
-  ]
-
-  pub summarized_still : 0 < bits → 0 < slice_index words word → Summarizes above (slice_set words word bits)
-  summarized_still some was i = each i ∙ elim (eqb_tells i word) [
-    | inl at ↦ ap (λ k. nat_lt 0 (slice_index words k)) at.1 ∙ lt-ltb 0 (slice_index words word) was ∙ sym (ap (λ k. nat_lt 0 (slice_index (slice_set words word bits) k)) at.1 ∙ ap (nat_lt 0) here ∙ lt-ltb 0 bits some)
-    | inr away ↦ sym (ap (nat_lt 0) (get_or-set_other words word i bits 0 away.1))
-  ]
-
--- the numbers after a bit of one word changed
-module _ (words : List ℕ) (s : set.FinSet nat_cmp) (number : ℕ) (view : numbers_of words ≡ s) (within : number / 64 < length words) where
-  had : (n : ℕ) → has_number words n ≡ set.contains s n
-  had n = ap (λ p. p n) (list_members words s view)
-
-  one_bit : (n : ℕ) → n / 64 ≡ number / 64 → has_bit (1 * 2 ^ (number % 64) % 2 ^ 64) (n % 64) ≡ nat_eq n number
-  one_bit n at = let low : number % 64 < 64 = omega arith in has_bit_pow (number % 64) (n % 64) low ∙ grind (arith, nat_tests, at)
-
-  other_number : (n bits : ℕ) → n / 64 ≢ number / 64 → has_number (slice_set words (number / 64) bits) n ≡ has_number words n
-  other_number n bits away = ap (λ w. has_bit w (n % 64)) (get_or-set_other words (number / 64) (n / 64) bits 0 away)
-
-  this_word : (n bits : ℕ) → n / 64 ≡ number / 64 → has_number (slice_set words (number / 64) bits) n ≡ has_bit bits (n % 64)
-  this_word n bits at = ap (λ k. has_bit (slice_index (slice_set words (number / 64) bits) k) (n % 64)) at ∙ ap (λ w. has_bit w (n % 64)) (get_or-set_same words (number / 64) bits 0 within)
-
-  apart : (n : ℕ) → n / 64 ≢ number / 64 → nat_eq n number ≡ false
-  apart n away = ne_eqb n number (λ e. away (ap (λ k. k / 64) e))
-
-  pub put_in : numbers_of (slice_set words (number / 64) (bit_or (slice_index words (number / 64)) (1 * 2 ^ (number % 64) % 2 ^ 64))) ≡ set.insert s number
-  put_in =
-      let bits = bit_or (slice_index words (number / 64)) (1 * 2 ^ (number % 64) % 2 ^ 64) in
-      same_members (numbers_of (slice_set words (number / 64) bits)) (set.insert s number) (λ n. member (slice_set words (number / 64) bits) n ∙ elim (eqb_tells (n / 64) (number / 64)) [
-        | inl at ↦ this_word n bits at.1 ∙ has_bit_added (slice_index words (number / 64)) (1 * 2 ^ (number % 64) % 2 ^ 64) (n % 64)
-            ∙ ap (λ b. b || has_bit (slice_index words (number / 64)) (n % 64)) (one_bit n at.1)
-            ∙ ap (λ b. nat_eq n number || b) (ap (λ k. has_bit (slice_index words k) (n % 64)) (sym at.1) ∙ had n)
-            ∙ sym (member_insert s number n)
-        | inr away ↦ other_number n bits away.1 ∙ had n ∙ ap (λ b. b || set.contains s n) (sym (apart n away.1)) ∙ sym (member_insert s number n)
-      ])
-
-  pub taken_out : numbers_of (slice_set words (number / 64) (bit_and (slice_index words (number / 64)) (2 ^ 64 - 1 - 1 * 2 ^ (number % 64) % 2 ^ 64))) ≡ set.remove s number
-  taken_out =
-      let bits = bit_and (slice_index words (number / 64)) (2 ^ 64 - 1 - 1 * 2 ^ (number % 64) % 2 ^ 64) in
-      let low : number % 64 < 64 = omega arith in
-      same_members (numbers_of (slice_set words (number / 64) bits)) (set.remove s number) (λ n. member (slice_set words (number / 64) bits) n ∙ elim (eqb_tells (n / 64) (number / 64)) [
-        | inl at ↦ this_word n bits at.1 ∙ has_bit_removed (slice_index words (number / 64)) (1 * 2 ^ (number % 64) % 2 ^ 64) (n % 64) (pow_below (number % 64) low) (omega arith)
-            ∙ ap (λ b. not b && has_bit (slice_index words (number / 64)) (n % 64)) (one_bit n at.1)
-            ∙ ap (λ b. not (nat_eq n number) && b) (ap (λ k. has_bit (slice_index words k) (n % 64)) (sym at.1) ∙ had n)
-            ∙ sym (member_remove s number n)
-        | inr away ↦ other_number n bits away.1 ∙ had n ∙ ap (λ b. not b && set.contains s n) (sym (apart n away.1)) ∙ sym (member_remove s number n)
-      ])
-
--- a word that a bit was added to isn't empty
-pub added_some : (had k : ℕ) → k < 64 → 0 < bit_or had (1 * 2 ^ k % 2 ^ 64)
-added_some had k low = omega (arith, le_or_r had (1 * 2 ^ k % 2 ^ 64), pow_some k low)
+  pub none_previous : (from : ℕ) → NoneBelowIn (has_number words) from → NoneBelow (set.contains above) (from / 64) → NoneBelow (set.contains s) from
+  none_previous from none no_word = subst (λ p. NoneBelow p from) told (λ k less. elim (eqb_tells (k / 64) (from / 64)) [
+    | inl same ↦ none k same.1 less
+    | inr other ↦ no_member k (no_word (k / 64) (omega (arith, other.1, less)))
+  ])
 
 -- zeros are zero, past the end too
 pub zeros : (n i : ℕ) → slice_index (replicate n 0) i ≡ 0
@@ -197,3 +141,9 @@ empty_words n = same_members (numbers_of (replicate n 0)) set.empty (λ k. membe
 
 pub empty_summarized : (n : ℕ) → Summarizes set.empty (replicate n 0)
 empty_summarized n i = set.contains-empty nat_cmp i ∙ ap (nat_lt 0) (sym (zeros n i))
+
+-- what holds of the words that a vector lent, and of those that came back, holds of its own before and after
+pub written : (v : Vec ℕ) (lent back : List ℕ) → lent ≡ v.items → length back ≡ length lent → (P : List ℕ → List ℕ → Type 0) → P lent back → P v.items (with_items v back).items
+written v lent back is long P holds =
+    let same : (with_items v back).items ≡ back = with_items_is v back (long ∙ ap length is ∙ sym v.ok.0) in
+    subst (P v.items) (sym same) (subst (λ words. P words back) is holds)

@@ -1,6 +1,5 @@
-pub mod Changing
 pub mod Gathering
 pub mod Layering
 pub mod Levels
 pub mod Masking
-pub mod Searching
+pub mod Numbering

@@ -2,18 +2,17 @@
 
 ghost use Rattle.std.specs.Prelude.{◌≡◌, ℕ, ◌^◌, ◌<◌, ◌≤◌, MatchOption, IfOk, IfSome};
 ghost use Rattle.std.specs.FinSet as set;
-ghost use Rattle.number_set.specs.Finds.{IsFirst, IsLast, IsNext, IsPrevious, NoneAtAll, NoneAbove, NoneBelow};
+ghost use Rattle.number_set.specs.Finds.{IsFirst, IsFrom, IsLast, IsNext, IsPrevious, NoneAbove, NoneAtAll, NoneBelow, NoneFrom};
 
 use crate::upper_levels::UpperLevels;
-use crate::word::{highest_bit, lowest_bit, next_bit, previous_bit};
-use crate::words::Words;
+use crate::words;
 use std::alloc::{AllocError, Global};
 use std::marker::Model;
 
 /// The first two levels of a set, and its third where `L` isn't 2.
 #[derive(Drop)]
 pub struct NumberSet<const L: usize> {
-    words: Words,
+    words: Vec<u64>,
     above: UpperLevels<L>,
 }
 
@@ -27,9 +26,9 @@ impl<const L: usize> Model for NumberSet<L> {
 
     ghost coded = { coded_numbers };
 
-    ghost view = { λ s. level_numbers L s.above s.words };
+    ghost view = { λ s. level_numbers L s.above s.words.items };
 
-    ghost invariant = { λ s. L ≡ 4 → (length s.words ≤ s.above.bound) × (s.above.bound ≤ 262144) × Summarizes s.above.members s.words };
+    ghost invariant = { λ s. L ≡ 4 → (length s.words.items ≤ s.above.bound) × (s.above.bound ≤ 262144) × Summarizes s.above.members s.words.items };
 }
 
 impl<const L: usize> NumberSet<L> {
@@ -43,13 +42,13 @@ impl<const L: usize> NumberSet<L> {
     {
         if L != 4 {
             return Ok(NumberSet {
-                words: Words::open(alloc, 0)?,
+                words: words::open(alloc, 0)?,
                 above: UpperLevels::open(alloc, bound)?,
             });
         }
         let count = (bound + 63) / 64;
         Ok(NumberSet {
-            words: Words::open(alloc, count)?,
+            words: words::open(alloc, count)?,
             above: UpperLevels::open(alloc, count)?,
         })
     }
@@ -63,7 +62,7 @@ impl<const L: usize> NumberSet<L> {
         if L != 4 {
             return self.above.contains(number);
         }
-        self.words.get(number / 64) >> (number % 64) & 1 == 1
+        words::contains(&self.words, number)
     }
 
     /// Puts a number in.
@@ -76,11 +75,8 @@ impl<const L: usize> NumberSet<L> {
             self.above.insert(number);
             return;
         }
-        let word = number / 64;
-        let had = self.words.get(word);
-        self.words.set(word, had | 1 << (number % 64));
-        if had == 0 {
-            self.above.insert(word);
+        if words::insert(&mut self.words, number) {
+            self.above.insert(number / 64);
         }
     }
 
@@ -94,11 +90,8 @@ impl<const L: usize> NumberSet<L> {
             self.above.remove(number);
             return;
         }
-        let word = number / 64;
-        let left = self.words.get(word) & !(1 << (number % 64));
-        self.words.set(word, left);
-        if left == 0 {
-            self.above.remove(word);
+        if words::remove(&mut self.words, number) {
+            self.above.remove(number / 64);
         }
     }
 
@@ -114,7 +107,7 @@ impl<const L: usize> NumberSet<L> {
         let Some(word) = self.above.first() else {
             return None;
         };
-        Some(64 * word + lowest_bit(self.words.get(word)))
+        Some(words::first_in(&self.words, word))
     }
 
     /// The highest number of the set, if it has one.
@@ -129,7 +122,7 @@ impl<const L: usize> NumberSet<L> {
         let Some(word) = self.above.last() else {
             return None;
         };
-        Some(64 * word + highest_bit(self.words.get(word)))
+        Some(words::last_in(&self.words, word))
     }
 
     /// The lowest number of the set above another one, if it has one.
@@ -142,14 +135,13 @@ impl<const L: usize> NumberSet<L> {
         if L != 4 {
             return self.above.after(number);
         }
-        let here = number / 64;
-        if let Some(bit) = next_bit(self.words.get(here), number % 64) {
-            return Some(64 * here + bit);
+        if let Some(found) = words::next_in_word(&self.words, number) {
+            return Some(found);
         }
-        let Some(word) = self.above.after(here) else {
+        let Some(word) = self.above.after(number / 64) else {
             return None;
         };
-        Some(64 * word + lowest_bit(self.words.get(word)))
+        Some(words::first_in(&self.words, word))
     }
 
     /// The highest number of the set below another one, if it has one.
@@ -162,13 +154,25 @@ impl<const L: usize> NumberSet<L> {
         if L != 4 {
             return self.above.before(number);
         }
-        let here = number / 64;
-        if let Some(bit) = previous_bit(self.words.get(here), number % 64) {
-            return Some(64 * here + bit);
+        if let Some(found) = words::previous_in_word(&self.words, number) {
+            return Some(found);
         }
-        let Some(word) = self.above.before(here) else {
+        let Some(word) = self.above.before(number / 64) else {
             return None;
         };
-        Some(64 * word + highest_bit(self.words.get(word)))
+        Some(words::last_in(&self.words, word))
+    }
+
+    /// The lowest number of the set from one on, if it has one.
+    #[inline]
+    pub fn at_or_after(&self, number: u32) -> Option<u32>
+        requires { number < self.now.bound }
+        ensures next { MatchOption result (NoneFrom (set.contains self.now.members) number) (IsFrom (set.contains self.now.members) number) }
+        ensures within { IfSome result (λ n. n < self.now.bound) }
+    {
+        if self.contains(number) {
+            return Some(number);
+        }
+        self.after(number)
     }
 }

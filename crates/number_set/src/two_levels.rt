@@ -5,10 +5,10 @@ ghost use Rattle.std.specs.FinSet as set;
 ghost use Rattle.number_set.specs.Finds.{IsFirst, IsLast, IsNext, IsPrevious, NoneAtAll, NoneAbove, NoneBelow};
 
 use crate::one_level::OneLevel;
-use crate::word::{highest_bit, lowest_bit, next_bit, previous_bit};
+use crate::words;
 use std::marker::Model;
 
-/// A set of numbers below 4,096. It takes no memory of its own.
+/// The first two levels of a set: a set of numbers below 4,096. It takes no memory of its own.
 #[derive(Drop)]
 pub(crate) struct TwoLevels {
     words: [u64; 64],
@@ -44,40 +44,38 @@ impl TwoLevels {
     }
 
     /// Whether a number is a member.
+    #[inline]
     pub(crate) fn contains(&self, number: u32) -> bool
         requires { number < 4096 }
         ensures { result ≡ set.contains self.now number }
     {
-        self.words[(number / 64) as usize] >> (number % 64) & 1 == 1
+        words::contains(&self.words, number)
     }
 
     /// Puts a number in.
+    #[inline]
     pub(crate) fn insert(&mut self, number: u32)
         requires { number < 4096 }
         ensures { self.new ≡ set.insert self.old number }
     {
-        let word = number / 64;
-        let had = self.words[word as usize];
-        self.words[word as usize] = had | 1 << (number % 64);
-        if had == 0 {
-            self.above.insert(word);
+        if words::insert(&mut self.words, number) {
+            self.above.insert(number / 64);
         }
     }
 
     /// Takes a number out.
+    #[inline]
     pub(crate) fn remove(&mut self, number: u32)
         requires { number < 4096 }
         ensures { self.new ≡ set.remove self.old number }
     {
-        let word = number / 64;
-        let left = self.words[word as usize] & !(1 << (number % 64));
-        self.words[word as usize] = left;
-        if left == 0 {
-            self.above.remove(word);
+        if words::remove(&mut self.words, number) {
+            self.above.remove(number / 64);
         }
     }
 
     /// The lowest number of the set, if it has one.
+    #[inline]
     pub(crate) fn first(&self) -> Option<u32>
         ensures first { MatchOption result (NoneAtAll (set.contains self.now)) (IsFirst (set.contains self.now)) }
         ensures within { IfSome result (λ n. n < 4096) }
@@ -85,10 +83,11 @@ impl TwoLevels {
         let Some(word) = self.above.first() else {
             return None;
         };
-        Some(64 * word + lowest_bit(self.words[word as usize]))
+        Some(words::first_in(&self.words, word))
     }
 
     /// The highest number of the set, if it has one.
+    #[inline]
     pub(crate) fn last(&self) -> Option<u32>
         ensures last { MatchOption result (NoneAtAll (set.contains self.now)) (IsLast (set.contains self.now)) }
         ensures within { IfSome result (λ n. n < 4096) }
@@ -96,38 +95,38 @@ impl TwoLevels {
         let Some(word) = self.above.last() else {
             return None;
         };
-        Some(64 * word + highest_bit(self.words[word as usize]))
+        Some(words::last_in(&self.words, word))
     }
 
     /// The lowest number of the set above another one, if it has one.
+    #[inline]
     pub(crate) fn after(&self, number: u32) -> Option<u32>
         requires { number < 4096 }
         ensures next { MatchOption result (NoneAbove (set.contains self.now) number) (IsNext (set.contains self.now) number) }
         ensures within { IfSome result (λ n. n < 4096) }
     {
-        let here = number / 64;
-        if let Some(bit) = next_bit(self.words[here as usize], number % 64) {
-            return Some(64 * here + bit);
+        if let Some(found) = words::next_in_word(&self.words, number) {
+            return Some(found);
         }
-        let Some(word) = self.above.after(here) else {
+        let Some(word) = self.above.after(number / 64) else {
             return None;
         };
-        Some(64 * word + lowest_bit(self.words[word as usize]))
+        Some(words::first_in(&self.words, word))
     }
 
     /// The highest number of the set below another one, if it has one.
+    #[inline]
     pub(crate) fn before(&self, number: u32) -> Option<u32>
         requires { number < 4096 }
         ensures previous { MatchOption result (NoneBelow (set.contains self.now) number) (IsPrevious (set.contains self.now) number) }
         ensures within { IfSome result (λ n. n < 4096) }
     {
-        let here = number / 64;
-        if let Some(bit) = previous_bit(self.words[here as usize], number % 64) {
-            return Some(64 * here + bit);
+        if let Some(found) = words::previous_in_word(&self.words, number) {
+            return Some(found);
         }
-        let Some(word) = self.above.before(here) else {
+        let Some(word) = self.above.before(number / 64) else {
             return None;
         };
-        Some(64 * word + highest_bit(self.words[word as usize]))
+        Some(words::last_in(&self.words, word))
     }
 }

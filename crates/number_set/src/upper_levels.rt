@@ -5,15 +5,14 @@ ghost use Rattle.std.specs.FinSet as set;
 ghost use Rattle.number_set.specs.Finds.{IsFirst, IsLast, IsNext, IsPrevious, NoneAtAll, NoneAbove, NoneBelow};
 
 use crate::two_levels::TwoLevels;
-use crate::word::{highest_bit, lowest_bit, next_bit, previous_bit};
-use crate::words::Words;
+use crate::words;
 use std::alloc::{AllocError, Global};
 use std::marker::Model;
 
 /// The first two levels of a set, and its third where `L` isn't 2.
 #[derive(Drop)]
 pub(crate) struct UpperLevels<const L: usize> {
-    words: Words,
+    words: Vec<u64>,
     above: TwoLevels,
 }
 
@@ -27,9 +26,9 @@ impl<const L: usize> Model for UpperLevels<L> {
 
     ghost coded = { coded_numbers };
 
-    ghost view = { λ s. upper_numbers L s.above s.words };
+    ghost view = { λ s. upper_numbers L s.above s.words.items };
 
-    ghost invariant = { λ s. L ≢ 2 → (length s.words ≤ 4096) × Summarizes s.above s.words };
+    ghost invariant = { λ s. L ≢ 2 → (length s.words.items ≤ 4096) × Summarizes s.above s.words.items };
 }
 
 impl<const L: usize> UpperLevels<L> {
@@ -43,7 +42,7 @@ impl<const L: usize> UpperLevels<L> {
     {
         let count = if L == 2 { 0 } else { (bound + 63) / 64 };
         Ok(UpperLevels {
-            words: Words::open(alloc, count)?,
+            words: words::open(alloc, count)?,
             above: TwoLevels::new(),
         })
     }
@@ -57,7 +56,7 @@ impl<const L: usize> UpperLevels<L> {
         if L == 2 {
             return self.above.contains(number);
         }
-        self.words.get(number / 64) >> (number % 64) & 1 == 1
+        words::contains(&self.words, number)
     }
 
     /// Puts a number in.
@@ -70,11 +69,8 @@ impl<const L: usize> UpperLevels<L> {
             self.above.insert(number);
             return;
         }
-        let word = number / 64;
-        let had = self.words.get(word);
-        self.words.set(word, had | 1 << (number % 64));
-        if had == 0 {
-            self.above.insert(word);
+        if words::insert(&mut self.words, number) {
+            self.above.insert(number / 64);
         }
     }
 
@@ -88,11 +84,8 @@ impl<const L: usize> UpperLevels<L> {
             self.above.remove(number);
             return;
         }
-        let word = number / 64;
-        let left = self.words.get(word) & !(1 << (number % 64));
-        self.words.set(word, left);
-        if left == 0 {
-            self.above.remove(word);
+        if words::remove(&mut self.words, number) {
+            self.above.remove(number / 64);
         }
     }
 
@@ -108,7 +101,7 @@ impl<const L: usize> UpperLevels<L> {
         let Some(word) = self.above.first() else {
             return None;
         };
-        Some(64 * word + lowest_bit(self.words.get(word)))
+        Some(words::first_in(&self.words, word))
     }
 
     /// The highest number of the set, if it has one.
@@ -123,7 +116,7 @@ impl<const L: usize> UpperLevels<L> {
         let Some(word) = self.above.last() else {
             return None;
         };
-        Some(64 * word + highest_bit(self.words.get(word)))
+        Some(words::last_in(&self.words, word))
     }
 
     /// The lowest number of the set above another one, if it has one.
@@ -136,14 +129,13 @@ impl<const L: usize> UpperLevels<L> {
         if L == 2 {
             return self.above.after(number);
         }
-        let here = number / 64;
-        if let Some(bit) = next_bit(self.words.get(here), number % 64) {
-            return Some(64 * here + bit);
+        if let Some(found) = words::next_in_word(&self.words, number) {
+            return Some(found);
         }
-        let Some(word) = self.above.after(here) else {
+        let Some(word) = self.above.after(number / 64) else {
             return None;
         };
-        Some(64 * word + lowest_bit(self.words.get(word)))
+        Some(words::first_in(&self.words, word))
     }
 
     /// The highest number of the set below another one, if it has one.
@@ -156,13 +148,12 @@ impl<const L: usize> UpperLevels<L> {
         if L == 2 {
             return self.above.before(number);
         }
-        let here = number / 64;
-        if let Some(bit) = previous_bit(self.words.get(here), number % 64) {
-            return Some(64 * here + bit);
+        if let Some(found) = words::previous_in_word(&self.words, number) {
+            return Some(found);
         }
-        let Some(word) = self.above.before(here) else {
+        let Some(word) = self.above.before(number / 64) else {
             return None;
         };
-        Some(64 * word + highest_bit(self.words.get(word)))
+        Some(words::last_in(&self.words, word))
     }
 }

@@ -14,4 +14,4 @@ pub invariant_of-result-2 : goal.invariant_of-result-2
 invariant_of-result-2 g c four = (omega (arith, ap length c.in_ok-open-3.ensures, length-replicate {A = ℕ} ((c.args.bound + 63) / 64) 0, c.in_ok-open-4.ensures.bound), c.in_ok-open-4.ensures.most, λ i. ap (λ s. set.contains s i) c.in_ok-open-4.ensures.empty ∙ empty_summarized ((c.args.bound + 63) / 64) i ∙ ap (λ ws. nat_lt 0 (slice_index ws i)) (sym c.in_ok-open-3.ensures))
 
 pub returns-clause-empty : goal.returns-clause-empty
-returns-clause-empty g c = members_of (of_fourth g.row.L c.in_ok-open-4.field-0 c.in_ok-open-3.field-0 c.if-this-ne4.false) ∙ ap numbers_of c.in_ok-open-3.ensures ∙ empty_words ((c.args.bound + 63) / 64)
+returns-clause-empty g c = members_of (of_fourth g.row.L c.in_ok-open-4.field-0 c.in_ok-open-3.field-0.items c.if-this-ne4.false) ∙ ap numbers_of c.in_ok-open-3.ensures ∙ empty_words ((c.args.bound + 63) / 64)

@@ -1,22 +1,15 @@
-use Rattle.std.proofs.Common.{ℕ, ◌-◌, ◌*◌, ◌/◌, ◌%◌, ◌^◌, ◌<◌, length, sym, ap, ◌∙◌, subst, slice_index, length-set, arith}
-use Rattle.std.specs.Prelude.{bit_and, bit_or, slice_set}
-use Rattle.std.proofs.lemmas.Nat.{and_le_l}
-use Rattle.number_set.specs.Layers.{Summarizes}
-use Rattle.number_set.proofs.Layering.{added_some, put_in, summarized_put, summarized_still}
+use Rattle.std.proofs.Common.{sym, ◌∙◌}
+use Rattle.number_set.proofs.Layering.{kept_above, numbers_put, put_above}
 use Rattle.number_set.proofs.two_levels.TwoLevels.insert.Goals as goal
 
 pub invariant_of-self : goal.invariant_of-self
-invariant_of-self c =
-    let within : c.args.number / 64 < length c.self.inside.words = omega (arith, c.self.invariant.0, c.requires) in
-    (length-set c.self.inside.words (c.args.number / 64) (bit_or (slice_index c.self.inside.words (c.args.number / 64)) (1 * 2 ^ (c.args.number % 64) % 2 ^ 64)) ∙ c.self.invariant.0, subst (λ s. Summarizes s (slice_set c.self.inside.words (c.args.number / 64) (bit_or (slice_index c.self.inside.words (c.args.number / 64)) (1 * 2 ^ (c.args.number % 64) % 2 ^ 64)))) (sym c.insert.ensures) (summarized_put c.self.inside.words c.self.inside.above c.self.invariant.1 (c.args.number / 64) (bit_or (slice_index c.self.inside.words (c.args.number / 64)) (1 * 2 ^ (c.args.number % 64) % 2 ^ 64)) within (added_some (slice_index c.self.inside.words (c.args.number / 64)) (c.args.number % 64) (omega arith))))
+invariant_of-self c = (c.insert.ensures.as_long ∙ c.self.invariant.0, put_above c.self.inside.words c.insert.new.words c.args.number c.insert.ensures.filled c.self.inside.above c.self.invariant.1 c.insert-then-insert.new.self c.insert-then-insert.ensures)
 
-pub invariant_of-self-else-had-eq0 : goal.invariant_of-self-else-had-eq0
-invariant_of-self-else-had-eq0 c =
-    let within : c.args.number / 64 < length c.self.inside.words = omega (arith, c.self.invariant.0, c.requires) in
-    (length-set c.self.inside.words (c.args.number / 64) (bit_or (slice_index c.self.inside.words (c.args.number / 64)) (1 * 2 ^ (c.args.number % 64) % 2 ^ 64)) ∙ c.self.invariant.0, summarized_still c.self.inside.words c.self.inside.above c.self.invariant.1 (c.args.number / 64) (bit_or (slice_index c.self.inside.words (c.args.number / 64)) (1 * 2 ^ (c.args.number % 64) % 2 ^ 64)) within (added_some (slice_index c.self.inside.words (c.args.number / 64)) (c.args.number % 64) (omega arith)) (omega (arith, c.if-had-eq0.false)))
+pub invariant_of-self-else-insert : goal.invariant_of-self-else-insert
+invariant_of-self-else-insert c = (c.insert.ensures.as_long ∙ c.self.invariant.0, kept_above c.self.inside.words c.insert.new.words c.args.number c.insert.ensures.filled c.self.inside.above c.self.invariant.1 (sym c.insert.ensures.was_empty ∙ c.if-insert.false))
 
-pub returns-then-had-eq0 : goal.returns-then-had-eq0
-returns-then-had-eq0 c = put_in c.self.inside.words c.args.self.now c.args.number c.self.view_is (omega (arith, c.self.invariant.0, c.requires))
+pub returns-then-insert : goal.returns-then-insert
+returns-then-insert c = numbers_put c.self.inside.words c.insert.new.words c.args.number c.insert.ensures.numbers c.args.self.now c.self.view_is
 
-pub returns-else-had-eq0 : goal.returns-else-had-eq0
-returns-else-had-eq0 c = put_in c.self.inside.words c.args.self.now c.args.number c.self.view_is (omega (arith, c.self.invariant.0, c.requires))
+pub returns-else-insert : goal.returns-else-insert
+returns-else-insert c = numbers_put c.self.inside.words c.insert.new.words c.args.number c.insert.ensures.numbers c.args.self.now c.self.view_is
