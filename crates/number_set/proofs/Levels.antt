@@ -1,13 +1,14 @@
 -- The numbers of a set, by its levels.
-use Rattle.std.proofs.Common.{◌≡◌, ◌≢◌, ℕ, ◌*◌, ◌^◌, ◌≤◌, Bool, true, false, List, length, replicate, inl, inr, refl, sym, ap, ◌∙◌, subst, eq-eqb, arith}
+use Rattle.std.proofs.Common.{◌≡◌, ◌≢◌, ℕ, ◌+◌, ◌*◌, ◌/◌, ◌^◌, ◌≤◌, Bool, true, false, List, length, replicate, inl, inr, refl, sym, ap, ◌∙◌, subst, eq-eqb, arith}
 use Rattle.std.specs.Prelude.{nat_eq, if◌then◌else◌}
 use Rattle.std.specs.Ordering.{nat_cmp}
 use Rattle.std.specs.FinSet as set
 use Rattle.std.proofs.lemmas.Bool.{ne_eqb}
 use Rattle.std.proofs.lemmas.Bool.Decides.{eqb_tells}
 use Rattle.number_set.specs.Levels.{upper_numbers, level_numbers}
-use Rattle.number_set.specs.Numbers.{Numbers, numbers_in, numbers_of}
-use Rattle.number_set.proofs.Layering.{empty_words}
+use Rattle.std.proofs.lemmas.List.{length-replicate}
+use Rattle.number_set.specs.Numbers.{Numbers, numbers_in, numbers_of, room_for}
+use Rattle.number_set.proofs.OneAbove.{empty_words}
 
 pub members_of : {s t : Numbers} → s ≡ t → s.members ≡ t.members
 members_of same = ap (λ (s : Numbers). s.members) same
@@ -48,3 +49,14 @@ room_of_three n levels most low high fewer = elim (eqb_tells levels 2) [
 
 pub room_of_four : (n levels : ℕ) → n ≤ 64 ^ levels → levels ≡ 4 → n ≤ 16777216
 room_of_four n levels most four = subst (λ l. n ≤ 64 ^ l) four most
+
+-- the bound of levels that are opened
+pub upper_bound : (levels n bound : ℕ) (second : set.FinSet nat_cmp) (third : List ℕ) → third ≡ replicate n 0 → (levels ≢ 2 → n ≡ (bound + 63) / 64) → (upper_numbers levels second third).bound ≡ room_for levels bound
+upper_bound levels n bound second third is count = elim (eqb_tells levels 2) [
+  | inl two ↦ ap (λ b. (if b then record { members = second; bound = 4096 } else numbers_in third).bound) (eq-eqb levels 2 two.1) ∙ sym (ap (λ b. if b then 4096 else 64 * ((bound + 63) / 64)) (eq-eqb levels 2 two.1))
+  | inr more ↦ bound_of (of_third levels second third more.1) ∙ ap (λ k. 64 * k) (ap length is ∙ length-replicate n 0 ∙ count more.1) ∙ sym (ap (λ b. if b then 4096 else 64 * ((bound + 63) / 64)) (ne_eqb levels 2 more.1))
+]
+
+pub set_bound : (levels bound : ℕ) (upper : Numbers) (fourth : List ℕ) → fourth ≡ replicate ((bound + 63) / 64) 0 → levels ≡ 4 → (level_numbers levels upper fourth).bound ≡ room_for levels bound
+set_bound levels bound upper fourth is four =
+    bound_of (of_fourth levels upper fourth four) ∙ ap (λ k. 64 * k) (ap length is ∙ length-replicate ((bound + 63) / 64) 0) ∙ sym (ap (λ b. if b then 4096 else 64 * ((bound + 63) / 64)) (ap (λ l. nat_eq l 2) four))

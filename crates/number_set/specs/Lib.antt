@@ -1,5 +1,4 @@
 pub mod Bits
 pub mod Finds
-pub mod Layers
 pub mod Levels
 pub mod Numbers

@@ -1,15 +1,17 @@
-//! The levels of a set above its fourth.
+//! Sets of numbers below a bound that is chosen when a set is opened.
 
 ghost use Rattle.std.specs.Prelude.{◌≡◌, ℕ, ◌^◌, ◌<◌, ◌≤◌, MatchOption, IfOk, IfSome};
 ghost use Rattle.std.specs.FinSet as set;
 ghost use Rattle.number_set.specs.Finds.{IsFirst, IsFrom, IsLast, IsNext, IsPrevious, NoneAbove, NoneAtAll, NoneBelow, NoneFrom};
+ghost use Rattle.number_set.specs.Numbers.{room_for};
 
 use crate::upper_levels::UpperLevels;
 use crate::words;
 use std::alloc::{AllocError, Global};
 use std::marker::Model;
 
-/// The first two levels of a set, and its third where `L` isn't 2.
+/// A set of numbers below a bound, in `L` levels of words: 2, 3 or 4. The bound is 4,096 with two levels, and at most
+/// 262,144 with three and 16,777,216 with four. Each call looks at two words of each level at most.
 #[derive(Drop)]
 pub struct NumberSet<const L: usize> {
     words: Vec<u64>,
@@ -18,8 +20,7 @@ pub struct NumberSet<const L: usize> {
 
 impl<const L: usize> Model for NumberSet<L> {
     ghost use Rattle.std.specs.Prelude.{◌≡◌, ◌≢◌, ◌≤◌, length};
-    ghost use Rattle.number_set.specs.Layers.{Summarizes};
-    ghost use Rattle.number_set.specs.Levels.{level_numbers};
+    ghost use Rattle.number_set.specs.Levels.{level_numbers, Summarizes};
     ghost use Rattle.number_set.specs.Numbers.{Numbers, coded_numbers};
 
     ghost Value = { Numbers };
@@ -33,12 +34,13 @@ impl<const L: usize> Model for NumberSet<L> {
 
 impl<const L: usize> NumberSet<L> {
     /// An empty set with room for the numbers below a bound, or an error where there is no memory for it. No other call takes
-    /// memory.
+    /// memory. With two levels it takes none either: their words lie in the set itself.
     pub fn open(alloc: Global, bound: u32) -> Result<Self, AllocError>
         requires levels { (2 ≤ L) × (L ≤ 4) }
         requires bound { bound ≤ 64 ^ L }
         ensures empty { IfOk result (λ s. s.members ≡ set.empty) }
-        ensures bound { IfOk result (λ s. bound ≤ s.bound) }
+        ensures bound { IfOk result (λ s. s.bound ≡ room_for L bound) }
+        ensures enough { IfOk result (λ s. bound ≤ s.bound) }
     {
         if L != 4 {
             return Ok(NumberSet {

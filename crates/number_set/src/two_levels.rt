@@ -8,7 +8,7 @@ use crate::one_level::OneLevel;
 use crate::words;
 use std::marker::Model;
 
-/// The first two levels of a set: a set of numbers below 4,096. It takes no memory of its own.
+/// A set of numbers below 4,096: 64 words, and above them the set of those that have a number.
 #[derive(Drop)]
 pub(crate) struct TwoLevels {
     words: [u64; 64],
@@ -20,7 +20,7 @@ impl Model for TwoLevels {
     ghost use Rattle.std.specs.Ordering.{nat_cmp};
     ghost use Rattle.std.specs.FinSet as set;
     ghost use Rattle.std.specs.Coded.{coded_ℕ};
-    ghost use Rattle.number_set.specs.Layers.{Summarizes};
+    ghost use Rattle.number_set.specs.Levels.{Summarizes};
     ghost use Rattle.number_set.specs.Numbers.{numbers_of};
 
     ghost Value = { set.FinSet nat_cmp };

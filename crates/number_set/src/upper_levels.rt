@@ -1,15 +1,16 @@
-//! The levels of a set above its fourth.
+//! The levels of a set above its fourth one.
 
 ghost use Rattle.std.specs.Prelude.{◌≡◌, ℕ, ◌<◌, ◌≤◌, MatchOption, IfOk, IfSome};
 ghost use Rattle.std.specs.FinSet as set;
 ghost use Rattle.number_set.specs.Finds.{IsFirst, IsLast, IsNext, IsPrevious, NoneAtAll, NoneAbove, NoneBelow};
+ghost use Rattle.number_set.specs.Numbers.{room_for};
 
 use crate::two_levels::TwoLevels;
 use crate::words;
 use std::alloc::{AllocError, Global};
 use std::marker::Model;
 
-/// The first two levels of a set, and its third where `L` isn't 2.
+/// The first two levels of a set, and its third one where it has more than two.
 #[derive(Drop)]
 pub(crate) struct UpperLevels<const L: usize> {
     words: Vec<u64>,
@@ -18,8 +19,7 @@ pub(crate) struct UpperLevels<const L: usize> {
 
 impl<const L: usize> Model for UpperLevels<L> {
     ghost use Rattle.std.specs.Prelude.{◌≡◌, ◌≢◌, ◌≤◌, length};
-    ghost use Rattle.number_set.specs.Layers.{Summarizes};
-    ghost use Rattle.number_set.specs.Levels.{upper_numbers};
+    ghost use Rattle.number_set.specs.Levels.{upper_numbers, Summarizes};
     ghost use Rattle.number_set.specs.Numbers.{Numbers, coded_numbers};
 
     ghost Value = { Numbers };
@@ -37,7 +37,8 @@ impl<const L: usize> UpperLevels<L> {
         requires two { L ≡ 2 → bound ≤ 4096 }
         requires three { bound ≤ 262144 }
         ensures empty { IfOk result (λ s. s.members ≡ set.empty) }
-        ensures bound { IfOk result (λ s. bound ≤ s.bound) }
+        ensures bound { IfOk result (λ s. s.bound ≡ room_for L bound) }
+        ensures enough { IfOk result (λ s. bound ≤ s.bound) }
         ensures most { IfOk result (λ s. s.bound ≤ 262144) }
     {
         let count = if L == 2 { 0 } else { (bound + 63) / 64 };

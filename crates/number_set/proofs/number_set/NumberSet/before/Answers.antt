@@ -1,7 +1,7 @@
 use Rattle.std.proofs.Common.{◌/◌, subst}
 use Rattle.number_set.specs.Bits.{has_number}
 use Rattle.number_set.specs.Finds.{IsLastIn, IsPrevious, NoneBelowIn}
-use Rattle.number_set.proofs.Layering.{previous_in_other, previous_in_word, none_previous}
+use Rattle.number_set.proofs.OneAbove.{previous_in_other, previous_in_word, none_previous}
 use Rattle.number_set.proofs.Levels.{in_fourth, members_of}
 use Rattle.number_set.proofs.number_set.NumberSet.before.Goals as goal
 

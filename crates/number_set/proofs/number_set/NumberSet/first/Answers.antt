@@ -1,7 +1,7 @@
 use Rattle.std.proofs.Common.{subst}
 use Rattle.number_set.specs.Bits.{has_number}
 use Rattle.number_set.specs.Finds.{IsFirstIn}
-use Rattle.number_set.proofs.Layering.{first_in, none_in}
+use Rattle.number_set.proofs.OneAbove.{first_in, none_in}
 use Rattle.number_set.proofs.Levels.{in_fourth, members_of}
 use Rattle.number_set.proofs.number_set.NumberSet.first.Goals as goal
 

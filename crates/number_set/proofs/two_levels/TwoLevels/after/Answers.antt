@@ -1,4 +1,4 @@
-use Rattle.number_set.proofs.Layering.{next_in_other, next_in_word, none_next}
+use Rattle.number_set.proofs.OneAbove.{next_in_other, next_in_word, none_next}
 use Rattle.number_set.proofs.two_levels.TwoLevels.after.Goals as goal
 
 pub returns-in-Some-clause-next : goal.returns-in-Some-clause-next

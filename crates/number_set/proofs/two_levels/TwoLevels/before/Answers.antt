@@ -1,4 +1,4 @@
-use Rattle.number_set.proofs.Layering.{previous_in_other, previous_in_word, none_previous}
+use Rattle.number_set.proofs.OneAbove.{previous_in_other, previous_in_word, none_previous}
 use Rattle.number_set.proofs.two_levels.TwoLevels.before.Goals as goal
 
 pub returns-in-Some-clause-previous : goal.returns-in-Some-clause-previous

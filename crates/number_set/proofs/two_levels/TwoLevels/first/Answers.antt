@@ -1,4 +1,4 @@
-use Rattle.number_set.proofs.Layering.{first_in, none_in}
+use Rattle.number_set.proofs.OneAbove.{first_in, none_in}
 use Rattle.number_set.proofs.two_levels.TwoLevels.first.Goals as goal
 
 pub returns-in_default-clause-first : goal.returns-in_default-clause-first

@@ -1,5 +1,5 @@
 use Rattle.std.proofs.Common.{sym, ◌∙◌}
-use Rattle.number_set.proofs.Layering.{kept_above, numbers_put, put_above}
+use Rattle.number_set.proofs.OneAbove.{kept_above, numbers_put, put_above}
 use Rattle.number_set.proofs.two_levels.TwoLevels.insert.Goals as goal
 
 pub invariant_of-self : goal.invariant_of-self

@@ -1,4 +1,4 @@
-use Rattle.number_set.proofs.Layering.{last_in, none_in}
+use Rattle.number_set.proofs.OneAbove.{last_in, none_in}
 use Rattle.number_set.proofs.two_levels.TwoLevels.last.Goals as goal
 
 pub returns-in_default-clause-last : goal.returns-in_default-clause-last

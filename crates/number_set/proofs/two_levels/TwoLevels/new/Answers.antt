@@ -1,6 +1,6 @@
 use Rattle.std.proofs.Common.{refl, ap, ◌∙◌}
 use Rattle.std.specs.FinSet as set
-use Rattle.number_set.proofs.Layering.{empty_summarized, empty_words}
+use Rattle.number_set.proofs.OneAbove.{empty_summarized, empty_words}
 use Rattle.number_set.proofs.two_levels.TwoLevels.new.Goals as goal
 
 pub invariant_of-result : goal.invariant_of-result

@@ -1,5 +1,5 @@
 use Rattle.std.proofs.Common.{◌∙◌}
-use Rattle.number_set.proofs.Layering.{cut_above, left_above, numbers_cut}
+use Rattle.number_set.proofs.OneAbove.{cut_above, left_above, numbers_cut}
 use Rattle.number_set.proofs.two_levels.TwoLevels.remove.Goals as goal
 
 pub invariant_of-self : goal.invariant_of-self

@@ -1,7 +1,7 @@
 use Rattle.std.proofs.Common.{◌/◌, subst}
 use Rattle.number_set.specs.Bits.{has_number}
 use Rattle.number_set.specs.Finds.{IsFirstIn, IsNext, NoneAboveIn}
-use Rattle.number_set.proofs.Layering.{next_in_other, next_in_word, none_next}
+use Rattle.number_set.proofs.OneAbove.{next_in_other, next_in_word, none_next}
 use Rattle.number_set.proofs.Levels.{in_third, members_of}
 use Rattle.number_set.proofs.upper_levels.UpperLevels.after.Goals as goal
 

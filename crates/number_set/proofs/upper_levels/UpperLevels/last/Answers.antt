@@ -1,7 +1,7 @@
 use Rattle.std.proofs.Common.{subst}
 use Rattle.number_set.specs.Bits.{has_number}
 use Rattle.number_set.specs.Finds.{IsLastIn}
-use Rattle.number_set.proofs.Layering.{last_in, none_in}
+use Rattle.number_set.proofs.OneAbove.{last_in, none_in}
 use Rattle.number_set.proofs.Levels.{in_third, members_of}
 use Rattle.number_set.proofs.upper_levels.UpperLevels.last.Goals as goal
 

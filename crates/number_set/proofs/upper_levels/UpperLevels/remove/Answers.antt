@@ -2,7 +2,7 @@ use Rattle.std.proofs.Common.{◌≡◌, ℕ, ◌*◌, ◌/◌, not, length, sym
 use Rattle.std.specs.Prelude.{nat_eq, ◌&&◌, ◌||◌}
 use Rattle.std.specs.Vec.{with_items}
 use Rattle.number_set.specs.Bits.{has_number, is_filled}
-use Rattle.number_set.proofs.Layering.{left_above, numbers_cut, cut_above, written}
+use Rattle.number_set.proofs.OneAbove.{left_above, numbers_cut, cut_above, written}
 use Rattle.number_set.proofs.Levels.{bound_of, in_third, members_of, of_third}
 use Rattle.number_set.proofs.upper_levels.UpperLevels.remove.Goals as goal
 

@@ -10,7 +10,7 @@ use Rattle.std.proofs.lemmas.Bool.Decides.{eqb_tells}
 use Rattle.std.proofs.lemmas.List.{with_items_is}
 use Rattle.number_set.specs.Bits.{has_bit, has_number, is_filled}
 use Rattle.number_set.specs.Finds.{IsFirst, IsLast, IsNext, IsPrevious, NoneAtAll, NoneAbove, NoneBelow, IsFirstIn, IsLastIn, NoneAboveIn, NoneBelowIn}
-use Rattle.number_set.specs.Layers.{Summarizes}
+use Rattle.number_set.specs.Levels.{Summarizes}
 use Rattle.number_set.specs.Numbers.{Numbers, numbers_in, numbers_of}
 use Rattle.number_set.proofs.Gathering.{member, list_members, member_insert, member_remove, same_members}
 use Rattle.number_set.proofs.Masking.{clash, has_bit_zero}
