@@ -1,5 +1,5 @@
 -- Sets that are gathered from tests.
-use Rattle.std.proofs.Common.{◌≡◌, ◌≢◌, ℕ, zero, suc, ◌+◌, ◌*◌, ◌/◌, ◌%◌, ◌^◌, ◌<◌, ◌≤◌, Bool, true, false, not, List, length, replicate, inl, inr, refl, sym, ap, ◌∙◌, slice_index, eq-eqb, arith}
+use Rattle.std.proofs.Common.{◌≡◌, ◌≢◌, ℕ, zero, suc, ◌*◌, ◌/◌, ◌%◌, ◌^◌, ◌<◌, ◌≤◌, Bool, true, false, not, List, length, inl, inr, refl, sym, ap, ◌∙◌, eq-eqb, arith}
 use Rattle.std.specs.Prelude.{nat_eq, ◌-◌, ◌&&◌, ◌||◌, bit_and, bit_or, if◌then◌else◌}
 use Rattle.std.specs.Ordering.{nat_cmp}
 use Rattle.std.specs.Cmp.{nat_cmp_total, unsigned_tied}
@@ -80,9 +80,9 @@ bit_out word number s view fits low =
       | inl far ↦ has_bit_past bits n below far.1 ∙ sym (ap (λ b. not (nat_eq n number) && b) (sym (ap (λ p. p n) (word_members word s view fits)) ∙ has_bit_past word n fits far.1) ∙ and_false (not (nat_eq n number)))
       | inr near ↦ has_bit_removed word (1 * 2 ^ number % 2 ^ 64) n (pow_below number low) near.1 ∙ (λ i. not (has_bit_pow number n low i) && word_members word s view fits i n)
     ] ∙ sym (member_remove s number n)) where
-  and_false : (b : Bool) → (b && false) ≡ false
-  and_false true = refl
-  and_false false = refl
+      and_false : (b : Bool) → (b && false) ≡ false
+      and_false true = refl
+      and_false false = refl
 
 pub no_bits : gathered (has_bit 0) 64 ≡ set.empty
 no_bits = same_members (gathered (has_bit 0) 64) set.empty (λ n. gathered_all (has_bit 0) 64 (λ k far. has_bit_zero k) n ∙ has_bit_zero n ∙ sym (set.contains-empty nat_cmp n))

@@ -7,7 +7,7 @@ use Rattle.std.proofs.lemmas.Bool.{ne_eqb}
 use Rattle.std.proofs.lemmas.Bool.Decides.{eqb_tells}
 use Rattle.number_set.specs.Levels.{upper_numbers, level_numbers}
 use Rattle.std.proofs.lemmas.List.{length-replicate}
-use Rattle.number_set.specs.Numbers.{Numbers, numbers_in, numbers_of, room_for}
+use Rattle.number_set.specs.Numbers.{Numbers, numbers_in, room_for}
 use Rattle.number_set.proofs.OneAbove.{empty_words}
 
 pub members_of : {s t : Numbers} → s ≡ t → s.members ≡ t.members

@@ -1,6 +1,6 @@
 -- Bits of words, and masks.
-use Rattle.std.proofs.Common.{◌≡◌, ◌≢◌, ℕ, zero, suc, ◌+◌, ◌-◌, ◌*◌, ◌/◌, ◌%◌, ◌^◌, ◌<◌, ◌≤◌, max, min, Bool, true, false, not, inl, inr, refl, sym, ap, ◌∙◌, subst, eq-eqb, arith, w64}
-use Rattle.std.specs.Prelude.{nat_eq, nat_lt, ◌&&◌, ◌||◌, bit_and, bit_or}
+use Rattle.std.proofs.Common.{◌≡◌, ℕ, ◌+◌, ◌-◌, ◌*◌, ◌/◌, ◌%◌, ◌^◌, ◌<◌, ◌≤◌, max, min, Bool, true, false, not, inl, inr, refl, sym, ap, ◌∙◌, subst, eq-eqb, arith, w64}
+use Rattle.std.specs.Prelude.{nat_eq, ◌&&◌, ◌||◌, bit_and, bit_or}
 use Rattle.std.specs.Int.{bit_at, trailing_zeros, leading_zeros}
 use Rattle.std.proofs.Math.Bool.{and_comm, or_comm}
 use Rattle.std.proofs.lemmas.Bool.{ne_eqb}

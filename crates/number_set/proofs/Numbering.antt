@@ -1,10 +1,10 @@
 -- The words of a level, after a bit of one was set or cleared, and what their bits tell of numbers.
-use Rattle.std.proofs.Common.{◌≡◌, ◌≢◌, ℕ, ◌+◌, ◌-◌, ◌*◌, ◌/◌, ◌%◌, ◌^◌, ◌<◌, ◌≤◌, Bool, true, false, not, List, length, replicate, inl, inr, refl, sym, ap, ◌∙◌, slice_index, get_or-set_same, get_or-set_other, eq-eqb, arith}
+use Rattle.std.proofs.Common.{◌≡◌, ◌≢◌, ℕ, ◌+◌, ◌-◌, ◌*◌, ◌/◌, ◌%◌, ◌^◌, ◌<◌, ◌≤◌, Bool, true, false, not, List, length, inl, inr, refl, sym, ap, ◌∙◌, slice_index, get_or-set_same, get_or-set_other, eq-eqb, arith}
 use Rattle.std.specs.Prelude.{nat_eq, nat_lt, ◌&&◌, ◌||◌, bit_and, bit_or, slice_set}
 use Rattle.std.proofs.lemmas.Bool.{ne_eqb, ltb-false, ltb-true, lt-ltb}
 use Rattle.std.proofs.lemmas.Bool.Decides.{eqb_tells, leb_tells, nat_tests}
 use Rattle.std.proofs.lemmas.List.{get_or_past}
-use Rattle.std.proofs.lemmas.Nat.{and_le_l, le_or_r}
+use Rattle.std.proofs.lemmas.Nat.{le_or_r}
 use Rattle.number_set.specs.Bits.{has_bit, has_number, is_filled}
 use Rattle.number_set.specs.Finds.{IsFirst, IsLast, IsNext, IsPrevious, IsFirstIn, IsLastIn, NoneAbove, NoneBelow, NoneAboveIn, NoneBelowIn}
 use Rattle.number_set.proofs.Masking.{has_bit_added, has_bit_removed, has_bit_pow, has_bit_zero, pow_below, pow_some}

@@ -1,5 +1,5 @@
 -- A level of a set, and the set above it: what was put in and taken out, and what searches find.
-use Rattle.std.proofs.Common.{◌≡◌, ℕ, zero, suc, ◌+◌, ◌*◌, ◌/◌, ◌%◌, ◌<◌, ◌≤◌, Bool, true, false, not, List, length, replicate, inl, inr, refl, sym, ap, ◌∙◌, subst, slice_index, eq-eqb, arith}
+use Rattle.std.proofs.Common.{◌≡◌, ℕ, zero, suc, ◌/◌, ◌%◌, Bool, true, false, not, List, length, replicate, inl, inr, refl, sym, ap, ◌∙◌, subst, slice_index, eq-eqb, arith}
 use Rattle.std.specs.Prelude.{nat_eq, nat_lt, ◌&&◌, ◌||◌}
 use Rattle.std.specs.Ordering.{nat_cmp}
 use Rattle.std.specs.FinSet as set
@@ -11,7 +11,7 @@ use Rattle.std.proofs.lemmas.List.{with_items_is}
 use Rattle.number_set.specs.Bits.{has_bit, has_number, is_filled}
 use Rattle.number_set.specs.Finds.{IsFirst, IsLast, IsNext, IsPrevious, NoneAtAll, NoneAbove, NoneBelow, IsFirstIn, IsLastIn, NoneAboveIn, NoneBelowIn}
 use Rattle.number_set.specs.Levels.{Summarizes}
-use Rattle.number_set.specs.Numbers.{Numbers, numbers_in, numbers_of}
+use Rattle.number_set.specs.Numbers.{numbers_of}
 use Rattle.number_set.proofs.Gathering.{member, list_members, member_insert, member_remove, same_members}
 use Rattle.number_set.proofs.Masking.{clash, has_bit_zero}
 use Rattle.number_set.proofs.Numbering.{no_number}
@@ -29,6 +29,7 @@ module _ (words new : List ℕ) (number : ℕ) where
       was : (b : Bool) → not b ≡ false → b ≡ true
       was true e = refl
       was false e = clash true refl e
+
       absorbed : (nat_eq i (number / 64) || is_filled words i) ≡ is_filled words i
       absorbed = elim (eqb_tells i (number / 64)) [
         | inl at ↦ ap (λ b. b || is_filled words i) (eq-eqb i (number / 64) at.1) ∙ sym (ap (is_filled words) at.1 ∙ was (is_filled words (number / 64)) had)

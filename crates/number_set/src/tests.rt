@@ -17,7 +17,10 @@ impl Draws {
         requires { 0 < bound }
         ensures { result < bound }
     {
-        self.state = self.state.wrapping_mul(6364136223846793005).wrapping_add(1442695040888963407);
+        self.state = self
+            .state
+            .wrapping_mul(6364136223846793005)
+            .wrapping_add(1442695040888963407);
         (self.state >> 33) as u32 % bound
     }
 }
@@ -48,17 +51,39 @@ fn highest(table: &[bool], bound: u32) -> Option<u32>
 }
 
 /// The set answers what the table says, at this number and at both ends.
-fn agree<const L: usize>(rt: &impl Abort, set: &NumberSet<L>, table: &[bool], bound: u32, number: u32)
+fn agree<const L: usize>(
+    rt: &impl Abort,
+    set: &NumberSet<L>,
+    table: &[bool],
+    bound: u32,
+    number: u32,
+)
     requires number { number < bound }
     requires table { length table.now ≡ bound }
     requires set { bound ≤ set.now.bound }
 {
-    assert_eq!(rt; set.contains(number), table[number as usize], "contains {number}");
+    assert_eq!(rt;
+        set.contains(number),
+        table[number as usize],
+        "contains {number}"
+    );
     assert_eq!(rt; set.first(), lowest(table, 0, bound), "first");
     assert_eq!(rt; set.last(), highest(table, bound), "last");
-    assert_eq!(rt; set.after(number), lowest(table, number + 1, bound), "after {number}");
-    assert_eq!(rt; set.before(number), highest(table, number), "before {number}");
-    assert_eq!(rt; set.at_or_after(number), lowest(table, number, bound), "at or after {number}");
+    assert_eq!(rt;
+        set.after(number),
+        lowest(table, number + 1, bound),
+        "after {number}"
+    );
+    assert_eq!(rt;
+        set.before(number),
+        highest(table, number),
+        "before {number}"
+    );
+    assert_eq!(rt;
+        set.at_or_after(number),
+        lowest(table, number, bound),
+        "at or after {number}"
+    );
 }
 
 /// Numbers are drawn, and put in or taken out where they were put in before. They lie in a few places, so that words fill

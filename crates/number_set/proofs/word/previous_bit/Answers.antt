@@ -1,4 +1,4 @@
-use Rattle.std.proofs.Common.{refl, arith}
+use Rattle.std.proofs.Common.{refl}
 use Rattle.number_set.proofs.Masking.{no_previous, pow_some, previous_set}
 use Rattle.number_set.proofs.word.previous_bit.Goals as goal
 

@@ -1,4 +1,4 @@
-use Rattle.std.proofs.Common.{◌*◌, ◌/◌, ◌%◌, ◌^◌, ◌<◌, length, slice_index, arith}
+use Rattle.std.proofs.Common.{◌*◌, ◌/◌, ◌%◌, ◌^◌, slice_index, arith}
 use Rattle.std.specs.Prelude.{bit_or}
 use Rattle.number_set.proofs.Numbering.{added_some, filled_put, none_or_filled, put_in}
 use Rattle.number_set.proofs.words.insert.Goals as goal

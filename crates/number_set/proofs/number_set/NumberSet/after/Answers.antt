@@ -1,4 +1,4 @@
-use Rattle.std.proofs.Common.{◌/◌, subst}
+use Rattle.std.proofs.Common.{subst}
 use Rattle.number_set.specs.Bits.{has_number}
 use Rattle.number_set.specs.Finds.{IsFirstIn, IsNext, NoneAboveIn}
 use Rattle.number_set.proofs.OneAbove.{next_in_other, next_in_word, none_next}

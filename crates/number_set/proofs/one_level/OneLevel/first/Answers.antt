@@ -1,4 +1,4 @@
-use Rattle.std.proofs.Common.{subst, arith}
+use Rattle.std.proofs.Common.{subst}
 use Rattle.number_set.specs.Finds.{IsFirst}
 use Rattle.number_set.proofs.Gathering.{no_members, word_members}
 use Rattle.number_set.proofs.one_level.OneLevel.first.Goals as goal

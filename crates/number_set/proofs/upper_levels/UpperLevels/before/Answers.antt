@@ -1,4 +1,4 @@
-use Rattle.std.proofs.Common.{◌/◌, subst}
+use Rattle.std.proofs.Common.{subst}
 use Rattle.number_set.specs.Bits.{has_number}
 use Rattle.number_set.specs.Finds.{IsLastIn, IsPrevious, NoneBelowIn}
 use Rattle.number_set.proofs.OneAbove.{previous_in_other, previous_in_word, none_previous}

@@ -1,5 +1,5 @@
 use Rattle.std.proofs.Common.{◌≡◌, ℕ, ◌*◌, ◌/◌, not, length, sym, ap, ◌∙◌, arith}
-use Rattle.std.specs.Prelude.{nat_eq, ◌&&◌, ◌||◌}
+use Rattle.std.specs.Prelude.{nat_eq, ◌||◌}
 use Rattle.std.specs.Vec.{with_items}
 use Rattle.number_set.specs.Bits.{has_number, is_filled}
 use Rattle.number_set.proofs.OneAbove.{kept_above, numbers_put, put_above, written}
