@@ -47,9 +47,6 @@ room_of_three n levels most low high fewer = elim (eqb_tells levels 2) [
   | inr more ↦ (let three : levels ≡ 3 = omega (arith, low, high, fewer, more.1) in subst (λ l. n ≤ 64 ^ l) three most)
 ]
 
-pub room_of_four : (n levels : ℕ) → n ≤ 64 ^ levels → levels ≡ 4 → n ≤ 16777216
-room_of_four n levels most four = subst (λ l. n ≤ 64 ^ l) four most
-
 -- the bound of levels that are opened
 pub upper_bound : (levels n bound : ℕ) (second : set.FinSet nat_cmp) (third : List ℕ) → third ≡ replicate n 0 → (levels ≢ 2 → n ≡ (bound + 63) / 64) → (upper_numbers levels second third).bound ≡ room_for levels bound
 upper_bound levels n bound second third is count = elim (eqb_tells levels 2) [

@@ -1,12 +1,11 @@
 -- The words of a level, after a bit of one was set or cleared, and what their bits tell of numbers.
 use Rattle.std.proofs.Common.{◌≡◌, ◌≢◌, ℕ, ◌+◌, ◌-◌, ◌*◌, ◌/◌, ◌%◌, ◌^◌, ◌<◌, ◌≤◌, Bool, true, false, not, List, length, inl, inr, refl, sym, ap, ◌∙◌, slice_index, get_or-set_same, get_or-set_other, eq-eqb, arith}
 use Rattle.std.specs.Prelude.{nat_eq, nat_lt, ◌&&◌, ◌||◌, bit_and, bit_or, slice_set}
-use Rattle.std.proofs.lemmas.Bool.{ne_eqb, ltb-false, ltb-true, lt-ltb}
-use Rattle.std.proofs.lemmas.Bool.Decides.{eqb_tells, leb_tells, nat_tests}
-use Rattle.std.proofs.lemmas.List.{get_or_past}
+use Rattle.std.proofs.lemmas.Bool.{ne_eqb, ltb-false, lt-ltb}
+use Rattle.std.proofs.lemmas.Bool.Decides.{eqb_tells, nat_tests}
 use Rattle.std.proofs.lemmas.Nat.{le_or_r}
 use Rattle.number_set.specs.Bits.{has_bit, has_number, is_filled}
-use Rattle.number_set.specs.Finds.{IsFirst, IsLast, IsNext, IsPrevious, IsFirstIn, IsLastIn, NoneAbove, NoneBelow, NoneAboveIn, NoneBelowIn}
+use Rattle.number_set.specs.Finds.{IsFirst, IsLast, IsFirstIn, IsLastIn}
 use Rattle.number_set.proofs.Masking.{has_bit_added, has_bit_removed, has_bit_pow, has_bit_zero, pow_below, pow_some}
 
 bit_of : (words : List ℕ) (n word : ℕ) → n / 64 ≡ word → has_number words n ≡ has_bit (slice_index words word) (n % 64)
@@ -20,15 +19,6 @@ pub no_number : (words : List ℕ) (n : ℕ) → is_filled words (n / 64) ≡ fa
 no_number words n empty =
     let none : slice_index words (n / 64) ≡ 0 = omega (arith, ltb-false 0 (slice_index words (n / 64)) empty) in
     ap (λ w. has_bit w (n % 64)) none ∙ has_bit_zero (n % 64)
-
-pub some_word : (words : List ℕ) (word : ℕ) → is_filled words word ≡ true → 0 < slice_index words word
-some_word words word is = ltb-true 0 (slice_index words word) is
-
-pub word_within : (words : List ℕ) (word : ℕ) → is_filled words word ≡ true → word < length words
-word_within words word is = elim (leb_tells (length words) word) [
-  | inl past ↦ (let some = some_word words word is in let none = get_or_past words word 0 past.1 in absurd (omega arith))
-  | inr within ↦ within.1
-]
 
 -- what is found in one word
 pub first_here : (words : List ℕ) (word bit n : ℕ) → IsFirst (has_bit (slice_index words word)) bit → bit < 64 → n ≡ 64 * word + bit → IsFirstIn (has_number words) word n
@@ -50,34 +40,6 @@ last_here words word bit n last low is =
       passes = bit_of words n word here ∙ ap (has_bit (slice_index words word)) rest ∙ last.passes;
       after = λ k at more. bit_of words k word at ∙ last.after (k % 64) (omega (arith, at, more, is, low));
     }
-
-pub next_here : (words : List ℕ) (from bit : ℕ) → IsNext (has_bit (slice_index words (from / 64))) (from % 64) bit → bit < 64 → IsNext (has_number words) from (64 * (from / 64) + bit)
-next_here words from bit next low =
-    let here : (64 * (from / 64) + bit) / 64 ≡ from / 64 = omega (arith, low) in
-    let rest : (64 * (from / 64) + bit) % 64 ≡ bit = omega (arith, low) in
-    record {
-      above = omega (arith, next.above);
-      passes = bit_of words (64 * (from / 64) + bit) (from / 64) here ∙ ap (has_bit (slice_index words (from / 64))) rest ∙ next.passes;
-      between = λ n h l. let at : n / 64 ≡ from / 64 = omega (arith, h, l, low) in
-          bit_of words n (from / 64) at ∙ next.between (n % 64) (omega (arith, at, h)) (omega (arith, at, l));
-    }
-
-pub no_next_here : (words : List ℕ) (from : ℕ) → NoneAbove (has_bit (slice_index words (from / 64))) (from % 64) → NoneAboveIn (has_number words) from
-no_next_here words from none k at more = bit_of words k (from / 64) at ∙ none (k % 64) (omega (arith, at, more))
-
-pub previous_here : (words : List ℕ) (from bit : ℕ) → IsPrevious (has_bit (slice_index words (from / 64))) (from % 64) bit → bit < 64 → IsPrevious (has_number words) from (64 * (from / 64) + bit)
-previous_here words from bit previous low =
-    let here : (64 * (from / 64) + bit) / 64 ≡ from / 64 = omega (arith, low) in
-    let rest : (64 * (from / 64) + bit) % 64 ≡ bit = omega (arith, low) in
-    record {
-      below = omega (arith, previous.below);
-      passes = bit_of words (64 * (from / 64) + bit) (from / 64) here ∙ ap (has_bit (slice_index words (from / 64))) rest ∙ previous.passes;
-      between = λ n h l. let at : n / 64 ≡ from / 64 = omega (arith, h, l) in
-          bit_of words n (from / 64) at ∙ previous.between (n % 64) (omega (arith, at, h)) (omega (arith, at, l));
-    }
-
-pub no_previous_here : (words : List ℕ) (from : ℕ) → NoneBelow (has_bit (slice_index words (from / 64))) (from % 64) → NoneBelowIn (has_number words) from
-no_previous_here words from none k at less = bit_of words k (from / 64) at ∙ none (k % 64) (omega (arith, at, less))
 
 -- which words have a number, after one of them changed
 module _ (words : List ℕ) (word bits : ℕ) (within : word < length words) where
