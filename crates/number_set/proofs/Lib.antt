@@ -1,0 +1,5 @@
+pub mod Gathering
+pub mod Levels
+pub mod Masking
+pub mod Numbering
+pub mod OneAbove

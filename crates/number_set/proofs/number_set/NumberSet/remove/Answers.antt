@@ -1,0 +1,33 @@
+use Rattle.std.proofs.Common.{◌≡◌, ℕ, ◌*◌, ◌/◌, not, length, ap, ◌∙◌, arith}
+use Rattle.std.specs.Prelude.{nat_eq, ◌&&◌}
+use Rattle.std.specs.Vec.{with_items}
+use Rattle.number_set.specs.Bits.{has_number, is_filled}
+use Rattle.number_set.proofs.OneAbove.{left_above, numbers_cut, cut_above, written}
+use Rattle.number_set.proofs.Levels.{bound_of, in_fourth, members_of, of_fourth}
+use Rattle.number_set.proofs.number_set.NumberSet.remove.Goals as goal
+
+pub invariant_of-self-then-remove : goal.invariant_of-self-then-remove
+invariant_of-self-then-remove g c four =
+    let long = written c.self.inside.words c.deref_mut.result.now c.remove-2.new.words c.deref_mut.ensures.value c.remove-2.ensures.as_long (λ old new. length new ≡ length old) c.remove-2.ensures.as_long in
+    (omega (arith, long, (c.self.invariant four).0, bound_of c.remove-then-remove.ensures), omega (arith, (c.self.invariant four).1, bound_of c.remove-then-remove.ensures), cut_above c.self.inside.words.items (with_items c.self.inside.words c.remove-2.new.words).items c.args.number c.remove-2.result (written c.self.inside.words c.deref_mut.result.now c.remove-2.new.words c.deref_mut.ensures.value c.remove-2.ensures.as_long (λ old new. (word : ℕ) → is_filled new word ≡ (not (c.remove-2.result && nat_eq word (c.args.number / 64)) && is_filled old word)) c.remove-2.ensures.filled) c.self.inside.above.members (c.self.invariant four).2 c.if-remove.true c.remove-then-remove.new.self.members (members_of c.remove-then-remove.ensures))
+
+pub invariant_of-self-else-remove : goal.invariant_of-self-else-remove
+invariant_of-self-else-remove g c four =
+    let long = written c.self.inside.words c.deref_mut.result.now c.remove-2.new.words c.deref_mut.ensures.value c.remove-2.ensures.as_long (λ old new. length new ≡ length old) c.remove-2.ensures.as_long in
+    (omega (arith, long, (c.self.invariant four).0), (c.self.invariant four).1, left_above c.self.inside.words.items (with_items c.self.inside.words c.remove-2.new.words).items c.args.number c.remove-2.result (written c.self.inside.words c.deref_mut.result.now c.remove-2.new.words c.deref_mut.ensures.value c.remove-2.ensures.as_long (λ old new. (word : ℕ) → is_filled new word ≡ (not (c.remove-2.result && nat_eq word (c.args.number / 64)) && is_filled old word)) c.remove-2.ensures.filled) c.self.inside.above.members (c.self.invariant four).2 c.if-remove.false)
+
+pub returns-then-remove : goal.returns-then-remove
+returns-then-remove g c =
+    let long = written c.self.inside.words c.deref_mut.result.now c.remove-2.new.words c.deref_mut.ensures.value c.remove-2.ensures.as_long (λ old new. length new ≡ length old) c.remove-2.ensures.as_long in
+    of_fourth g.row.L c.remove-then-remove.new.self (with_items c.self.inside.words c.remove-2.new.words).items c.if-this-ne4.false ∙ (λ i. record {
+      members = numbers_cut c.self.inside.words.items (with_items c.self.inside.words c.remove-2.new.words).items c.args.number (written c.self.inside.words c.deref_mut.result.now c.remove-2.new.words c.deref_mut.ensures.value c.remove-2.ensures.as_long (λ old new. (n : ℕ) → has_number new n ≡ (not (nat_eq n c.args.number) && has_number old n)) c.remove-2.ensures.numbers) c.args.self.now.members (members_of (in_fourth _ c.self.inside.above c.self.inside.words.items c.args.self.now c.if-this-ne4.false c.self.view_is)) i;
+      bound = (ap (λ n. 64 * n) long ∙ bound_of (in_fourth _ c.self.inside.above c.self.inside.words.items c.args.self.now c.if-this-ne4.false c.self.view_is)) i;
+    })
+
+pub returns-else-remove : goal.returns-else-remove
+returns-else-remove g c =
+    let long = written c.self.inside.words c.deref_mut.result.now c.remove-2.new.words c.deref_mut.ensures.value c.remove-2.ensures.as_long (λ old new. length new ≡ length old) c.remove-2.ensures.as_long in
+    of_fourth g.row.L c.self.inside.above (with_items c.self.inside.words c.remove-2.new.words).items c.if-this-ne4.false ∙ (λ i. record {
+      members = numbers_cut c.self.inside.words.items (with_items c.self.inside.words c.remove-2.new.words).items c.args.number (written c.self.inside.words c.deref_mut.result.now c.remove-2.new.words c.deref_mut.ensures.value c.remove-2.ensures.as_long (λ old new. (n : ℕ) → has_number new n ≡ (not (nat_eq n c.args.number) && has_number old n)) c.remove-2.ensures.numbers) c.args.self.now.members (members_of (in_fourth _ c.self.inside.above c.self.inside.words.items c.args.self.now c.if-this-ne4.false c.self.view_is)) i;
+      bound = (ap (λ n. 64 * n) long ∙ bound_of (in_fourth _ c.self.inside.above c.self.inside.words.items c.args.self.now c.if-this-ne4.false c.self.view_is)) i;
+    })

@@ -1,0 +1,4 @@
+pub mod Bits
+pub mod Finds
+pub mod Levels
+pub mod Numbers

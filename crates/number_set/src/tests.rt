@@ -1,0 +1,127 @@
+//! Sets beside tables that say of each number whether it is a member, in which a search is a walk.
+
+ghost use Rattle.std.specs.Prelude.{◌≡◌, ◌^◌, ◌<◌, ◌≤◌, length};
+
+use crate::NumberSet;
+use std::alloc::Global;
+use std::process::Abort;
+
+/// Numbers that are drawn from a fixed seed.
+#[derive(Drop)]
+struct Draws {
+    state: u64,
+}
+
+impl Draws {
+    fn below(&mut self, bound: u32) -> u32
+        requires { 0 < bound }
+        ensures { result < bound }
+    {
+        self.state = self
+            .state
+            .wrapping_mul(6364136223846793005)
+            .wrapping_add(1442695040888963407);
+        (self.state >> 33) as u32 % bound
+    }
+}
+
+/// The lowest member from one number on and below another.
+fn lowest(table: &[bool], from: u32, bound: u32) -> Option<u32>
+    requires { bound ≤ length table.now }
+{
+    for number in from..bound {
+        if table[number as usize] {
+            return Some(number);
+        }
+    }
+    None
+}
+
+/// The highest member below a number.
+fn highest(table: &[bool], bound: u32) -> Option<u32>
+    requires { bound ≤ length table.now }
+{
+    for below in 0..bound {
+        let number = bound - 1 - below;
+        if table[number as usize] {
+            return Some(number);
+        }
+    }
+    None
+}
+
+/// The set answers what the table says, at this number and at both ends.
+fn agree<const L: usize>(
+    rt: &impl Abort,
+    set: &NumberSet<L>,
+    table: &[bool],
+    bound: u32,
+    number: u32,
+)
+    requires number { number < bound }
+    requires table { length table.now ≡ bound }
+    requires set { bound ≤ set.now.bound }
+{
+    assert_eq!(rt;
+        set.contains(number),
+        table[number as usize],
+        "contains {number}"
+    );
+    assert_eq!(rt; set.first(), lowest(table, 0, bound), "first");
+    assert_eq!(rt; set.last(), highest(table, bound), "last");
+    assert_eq!(rt;
+        set.after(number),
+        lowest(table, number + 1, bound),
+        "after {number}"
+    );
+    assert_eq!(rt;
+        set.before(number),
+        highest(table, number),
+        "before {number}"
+    );
+    assert_eq!(rt;
+        set.at_or_after(number),
+        lowest(table, number, bound),
+        "at or after {number}"
+    );
+}
+
+/// Numbers are drawn, and put in or taken out where they were put in before. They lie in a few places, so that words fill
+/// and become empty again.
+fn change_and_ask<const L: usize>(rt: &impl Abort, alloc: Global, bound: u32, steps: u32)
+    requires levels { (2 ≤ L) × (L ≤ 4) }
+    requires bound { bound ≤ 64 ^ L }
+    requires some { 1000 < bound }
+{
+    let mut set = NumberSet::<L>::open(alloc, bound).expect(rt, "memory");
+    let mut table = Vec::from_elem(alloc, false, bound as usize).expect(rt, "memory");
+    let mut draws = Draws { state: 1 };
+    for _ in 0..steps {
+        let number = draws.below(7) * (bound / 8) + draws.below(70);
+        let was = set.contains(number);
+        table[number as usize] = !was;
+        if was {
+            set.remove(number);
+        } else {
+            set.insert(number);
+        }
+        agree::<L>(rt, &set, &table, bound, number);
+        let other = draws.below(bound);
+        agree::<L>(rt, &set, &table, bound, other);
+    }
+}
+
+#[test]
+fn two_levels_answer_as_a_table(rt: HostRuntime) {
+    change_and_ask::<2>(&rt, rt.alloc(), 4_096, 1_000);
+}
+
+#[test]
+fn three_levels_answer_as_a_table(rt: HostRuntime) {
+    change_and_ask::<3>(&rt, rt.alloc(), 20_000, 500);
+}
+
+#[test]
+fn four_levels_answer_as_a_table(rt: HostRuntime) {
+    change_and_ask::<4>(&rt, rt.alloc(), 300_000, 100);
+}

@@ -1,0 +1,160 @@
+//! The levels of a set above its fourth one.
+
+ghost use Rattle.std.specs.Prelude.{◌≡◌, ℕ, ◌<◌, ◌≤◌, MatchOption, IfOk, IfSome};
+ghost use Rattle.std.specs.FinSet as set;
+ghost use Rattle.number_set.specs.Finds.{IsFirst, IsLast, IsNext, IsPrevious, NoneAtAll, NoneAbove, NoneBelow};
+ghost use Rattle.number_set.specs.Numbers.{room_for};
+
+use crate::two_levels::TwoLevels;
+use crate::words;
+use std::alloc::{AllocError, Global};
+use std::marker::Model;
+
+/// The first two levels of a set, and its third one where it has more than two.
+#[derive(Drop)]
+pub(crate) struct UpperLevels<const L: usize> {
+    words: Vec<u64>,
+    above: TwoLevels,
+}
+
+impl<const L: usize> Model for UpperLevels<L> {
+    ghost use Rattle.std.specs.Prelude.{◌≡◌, ◌≢◌, ◌≤◌, length};
+    ghost use Rattle.number_set.specs.Levels.{upper_numbers, Summarizes};
+    ghost use Rattle.number_set.specs.Numbers.{Numbers, coded_numbers};
+
+    ghost Value = { Numbers };
+
+    ghost coded = { coded_numbers };
+
+    ghost view = { λ s. upper_numbers L s.above s.words.items };
+
+    ghost invariant = { λ s. L ≢ 2 → (length s.words.items ≤ 4096) × Summarizes s.above s.words.items };
+}
+
+impl<const L: usize> UpperLevels<L> {
+    /// Empty levels with room for the numbers below a bound, or an error where there is no memory for them.
+    pub(crate) fn open(alloc: Global, bound: u32) -> Result<Self, AllocError>
+        requires two { L ≡ 2 → bound ≤ 4096 }
+        requires three { bound ≤ 262144 }
+        ensures empty { IfOk result (λ s. s.members ≡ set.empty) }
+        ensures bound { IfOk result (λ s. s.bound ≡ room_for L bound) }
+        ensures enough { IfOk result (λ s. bound ≤ s.bound) }
+        ensures most { IfOk result (λ s. s.bound ≤ 262144) }
+    {
+        let count = if L == 2 { 0 } else { (bound + 63) / 64 };
+        Ok(UpperLevels {
+            words: words::open(alloc, count)?,
+            above: TwoLevels::new(),
+        })
+    }
+
+    /// Whether a number is a member.
+    #[inline]
+    pub(crate) fn contains(&self, number: u32) -> bool
+        requires { number < self.now.bound }
+        ensures { result ≡ set.contains self.now.members number }
+    {
+        if L == 2 {
+            return self.above.contains(number);
+        }
+        words::contains(&self.words, number)
+    }
+
+    /// Puts a number in.
+    #[inline]
+    pub(crate) fn insert(&mut self, number: u32)
+        requires { number < self.old.bound }
+        ensures { self.new ≡ record self.old { members = set.insert self.old.members number } }
+    {
+        if L == 2 {
+            self.above.insert(number);
+            return;
+        }
+        if words::insert(&mut self.words, number) {
+            self.above.insert(number / 64);
+        }
+    }
+
+    /// Takes a number out.
+    #[inline]
+    pub(crate) fn remove(&mut self, number: u32)
+        requires { number < self.old.bound }
+        ensures { self.new ≡ record self.old { members = set.remove self.old.members number } }
+    {
+        if L == 2 {
+            self.above.remove(number);
+            return;
+        }
+        if words::remove(&mut self.words, number) {
+            self.above.remove(number / 64);
+        }
+    }
+
+    /// The lowest number of the set, if it has one.
+    #[inline]
+    pub(crate) fn first(&self) -> Option<u32>
+        ensures first { MatchOption result (NoneAtAll (set.contains self.now.members)) (IsFirst (set.contains self.now.members)) }
+        ensures within { IfSome result (λ n. n < self.now.bound) }
+    {
+        if L == 2 {
+            return self.above.first();
+        }
+        let Some(word) = self.above.first() else {
+            return None;
+        };
+        Some(words::first_in(&self.words, word))
+    }
+
+    /// The highest number of the set, if it has one.
+    #[inline]
+    pub(crate) fn last(&self) -> Option<u32>
+        ensures last { MatchOption result (NoneAtAll (set.contains self.now.members)) (IsLast (set.contains self.now.members)) }
+        ensures within { IfSome result (λ n. n < self.now.bound) }
+    {
+        if L == 2 {
+            return self.above.last();
+        }
+        let Some(word) = self.above.last() else {
+            return None;
+        };
+        Some(words::last_in(&self.words, word))
+    }
+
+    /// The lowest number of the set above another one, if it has one.
+    #[inline]
+    pub(crate) fn after(&self, number: u32) -> Option<u32>
+        requires { number < self.now.bound }
+        ensures next { MatchOption result (NoneAbove (set.contains self.now.members) number) (IsNext (set.contains self.now.members) number) }
+        ensures within { IfSome result (λ n. n < self.now.bound) }
+    {
+        if L == 2 {
+            return self.above.after(number);
+        }
+        if let Some(found) = words::next_in_word(&self.words, number) {
+            return Some(found);
+        }
+        let Some(word) = self.above.after(number / 64) else {
+            return None;
+        };
+        Some(words::first_in(&self.words, word))
+    }
+
+    /// The highest number of the set below another one, if it has one.
+    #[inline]
+    pub(crate) fn before(&self, number: u32) -> Option<u32>
+        requires { number < self.now.bound }
+        ensures previous { MatchOption result (NoneBelow (set.contains self.now.members) number) (IsPrevious (set.contains self.now.members) number) }
+        ensures within { IfSome result (λ n. n < self.now.bound) }
+    {
+        if L == 2 {
+            return self.above.before(number);
+        }
+        if let Some(found) = words::previous_in_word(&self.words, number) {
+            return Some(found);
+        }
+        let Some(word) = self.above.before(number / 64) else {
+            return None;
+        };
+        Some(words::last_in(&self.words, word))
+    }
+}

@@ -1,0 +1,53 @@
+//! The bits of one word.
+
+ghost use Rattle.std.specs.Prelude.{◌≡◌, ◌<◌, MatchOption, IfSome};
+ghost use Rattle.number_set.specs.Bits.{has_bit};
+ghost use Rattle.number_set.specs.Finds.{IsFirst, IsLast, IsNext, IsPrevious, NoneAbove, NoneBelow};
+
+/// The lowest bit that is set in a word that isn't empty.
+#[inline(always)]
+pub(crate) fn lowest_bit(word: u64) -> u32
+    requires { 0 < word }
+    ensures first { IsFirst (has_bit word) result }
+    ensures within { result < 64 }
+{
+    word.trailing_zeros()
+}
+
+/// The highest bit that is set in a word that isn't empty.
+#[inline(always)]
+pub(crate) fn highest_bit(word: u64) -> u32
+    requires { 0 < word }
+    ensures last { IsLast (has_bit word) result }
+    ensures within { result < 64 }
+{
+    63 - word.leading_zeros()
+}
+
+/// The lowest bit above another one that is set, if there is one.
+#[inline(always)]
+pub(crate) fn next_bit(word: u64, from: u32) -> Option<u32>
+    requires { from < 64 }
+    ensures next { MatchOption result (NoneAbove (has_bit word) from) (IsNext (has_bit word) from) }
+    ensures within { IfSome result (λ bit. bit < 64) }
+{
+    let above = word >> from >> 1;
+    if above == 0 {
+        return None;
+    }
+    Some(from + 1 + above.trailing_zeros())
+}
+
+/// The highest bit below another one that is set, if there is one.
+#[inline(always)]
+pub(crate) fn previous_bit(word: u64, from: u32) -> Option<u32>
+    requires { from < 64 }
+    ensures previous { MatchOption result (NoneBelow (has_bit word) from) (IsPrevious (has_bit word) from) }
+    ensures within { IfSome result (λ bit. bit < 64) }
+{
+    let below = word & ((1 << from) - 1);
+    if below == 0 {
+        return None;
+    }
+    Some(highest_bit(below))
+}
