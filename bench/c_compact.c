@@ -1,6 +1,7 @@
-/* What a page of 4 KiB takes in a round on one thread, from C: by compactd_compact, by the same round over plain tables with one memcpy a page,
- * and by the memcpy of the same pages alone. All three have 4,096 frames of which every fourth has a page. Each line that it prints has what
- * was done, a tab, and nanoseconds. All are done in turn, several times. */
+/* What a page of 4 KiB takes in a round on one thread, from C: by compactd_compact, by compactd_move_pages in slices, by isolating and
+ * committing each page, by the same round over plain tables with one memcpy a page, and by the memcpy of the same pages alone. All have 4,096
+ * frames of which every fourth has a page. Each line that it prints has what was done, a tab, and nanoseconds. All are done in turn, several
+ * times. */
 #include "compactd.h"
 
 #include <stdio.h>
@@ -13,6 +14,7 @@
 #define EACH 4
 #define MOVED (FRAMES / EACH * (EACH - 1) / EACH)
 #define TURNS 10
+#define SLICE 16
 
 static int is_well = 1;
 
@@ -49,6 +51,27 @@ static void compact_pool(void)
     compactd_bool met;
 
     need(compactd_compact(&pool, &met) == COMPACTD_OK);
+}
+
+static void move_slices(void)
+{
+    uint32_t moved, stopped = COMPACTD_OK;
+
+    need(compactd_begin_round(&pool) == COMPACTD_OK);
+    while (stopped == COMPACTD_OK && is_well)
+        need(compactd_move_pages(&pool, SLICE, &moved, &stopped) == COMPACTD_OK);
+    need(stopped == COMPACTD_MET);
+}
+
+static void carry_pages(void)
+{
+    static uint64_t copy[WORDS];
+    compactd_moving_page page;
+    compactd_bool moved;
+
+    need(compactd_begin_round(&pool) == COMPACTD_OK);
+    while (compactd_isolate(&pool, &page, copy, WORDS) == COMPACTD_OK)
+        need(compactd_commit(&pool, &page, copy, WORDS, &moved) == COMPACTD_OK);
 }
 
 static void close_pool(void)
@@ -218,6 +241,8 @@ int main(void)
         printf("memcpy\t%.0f\n", page_of(fill_frames, copy_pages, close_frames));
         printf("plain C\t%.0f\n", page_of(open_plain, compact_plain, close_plain));
         printf("compactd_compact\t%.0f\n", page_of(open_pool, compact_pool, close_pool));
+        printf("slices of %d\t%.0f\n", SLICE, page_of(open_pool, move_slices, close_pool));
+        printf("carried\t%.0f\n", page_of(open_pool, carry_pages, close_pool));
     }
     return is_well ? 0 : 1;
 }

@@ -2,11 +2,12 @@
 
     python3 bench/c_compact.py [RUNS]
 
-`compactd_compact` makes a round over 4,096 frames of which every fourth has a page. The same round is made over plain tables in C, with one
-memcpy a page, and the same pages are copied by memcpy alone. The program does each in turn ten times, and runs so many times, 5 if no
-number is given. The table has the median and the least of all, and what each is to the memcpy. The aims: a page of `compactd_compact` takes
-at most 1.2 times the memcpy of the page, and at most 1.05 times the plain round. The load of the machine is told before and after. The
-library is that of `bench/c_calls.py`. It needs gcc."""
+`compactd_compact` makes a round over 4,096 frames of which every fourth has a page. The same round is made by `compactd_move_pages` in slices
+of 16 pages, by `compactd_isolate` and `compactd_commit` of each page, which carry it, and over plain tables in C with one memcpy a page. The
+same pages are also copied by memcpy alone. The program does each in turn ten times, and runs so many times, 5 if no number is given. The
+table has the median and the least of all, and what each is to the memcpy. The aims: a page of `compactd_compact` takes at most 1.2 times the
+memcpy of the page, and at most 1.05 times the plain round. The load of the machine is told before and after. The library is that of
+`bench/c_calls.py`. It needs gcc."""
 
 import argparse
 import pathlib

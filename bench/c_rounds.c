@@ -1,6 +1,6 @@
 /* What a page of a round takes, from C, on a pool of 4,096 frames of which every fourth has a page of 4 KiB: by compactd_compact, by the
- * slices of compactd_round, and by threads that share a round. Each line that it prints has what was done, a tab, and nanoseconds. All are
- * done in turn, several times. */
+ * slices of compactd_round, which are calls of compactd_move_pages, by slices whose pages are isolated and committed one after the other, and
+ * by threads that share a round. Each line that it prints has what was done, a tab, and nanoseconds. All are done in turn, several times. */
 #include "compactd.h"
 #include "compactd_round.h"
 
@@ -60,6 +60,30 @@ static void make_slices(unsigned pages)
     compactd_round_counts counts;
 
     need(compactd_round(&pool, &lock, pages, &counts));
+}
+
+/* Isolates and commits so many pages at most, with one buffer. Whether there were as many. */
+static int carry(unsigned pages)
+{
+    static uint64_t words[WORDS];
+    compactd_moving_page page;
+    compactd_bool moved;
+
+    for (; pages > 0 && compactd_isolate(&pool, &page, words, WORDS) == COMPACTD_OK; pages--)
+        need(compactd_commit(&pool, &page, words, WORDS, &moved));
+    return pages == 0;
+}
+
+static void carry_slices(unsigned pages)
+{
+    int is_whole = 1;
+
+    need(compactd_begin_round(&pool));
+    while (is_whole) {
+        pthread_mutex_lock(&lock);
+        is_whole = carry(pages);
+        pthread_mutex_unlock(&lock);
+    }
 }
 
 /* A thread that shares a round, with the pages of a batch, their words, and its copies of these. */
@@ -137,6 +161,7 @@ int main(void)
         printf("compactd_compact\t%.0f\n", page_of(compact, 0));
         for (at = 0; at < sizeof slices / sizeof slices[0]; at++)
             printf("slices of %u\t%.0f\n", slices[at], page_of(make_slices, slices[at]));
+        printf("carried, slices of %d\t%.0f\n", BATCH, page_of(carry_slices, BATCH));
         for (at = 1; at <= THREADS; at++)
             printf("shared by %u\t%.0f\n", at, page_of(share, at));
     }

@@ -2,7 +2,8 @@
 
     python3 bench/c_rounds.py [RUNS]
 
-A round is made by `compactd_compact`, by `compactd_round` in slices of so many pages, and by so many threads that share it. Each of these
+A round is made by `compactd_compact`; by `compactd_round` in slices of so many pages, each of which is a call of `compactd_move_pages`; in
+slices of sixteen pages that are carried: isolated and committed one after the other; and by so many threads that share it. Each of these
 takes sixteen pages under the lock, copies them without it, and brings them back as it takes the next ones. The program makes each round in
 turn ten times, and runs so many times, 5 if no number is given. The table has the median and the least of all, and what each is to that of
 slices of 16 pages. The load of the machine is told before and after. The library is that of `bench/c_calls.py`. It needs gcc."""

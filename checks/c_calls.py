@@ -1,10 +1,11 @@
 """Random calls of the library for C are answered as by the machine of `checks/machine.py`.
 
 A million calls are made through `libcompactd.so` and beside them on the machine, with pages of both sizes, with a journal and without one,
-among them rounds, and pages that are moved by hand. After each the number of its refusal is compared, and what it tells; where it is
-refused, what it would have told has to be untouched. The reserved words of a structure have to be 0 once a call has filled it, and are
-random in those that a call is given. Numbers are also out of their ranges. All refusals come up but those of a pool that is closed,
-open already or can't have its memory, which `checks/c_exports.py` tries. At the end the records of each pool are compared too."""
+among them rounds, slices of rounds, and pages that are moved by hand. After each the number of its refusal is compared, and what it
+tells; where it is refused, what it would have told has to be untouched. The reserved words of a structure have to be 0 once a call has
+filled it, and are random in those that a call is given. Numbers are also out of their ranges. All refusals come up but those of a pool
+that is closed, open already or can't have its memory, which `checks/c_exports.py` tries. At the end the records of each pool are compared
+too."""
 
 import collections
 import ctypes
@@ -106,6 +107,7 @@ ARGUMENTS = {
     "audit": [told(RoundCounts)],
     "compact": [told(byte)],
     "begin_round": [],
+    "move_pages": [u32, told(u32), told(u32)],
     "isolate": [told(MovingPage), told(u64), size],
     "commit": [told(MovingPage), told(u64), size, told(byte)],
     "put_back": [told(MovingPage)],
@@ -206,6 +208,9 @@ class Chooser:
 
     describe = quiet = audit = compact = begin_round = info
 
+    def move_pages(self):
+        return (self.chance.choice([0, 1, 1, 2, self.number(64)]),)
+
     def free_runs(self):
         return (self.number(11),)
 
@@ -224,10 +229,11 @@ OFTEN = {
     **dict.fromkeys(["pin", "unpin"], 40),
     **dict.fromkeys(["take_order", "give_order", "read_block", "write_block"], 15),
     **dict.fromkeys(["mark", "unmark", "marked", "info", "quiet", "audit", "describe", "free_runs", "fragmentation"], 5),
-    **dict.fromkeys(["compact", "begin_round"], 1),
     **dict.fromkeys(["isolate", "commit"], 20),
     "next_moving": 10,
-    "put_back": 5,
+    **dict.fromkeys(["put_back", "move_pages"], 5),
+    "begin_round": 2,
+    "compact": 1,
 }
 # The calls that end the quiet of a round where they are accepted.
 LOUD = {"map", "map_at", "share", "unmap", "pin", "unpin", "take_order", "give_order", "mark", "unmark"}

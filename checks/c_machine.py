@@ -4,6 +4,7 @@ import machine
 from machine import Refused
 
 MET = 53  # the answer of an isolation where the scanners have met
+STOPPED = {None: 0, "journalfull": 2, "met": MET}  # why no more pages are moved
 NOT_MOVING = 54
 ORDERS = range(10)  # of free runs
 
@@ -250,6 +251,10 @@ class ByMachine:
 
     def begin_round(self):
         self.zone.begin_round()
+
+    def move_pages(self, most):
+        moved, stopped = self.zone.move_pages(most)
+        return moved, STOPPED[stopped]
 
     def isolate(self, count):
         """The serial of the next page, its flags and its words."""

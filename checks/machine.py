@@ -341,15 +341,20 @@ class Zone:
 
     def move_all(self):
         """A round: how many pages it moves, and why it stops."""
-        moved = 0
         self.begin_round()
-        try:
-            while page := self.take_next():
-                self.end_move(page, True)
-                moved += 1
-        except Refused:
-            return moved, "journalfull"
-        return moved, "met"
+        return self.move_pages(self.size)
+
+    def move_pages(self, most):
+        """Moves the next pages of a round, so many at most: how many, and why it stops before, if it does."""
+        for moved in range(most):
+            try:
+                page = self.take_next()
+            except Refused:
+                return moved, "journalfull"
+            if page is None:
+                return moved, "met"
+            self.end_move(page, True)
+        return most, None
 
     def compact(self):
         if self.is_open:

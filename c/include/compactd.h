@@ -27,8 +27,8 @@
  * - An open pool is closed in the end; otherwise its memory is lost.
  *
  * Three caps of a pool's life. The way out of each is to close the pool and open another.
- * - 2^32 - 1 isolations. After them compactd_isolate answers JOURNAL_FULL, and the scanners of compactd_compact don't meet. At 2 us a page
- *   that is 2.4 hours of steady compaction.
+ * - 2^32 - 1 isolations: each page that a round takes is isolated. After them compactd_isolate answers JOURNAL_FULL, compactd_move_pages
+ *   stops so, and the scanners of compactd_compact don't meet. At 2 us a page that is 2.4 hours of steady compaction.
  * - 2^53 recorded calls of a pool that keeps no journal; each word of compactd_read and compactd_write counts as one. After them recorded
  *   calls are refused as JOURNAL_FULL.
  * - A journal that is kept has the places that it was opened with. It can't be emptied.
@@ -396,12 +396,21 @@ uint32_t compactd_next_moving(compactd_pool *pool, uint32_t from, compactd_movin
  * Refused: CLOSED. */
 uint32_t compactd_compact(compactd_pool *pool, compactd_bool *met) COMPACTD_CALL;
 
-/* A round whose pages the caller moves: compactd_begin_round; then compactd_isolate until it answers MET; and for each page compactd_commit
- * or compactd_put_back, by any thread and in any order. compactd_round.h makes such a round in slices. */
+/* A round in slices: compactd_begin_round; then compactd_move_pages until it gets why there were no more pages. Where no other call is made
+ * between them, this leaves what compactd_compact leaves. compactd_round.h makes such a round beside other threads.
+ *
+ * A round whose pages the caller carries: compactd_begin_round; then compactd_isolate until it answers MET; and for each page compactd_commit
+ * or compactd_put_back, by any thread and in any order. */
 
 /* Begins a round. A round that was begun before ends; pages that are moving stay so. The call is unrecorded.
  * Refused: CLOSED. */
 uint32_t compactd_begin_round(compactd_pool *pool) COMPACTD_CALL;
+
+/* Moves the next pages of the round that was begun last, so many at most, each by one copy from frame to frame. Gets how many were moved, and
+ * in `stopped` 0 where they are as many as were asked for, and else why there were no more: JOURNAL_FULL where the journal has no room for a
+ * further move, or 2^32 - 1 pages were isolated; MET, also where no round was begun. With `most` 0 it moves nothing, and both are 0.
+ * Refused: CLOSED. */
+uint32_t compactd_move_pages(compactd_pool *pool, uint32_t most, uint32_t *moved, uint32_t *stopped) COMPACTD_CALL;
 
 /* Isolates the next page of the round and copies its words. `count` is the number of words of a page, and `words` has room for them. The
  * page is moving until it is committed or put back.

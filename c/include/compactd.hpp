@@ -213,6 +213,13 @@ private:
     std::vector<std::uint64_t> words_;
 };
 
+// What Pool::move_pages did: how many pages it moved, and in `stopped` 0 where they are as many as were asked for, and else why there were
+// no more, COMPACTD_MET or COMPACTD_JOURNAL_FULL.
+struct Slice {
+    std::uint32_t moved;
+    std::uint32_t stopped;
+};
+
 // An open pool. One that was moved from is closed: its calls throw CLOSED.
 class Pool {
 public:
@@ -391,8 +398,18 @@ public:
         return met;
     }
 
-    // A round whose pages the caller moves: begin_round, then isolate until it returns an empty Moving, and for each page its commit.
+    // A round in slices: begin_round, then move_pages until its Slice has stopped.
+    //
+    // A round whose pages the caller carries: begin_round, then isolate until it returns an empty Moving, and for each page its commit.
     void begin_round() { detail::done(compactd_begin_round(raw())); }
+
+    // Moves the next pages of the round, so many at most, each by one copy from frame to frame.
+    Slice move_pages(std::uint32_t most)
+    {
+        Slice slice = Slice();
+        detail::done(compactd_move_pages(raw(), most, &slice.moved, &slice.stopped));
+        return slice;
+    }
 
     // Isolates the next page of the round. It allocates the words of the page.
     Moving isolate()

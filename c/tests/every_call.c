@@ -34,6 +34,7 @@ static compactd_record record;
 static uint64_t records, room;
 static uint32_t runs;
 static int32_t fragmentation;
+static uint32_t moved, stopped;
 
 /* Each call on a pool that is closed: from the beginning, or by compactd_close. */
 static void closed(compactd_pool *pool)
@@ -67,6 +68,9 @@ static void closed(compactd_pool *pool)
     IS(CLOSED, compactd_record_at(pool, 0, &record));
     IS(CLOSED, compactd_compact(pool, &is_so));
     IS(CLOSED, compactd_begin_round(pool));
+    moved = stopped = 7;
+    IS(CLOSED, compactd_move_pages(pool, 1, &moved, &stopped));
+    HOLDS(moved == 7 && stopped == 7);
     IS(CLOSED, compactd_isolate(pool, &page, words, 8));
     IS(CLOSED, compactd_commit(pool, &page, words, 8, &is_so));
     IS(CLOSED, compactd_put_back(pool, &page));
@@ -268,6 +272,84 @@ static void moved_by_hand(compactd_pool *pool, uint32_t page_words)
     HOLDS(value == 6);
 }
 
+/* A call that moves so many pages at most moves as many as these, and stops for this. */
+static void moves(compactd_pool *pool, uint32_t most, uint32_t wanted, uint32_t why)
+{
+    moved = stopped = 7;
+    OK(compactd_move_pages(pool, most, &moved, &stopped));
+    HOLDS(moved == wanted && stopped == why);
+}
+
+/* A page with a word of its own is in this frame, and isn't moving. */
+static void is_in_frame(compactd_pool *pool, uint32_t vpage, uint32_t wanted)
+{
+    OK(compactd_look(pool, 0, vpage, &info));
+    HOLDS(info.frame == wanted && !info.moving);
+    OK(compactd_load(pool, 0, 0, vpage, 7, &value));
+    HOLDS(value == 10 + vpage);
+}
+
+/* Rounds in slices, over pages in the frames from 0 on: of no page, of some pages, of all that are left, and of more. */
+static void slices(uint32_t page_words)
+{
+    compactd_pool pool = {0};
+    uint32_t at;
+
+    OK(compactd_open(&pool, page_words, 1));
+    for (at = 0; at < 5; at++) {
+        OK(compactd_map(&pool, 0, 0, at, 0, &frame));
+        OK(compactd_store(&pool, 0, 0, at, 7, 10 + at));
+    }
+    moves(&pool, 0, 0, COMPACTD_OK);
+    moves(&pool, 1, 0, COMPACTD_MET); /* no round was begun */
+    is_in_frame(&pool, 0, 0);
+    OK(compactd_begin_round(&pool));
+    moves(&pool, 0, 0, COMPACTD_OK);
+    is_in_frame(&pool, 0, 0);
+    moves(&pool, 2, 2, COMPACTD_OK);
+    is_in_frame(&pool, 0, 511);
+    is_in_frame(&pool, 1, 510);
+    is_in_frame(&pool, 2, 2);
+    OK(compactd_pin(&pool, 0, 0, 3));
+    OK(compactd_isolate(&pool, &page, words, page_words));
+    moves(&pool, 1, 1, COMPACTD_OK); /* over a page that is pinned, and beside one that is moving */
+    is_in_frame(&pool, 3, 3);
+    is_in_frame(&pool, 4, 508);
+    OK(compactd_commit(&pool, &page, words, page_words, &is_so));
+    is_in_frame(&pool, 2, 509);
+    moves(&pool, 1, 0, COMPACTD_MET);
+    moves(&pool, 0, 0, COMPACTD_OK);
+    OK(compactd_unpin(&pool, 0, 0, 3));
+    OK(compactd_begin_round(&pool));
+    moves(&pool, 0xFFFFFFFFu, 1, COMPACTD_MET);
+    is_in_frame(&pool, 3, 507);
+    OK(compactd_audit(&pool, &round_counts));
+    HOLDS(round_counts.isolated == 5 && round_counts.moved == 5 && round_counts.back == 0);
+    OK(compactd_quiet(&pool, &is_so));
+    HOLDS(is_so);
+    OK(compactd_close(&pool));
+}
+
+/* A journal with places for three pages and for one move. */
+static void slices_of_a_journal(uint32_t page_words)
+{
+    compactd_pool pool = {0};
+    uint32_t at;
+
+    OK(compactd_open_journal(&pool, page_words, 1, 5));
+    for (at = 0; at < 3; at++)
+        OK(compactd_map(&pool, 0, 0, at, 0, &frame));
+    OK(compactd_begin_round(&pool));
+    moves(&pool, 3, 1, COMPACTD_JOURNAL_FULL);
+    moves(&pool, 1, 0, COMPACTD_JOURNAL_FULL);
+    moves(&pool, 0, 0, COMPACTD_OK);
+    OK(compactd_record_at(&pool, 3, &record));
+    HOLDS(record.kind == COMPACTD_WAS_ISOLATED && record.number == 0);
+    OK(compactd_record_at(&pool, 4, &record));
+    HOLDS(record.kind == COMPACTD_WAS_MOVED && record.number == 0);
+    OK(compactd_close(&pool));
+}
+
 /* Two moving pages whose serials and numbers nobody kept are found, from any frame on, and put back. */
 static void lost(compactd_pool *pool, uint32_t page_words)
 {
@@ -424,6 +506,8 @@ static void both_sizes(uint32_t page_words)
     OK(compactd_close(&pool));
     closed(&pool);
     journal(page_words);
+    slices(page_words);
+    slices_of_a_journal(page_words);
     every_number_of_blocks(page_words);
 }
 

@@ -17,11 +17,10 @@ static compactd_pool *seen(compactd_pool *pool)
     return pool;
 }
 
-#define compactd_describe(pool, geometry) compactd_describe(seen(pool), geometry)
 #define compactd_begin_round(pool) compactd_begin_round(seen(pool))
+#define compactd_move_pages(pool, most, moved, stopped) compactd_move_pages(seen(pool), most, moved, stopped)
 #define compactd_isolate(pool, page, words, count) compactd_isolate(seen(pool), page, words, count)
 #define compactd_commit(pool, page, words, count, moved) compactd_commit(seen(pool), page, words, count, moved)
-#define compactd_put_back(pool, page) compactd_put_back(seen(pool), page)
 #define compactd_load(pool, client, space, vpage, word, value) compactd_load(seen(pool), client, space, vpage, word, value)
 #define compactd_store(pool, client, space, vpage, word, value) compactd_store(seen(pool), client, space, vpage, word, value)
 #define compactd_map(pool, client, space, vpage, unmovable, frame) compactd_map(seen(pool), client, space, vpage, unmovable, frame)

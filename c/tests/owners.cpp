@@ -188,6 +188,27 @@ void moving_pages()
     HOLDS(!first && pool.audit().back == 2 && refusal([&] { first.put_back(); }) == COMPACTD_STRANGER);
 }
 
+void slices()
+{
+    Pool pool(PageSize::bytes64, 1, 8);
+    compactd::Slice slice = pool.move_pages(1);
+    HOLDS(slice.moved == 0 && slice.stopped == COMPACTD_MET); // no round was begun
+    for (std::uint32_t at = 0; at < 4; at++)
+        pool.map(0, {0, at});
+    pool.begin_round();
+    slice = pool.move_pages(0);
+    HOLDS(slice.moved == 0 && slice.stopped == COMPACTD_OK && pool.look(low).frame == 0);
+    slice = pool.move_pages(1);
+    HOLDS(slice.moved == 1 && slice.stopped == COMPACTD_OK && pool.look(low).frame == 511 && pool.info().moving == 0);
+    slice = pool.move_pages(9);
+    HOLDS(slice.moved == 1 && slice.stopped == COMPACTD_JOURNAL_FULL && pool.look(high).frame == 510);
+    const Pool other = std::move(pool);
+    HOLDS(other.audit().moved == 2 && refusal([&] { pool.move_pages(1); }) == COMPACTD_CLOSED);
+    pool = with_round();
+    slice = pool.move_pages(9);
+    HOLDS(slice.moved == 2 && slice.stopped == COMPACTD_MET && pool.load(0, low, 1) == 9);
+}
+
 // A page whose carrier goes is put back, also by an exception, by another page that takes its place, and where another ended its move.
 void carriers_that_go()
 {
@@ -243,6 +264,7 @@ int main()
     pools_that_go();
     pages_in_a_buffer();
     moving_pages();
+    slices();
     carriers_that_go();
     questions();
     journals();

@@ -87,6 +87,7 @@ static void make_calls_on_pages(compactd_pool *pool, uint32_t page_words)
 static void make_rounds(compactd_pool *pool, uint32_t page_words)
 {
     compactd_move move;
+    uint32_t moved, stopped;
 
     made(compactd_mark(pool, 7));
     made(compactd_marked(pool, 7, &is_so));
@@ -97,6 +98,7 @@ static void make_rounds(compactd_pool *pool, uint32_t page_words)
     made(compactd_commit(pool, &page, words, page_words, &is_so));
     made(compactd_isolate(pool, &page, words, page_words));
     made(compactd_put_back(pool, &page));
+    made(compactd_move_pages(pool, 3, &moved, &stopped));
     made(compactd_compact(pool, &is_so));
 }
 

@@ -1,8 +1,8 @@
 /* Rounds of compactd_round.h leave each page where compactd_compact leaves it, whatever the size of their slices. Each of their calls is
  * made under the lock, no slice has more pages than were asked for, and no page is moving where the lock is let go. They end as they should
- * where the pool is closed, where no page is asked for at a time, and where the journal is full. So they do where a copy has another word,
- * where the move of a page is ended by another, and where the thread is cancelled. A thread that waits for a lock of compactd_round_lock
- * gets it before the round has ended. */
+ * where the pool is closed, before the round or between slices, where no page is asked for at a time, and where the journal is full. So they
+ * do where pages are moved or pinned by others between slices, and where the thread is cancelled. A thread that waits for a lock of
+ * compactd_round_lock gets it before the round has ended. */
 #include "compactd.h"
 
 #include <pthread.h>
@@ -10,18 +10,23 @@
 #include <string.h>
 #include <time.h>
 
+#define PAGES 1024
+#define KEPT 256
+#define PINNED 508 /* a page that a round moves, and not among its first ones */
+
 static pthread_mutex_t lock;
 
 static int is_well = 1;
 
-/* What becomes of every tenth page, or of the round. */
-enum trouble { NO_TROUBLE, IS_CHANGED, IS_ENDED, IS_CANCELLED, IS_AWAITED };
+/* What happens between slices, or in one of them. */
+enum trouble { NO_TROUBLE, IS_CLOSED, IS_CARRIED, IS_PINNED, IS_CANCELLED, IS_AWAITED };
 static enum trouble trouble = NO_TROUBLE;
+static uint32_t carried; /* pages that others moved */
 
 /* The round that is made. */
 static compactd_pool *current;
 static uint32_t slice_pages; /* how many pages a slice may have */
-static uint32_t taken;       /* pages that were taken in this slice */
+static uint32_t taken;       /* pages that were moved in this slice */
 static uint32_t holds;       /* how often it took the lock */
 static int is_held;
 
@@ -48,6 +53,30 @@ static int take_lock(pthread_mutex_t *given)
     return answer;
 }
 
+/* Moves the next page of the round by hand, as another thread may between slices. */
+static void carry(void)
+{
+    compactd_moving_page page;
+    uint64_t words[8];
+    compactd_bool moved = 0;
+
+    if (compactd_isolate(current, &page, words, 8) != COMPACTD_OK)
+        return;
+    is_well &= compactd_commit(current, &page, words, 8, &moved) == COMPACTD_OK && moved;
+    carried++;
+}
+
+/* What others do between slices. The first slice is made under the second hold of the lock. */
+static void meddle(void)
+{
+    if (trouble == IS_CLOSED && holds == 3)
+        is_well &= compactd_close(current) == COMPACTD_OK;
+    if (trouble == IS_CARRIED)
+        carry();
+    if (trouble == IS_PINNED && holds == 3)
+        is_well &= compactd_pin(current, 0, 0, PINNED) == COMPACTD_OK;
+}
+
 static int let_go(pthread_mutex_t *given)
 {
     compactd_counts counts;
@@ -55,6 +84,7 @@ static int let_go(pthread_mutex_t *given)
     is_well &= is_held && taken <= slice_pages;
     if (compactd_info(current, &counts) == COMPACTD_OK)
         is_well &= counts.moving == 0;
+    meddle();
     is_held = 0;
     return pthread_mutex_unlock(given);
 }
@@ -66,60 +96,39 @@ static compactd_pool *held(compactd_pool *pool)
 }
 
 /* Starts a thread that waits for the lock, which is held, and gives it time to begin. */
-static void await(const compactd_moving_page *page)
+static void await(void)
 {
     const struct timespec millisecond = {0, 1000000};
 
-    if (page->serial == 0)
+    if (holds == 2)
         is_well &= pthread_create(&waiting, NULL, take_turn, NULL) == 0;
     if (!had_turn)
         nanosleep(&millisecond, NULL);
 }
 
-static uint32_t isolate(compactd_pool *pool, compactd_moving_page *page, uint64_t *words, size_t count)
+static uint32_t move_pages(compactd_pool *pool, uint32_t most, uint32_t *moved, uint32_t *stopped)
 {
-    const uint32_t answer = compactd_isolate(held(pool), page, words, count);
+    const uint32_t answer = compactd_move_pages(held(pool), most, moved, stopped);
 
     if (answer == COMPACTD_OK)
-        taken++;
+        taken += *moved;
     if (answer == COMPACTD_OK && trouble == IS_AWAITED)
-        await(page);
-    return answer;
-}
-
-static uint32_t commit(compactd_pool *pool, const compactd_moving_page *page, const uint64_t *words, size_t count, compactd_bool *moved)
-{
-    const int is_tenth = page->serial % 10 == 0;
-    uint64_t changed[512];
-
-    memcpy(changed, words, count * sizeof words[0]);
-    if (trouble == IS_CHANGED && is_tenth)
-        changed[count - 1] ^= 1;
-    if (trouble == IS_ENDED && is_tenth)
-        is_well &= compactd_put_back(held(pool), page) == COMPACTD_OK;
-    if (trouble == IS_CANCELLED && page->serial == 10)
+        await();
+    if (trouble == IS_CANCELLED && holds == 3)
         pthread_cancel(pthread_self());
-    return compactd_commit(held(pool), page, changed, count, moved);
+    return answer;
 }
 
 #define pthread_mutex_lock take_lock
 #define pthread_mutex_unlock let_go
-#define compactd_describe(pool, geometry) compactd_describe(held(pool), geometry)
 #define compactd_begin_round(pool) compactd_begin_round(held(pool))
-#define compactd_put_back(pool, page) compactd_put_back(held(pool), page)
-#define compactd_isolate isolate
-#define compactd_commit commit
+#define compactd_move_pages move_pages
 #include "compactd_round.h"
 #undef pthread_mutex_lock
 #undef pthread_mutex_unlock
-#undef compactd_describe
 #undef compactd_begin_round
-#undef compactd_put_back
-#undef compactd_isolate
-#undef compactd_commit
+#undef compactd_move_pages
 
-#define PAGES 1024
-#define KEPT 256
 
 /* Fills a pool in which every fourth page is kept, and some have a pin. */
 static void fill(compactd_pool *pool)
@@ -151,7 +160,7 @@ static uint32_t make_round(compactd_pool *pool, uint32_t pages, enum trouble kin
 
     current = pool;
     slice_pages = pages;
-    holds = 0;
+    holds = carried = 0;
     trouble = kind;
     memset(counts, 0xFF, sizeof *counts);
     answer = compactd_round(pool, &lock, pages, counts);
@@ -199,29 +208,47 @@ static void try_slices(uint32_t page_words, uint32_t pages)
     compactd_close(&pool);
 }
 
-/* The pool doesn't take the words of every tenth page. It is put back, and the round goes on. */
-static void try_changed(uint32_t pages)
+/* Others close the pool after the second slice. */
+static void try_closed(uint32_t pages)
 {
     compactd_pool pool = {0};
     compactd_round_counts told;
 
+    open_filled(&pool, 512);
+    is_well &= make_round(&pool, pages, IS_CLOSED, &told) == COMPACTD_CLOSED && holds == 4;
+    is_well &= told.isolated == 2 * pages && told.moved == 2 * pages && told.back == 0;
+}
+
+/* Others move a page by hand after each slice, which is one that the round would have moved. */
+static void try_carried(uint32_t pages)
+{
+    compactd_pool alone = {0}, pool = {0};
+    compactd_round_counts told;
+    compactd_bool met = 0;
+
+    open_filled(&alone, 8);
     open_filled(&pool, 8);
-    is_well &= make_round(&pool, pages, IS_CHANGED, &told) == COMPACTD_STRANGER && told.back > 1;
+    is_well &= compactd_compact(&alone, &met) == COMPACTD_OK && met;
+    is_well &= make_round(&pool, pages, IS_CARRIED, &told) == COMPACTD_OK && carried > 0;
+    told.isolated += carried;
+    told.moved += carried;
     need_counts(&pool, &told);
-    need_same(&pool, &pool);
+    need_same(&alone, &pool);
+    compactd_close(&alone);
     compactd_close(&pool);
 }
 
-/* The move of every tenth page is ended by another, so that the round can't end it. */
-static void try_ended(uint32_t pages)
+/* Others pin a page that the round hasn't come to after the second slice. It stays, and the round goes on. */
+static void try_pinned(uint32_t pages)
 {
     compactd_pool pool = {0};
-    compactd_round_counts told, counts;
+    compactd_round_counts told;
+    compactd_page_info info;
 
-    open_filled(&pool, 512);
-    is_well &= make_round(&pool, pages, IS_ENDED, &told) == COMPACTD_STRANGER && told.back == 0;
-    is_well &= compactd_audit(&pool, &counts) == COMPACTD_OK && counts.isolated == told.isolated && counts.moved == told.moved;
-    is_well &= counts.back > 1 && counts.back == told.isolated - told.moved;
+    open_filled(&pool, 8);
+    is_well &= make_round(&pool, pages, IS_PINNED, &told) == COMPACTD_OK;
+    is_well &= compactd_look(&pool, 0, PINNED, &info) == COMPACTD_OK && info.frame == PINNED && info.pins == 1;
+    need_counts(&pool, &told);
     need_same(&pool, &pool);
     compactd_close(&pool);
 }
@@ -235,9 +262,9 @@ static void try_full_journal(uint32_t pages)
 
     is_well &= compactd_open_journal(&pool, 8, 2, PAGES + (PAGES - KEPT) + KEPT + 11 + 20) == COMPACTD_OK;
     fill(&pool);
-    is_well &= make_round(&pool, pages, NO_TROUBLE, &told) == COMPACTD_JOURNAL_FULL;
+    is_well &= make_round(&pool, pages, NO_TROUBLE, &told) == COMPACTD_JOURNAL_FULL && told.moved == 10;
     need_counts(&pool, &told);
-    is_well &= compactd_journal(&pool, &records, &room) == COMPACTD_OK && room < 2;
+    is_well &= compactd_journal(&pool, &records, &room) == COMPACTD_OK && room == 0;
     compactd_close(&pool);
 }
 
@@ -304,7 +331,7 @@ static void try_turns(void)
 
 int main(void)
 {
-    static const uint32_t pages[] = {1, 2, 7, 16, 1000, 0xFFFFFFFFu};
+    static const uint32_t pages[] = {1, 2, 7, 16, 1000, 0xFFFFFFFFu}; /* the first four leave several slices */
     unsigned at;
 
     if (compactd_round_lock(&lock) != 0)
@@ -313,9 +340,12 @@ int main(void)
     for (at = 0; at < sizeof pages / sizeof pages[0]; at++) {
         try_slices(8, pages[at]);
         try_slices(512, pages[at]);
-        try_changed(pages[at]);
-        try_ended(pages[at]);
+        try_carried(pages[at]);
         try_full_journal(pages[at]);
+    }
+    for (at = 0; at < 4; at++) {
+        try_closed(pages[at]);
+        try_pinned(pages[at]);
     }
     try_cancelled();
     for (at = 0; at < 10; at++)

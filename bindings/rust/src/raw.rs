@@ -126,6 +126,7 @@ extern "C" {
     pub fn compactd_audit(pool: *mut Handle, counts: *mut RoundCounts) -> u32;
     pub fn compactd_compact(pool: *mut Handle, met: *mut bool) -> u32;
     pub fn compactd_begin_round(pool: *mut Handle) -> u32;
+    pub fn compactd_move_pages(pool: *mut Handle, most: u32, moved: *mut u32, stopped: *mut u32) -> u32;
     pub fn compactd_isolate(pool: *mut Handle, page: *mut MovingPage, words: *mut u64, count: usize) -> u32;
     pub fn compactd_commit(pool: *mut Handle, page: *const MovingPage, words: *const u64, count: usize, moved: *mut bool) -> u32;
     pub fn compactd_put_back(pool: *mut Handle, page: *const MovingPage) -> u32;

@@ -2,8 +2,26 @@ use crate::pool::{done, is_done};
 use crate::raw;
 use crate::{Error, Kept, Moving, MovingPage, Pool};
 
-/// The answer of an isolation where the scanners have met.
+/// The number where the scanners have met: the answer of an isolation, and why a slice stopped.
 const MET: u32 = 53;
+
+/// What [`Pool::move_pages`] did.
+#[derive(Clone, Copy, Debug, PartialEq, Eq)]
+pub struct Slice {
+    /// How many pages were moved.
+    pub moved: u32,
+    /// Why there were no more; None where they are as many as were asked for.
+    pub stopped: Option<Stopped>,
+}
+
+/// Why a round moves no further page.
+#[derive(Clone, Copy, Debug, PartialEq, Eq, Hash)]
+pub enum Stopped {
+    /// The scanners have met, or no round was begun.
+    Met,
+    /// The journal has no room for a further move, or 2^32 - 1 pages were isolated.
+    JournalFull,
+}
 
 /// Rounds.
 impl Pool {
@@ -22,8 +40,8 @@ impl Pool {
         }
     }
 
-    /// Begins a round whose pages the caller moves by [`Pool::isolate`] and [`Pool::commit`]. A round that was begun before ends; pages
-    /// that are moving stay so.
+    /// Begins a round whose pages are moved in slices by [`Pool::move_pages`], or carried by [`Pool::isolate`] and [`Pool::commit`]. A
+    /// round that was begun before ends; pages that are moving stay so.
     ///
     /// ```
     /// # use compactd::{Address, Error, PageSize, Pool};
@@ -40,6 +58,39 @@ impl Pool {
     /// ```
     pub fn begin_round(&mut self) {
         is_done(unsafe { raw::compactd_begin_round(&mut self.raw) });
+    }
+
+    /// Moves the next pages of the round that was begun last, so many at most, each by one copy from frame to frame. In a pool that threads
+    /// share, they make their calls between two slices.
+    ///
+    /// ```
+    /// # use compactd::{Address, Error, PageSize, Pool, Stopped};
+    /// # fn main() -> Result<(), Error> {
+    /// # let mut pool = Pool::open(PageSize::Bytes64, 1)?;
+    /// # for page in 0..40 {
+    /// #     pool.map(0, Address::new(0, page), false)?;
+    /// # }
+    /// pool.begin_round();
+    /// let stopped = loop {
+    ///     let slice = pool.move_pages(16);
+    ///     if let Some(stopped) = slice.stopped {
+    ///         break stopped;
+    ///     }
+    /// };
+    /// assert_eq!(stopped, Stopped::Met);
+    /// assert_eq!(pool.audit()?.moved, 40);
+    /// # Ok(())
+    /// # }
+    /// ```
+    pub fn move_pages(&mut self, most: u32) -> Slice {
+        let (mut moved, mut stopped) = (0, 0);
+        is_done(unsafe { raw::compactd_move_pages(&mut self.raw, most, &mut moved, &mut stopped) });
+        let stopped = match stopped {
+            0 => None,
+            MET => Some(Stopped::Met),
+            _ => Some(Stopped::JournalFull),
+        };
+        Slice { moved, stopped }
     }
 
     /// Isolates the next page of the round, which is moving from then on; None where the scanners have met. It allocates the words.

@@ -2,7 +2,7 @@
 
 use std::sync::Mutex;
 
-use compactd::{Address, Error, Kept, MovingGuard, PageSize, Place, Pool, Record};
+use compactd::{Address, Error, Kept, MovingGuard, PageSize, Place, Pool, Record, Slice, Stopped};
 
 fn pool() -> Pool {
     Pool::open(PageSize::Bytes64, 1).expect("a pool of one pageblock can be opened")
@@ -98,6 +98,52 @@ fn moves_pages_with_a_buffer_of_the_caller() {
     assert_eq!(pool.commit_copy(page, &words), Ok(true));
     assert_eq!(pool.commit_copy(page, &words), Err(Error::Stranger));
     assert_eq!(pool.isolate_into(&mut words), Ok(None));
+}
+
+#[test]
+fn moves_pages_in_slices() {
+    let mut pool = Pool::open_journal(PageSize::Bytes64, 1, 11).unwrap();
+    assert_eq!(pool.move_pages(1), Slice { moved: 0, stopped: Some(Stopped::Met) });
+    for page in 0..5 {
+        pool.map(0, Address::new(0, page), false).unwrap();
+    }
+    pool.begin_round();
+    assert_eq!(pool.move_pages(0), Slice { moved: 0, stopped: None });
+    assert_eq!(pool.move_pages(2), Slice { moved: 2, stopped: None });
+    assert_eq!(pool.look(Address::new(0, 1)).unwrap().place, Place::At { frame: 510, unmovable: false, dirty: false });
+    assert_eq!(pool.move_pages(u32::MAX), Slice { moved: 1, stopped: Some(Stopped::JournalFull) });
+    assert_eq!((pool.audit().unwrap().moved, pool.journal(), pool.quiet()), (3, (11, 0), true));
+}
+
+#[test]
+fn moves_slices_beside_other_threads() {
+    let mut pool = pool();
+    for page in 0..100 {
+        pool.map(0, Address::new(0, page), false).unwrap();
+    }
+    let pool = Mutex::new(pool);
+    pool.lock().unwrap().begin_round();
+    let moved: u32 = std::thread::scope(|threads| {
+        let slices = [1, 2, 3].map(|most| threads.spawn(move_all(&pool, most)));
+        slices.into_iter().map(|it| it.join().unwrap()).sum()
+    });
+    let mut pool = pool.into_inner().unwrap();
+    assert_eq!((moved, pool.audit().unwrap().moved, pool.info().moving), (100, 100, 0));
+    assert!((0..100).all(|page| pool.load(0, Address::new(0, page), 0) == Ok(0)));
+}
+
+/// Moves so many pages under each hold of the lock until there are no more, and counts them.
+fn move_all(pool: &Mutex<Pool>, most: u32) -> impl FnOnce() -> u32 + Send + '_ {
+    move || {
+        let mut moved = 0;
+        loop {
+            let slice = pool.lock().unwrap().move_pages(most);
+            moved += slice.moved;
+            if slice.stopped.is_some() {
+                break moved;
+            }
+        }
+    }
 }
 
 /// A pool with a page in its frame 0 and a round that has begun.
