@@ -121,6 +121,7 @@ impl Ground {
 
     /// Gives the words from one on these values. They have to be here.
     #[inline(always)]
+    #[tactic(auto, using(crate::proofs::Lists::part_long))]
     pub fn store(&mut self, from: usize, values: &[u64])
         requires within { from + length values.now ≤ length self.old.words }
         requires here { AreHere (part self.old.here from (length values.now)) (length values.now) }
@@ -128,9 +129,13 @@ impl Ground {
         ensures here { self.new.here ≡ self.old.here }
         ensures at { self.new.at ≡ self.old.at }
     {
-        let mut row = self.lend(from, values.len());
-        row.words_mut().copy_from_slice(values);
-        self.take_back(from, row);
+        let at = unsafe { self.ptr.byte_add(from * 8) };
+        let mut words = replace_with(&mut self.right, (from, values.len()), take).into_vec(
+            at,
+            values.len(),
+        );
+        words.as_mut_slice().copy_from_slice(values);
+        replace_with(&mut self.right, (from, Right::of_vec(words)), put);
     }
 
     /// Sets the words of a part to 0. It has to be here.
