@@ -53,10 +53,12 @@ impl<const W: usize> WordNo<W> {
 
 const PAGES: u32 = 4096;
 
-/// A page's number in its zone, 0 to 4095.
+const MOST_PAGES: u32 = 16777216;
+
+/// A page's number in its zone: 0 to 4095 in a zone of 8 pageblocks, which is the largest that a script opens, and 0 to 16,777,215 in any.
 #[derive(Clone, Copy, Debug, PartialEq, Eq, PartialOrd, Ord, Hash)]
 pub struct PageNo {
-    page: u16,
+    page: u32,
 }
 
 impl Model for PageNo {
@@ -64,7 +66,7 @@ impl Model for PageNo {
 
     ghost view = { λ n. n.page };
 
-    ghost invariant = { λ n. n.page < 4096 };
+    ghost invariant = { λ n. n.page < 16777216 };
 
     ghost inverse = { λ n. record { page = n } };
 }
@@ -76,20 +78,30 @@ impl PageNo {
         ensures value { IfSome result (λ n. n ≡ number) }
     {
         if number < PAGES {
-            Some(PageNo {
-                page: number as u16,
-            })
+            Some(PageNo { page: number })
         } else {
             None
         }
     }
 
-    /// The number, 0 to 4095.
+    /// The number as one of 0 to 16,777,215. None where it is out of this range.
+    pub fn in_any_zone(number: u32) -> Option<Self>
+        ensures valid { IsSome result ↔ (number < 16777216) }
+        ensures value { IfSome result (λ n. n ≡ number) }
+    {
+        if number < MOST_PAGES {
+            Some(PageNo { page: number })
+        } else {
+            None
+        }
+    }
+
+    /// The number, 0 to 16,777,215.
     pub fn get(self) -> u32
         ensures value { result ≡ self }
-        ensures range { result < 4096 }
+        ensures range { result < 16777216 }
     {
-        u32::from(self.page)
+        self.page
     }
 }
 

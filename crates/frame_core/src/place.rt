@@ -44,10 +44,12 @@ impl ZoneNo {
 
 const FRAMES: u32 = 4096;
 
-/// A frame's number in its zone, 0 to 4095.
+const MOST_FRAMES: u32 = 16777216;
+
+/// A frame's number in its zone: 0 to 4095 in a zone of 8 pageblocks, which is the largest that a script opens, and 0 to 16,777,215 in any.
 #[derive(Clone, Copy, Debug, PartialEq, Eq, PartialOrd, Ord, Hash)]
 pub struct FrameNo {
-    frame: u16,
+    frame: u32,
 }
 
 impl Model for FrameNo {
@@ -55,7 +57,7 @@ impl Model for FrameNo {
 
     ghost view = { λ n. n.frame };
 
-    ghost invariant = { λ n. n.frame < 4096 };
+    ghost invariant = { λ n. n.frame < 16777216 };
 
     ghost inverse = { λ n. record { frame = n } };
 }
@@ -67,29 +69,42 @@ impl FrameNo {
         ensures value { IfSome result (λ n. n ≡ number) }
     {
         if number < FRAMES {
-            Some(FrameNo {
-                frame: number as u16,
-            })
+            Some(FrameNo { frame: number })
         } else {
             None
         }
     }
 
-    /// The number, 0 to 4095.
+    /// The number as one of 0 to 16,777,215. None where it is out of this range.
+    pub fn in_any_zone(number: u32) -> Option<Self>
+        ensures valid { IsSome result ↔ (number < 16777216) }
+        ensures value { IfSome result (λ n. n ≡ number) }
+    {
+        if number < MOST_FRAMES {
+            Some(FrameNo { frame: number })
+        } else {
+            None
+        }
+    }
+
+    /// The number, 0 to 16,777,215.
     pub fn get(self) -> u32
         ensures value { result ≡ self }
-        ensures range { result < 4096 }
+        ensures range { result < 16777216 }
     {
-        u32::from(self.frame)
+        self.frame
     }
 }
 
 const BLOCKS: u32 = 8;
 
-/// A pageblock's number in its zone, 0 to 7. Block b is the frames 512b to 512b + 511.
+const MOST_BLOCKS: u32 = 32768;
+
+/// A pageblock's number in its zone: 0 to 7 in a zone of 8 pageblocks, which is the largest that a script opens, and 0 to 32,767 in any. Block
+/// b is the frames 512b to 512b + 511.
 #[derive(Clone, Copy, Debug, PartialEq, Eq, PartialOrd, Ord, Hash)]
 pub struct BlockNo {
-    block: u8,
+    block: u16,
 }
 
 impl Model for BlockNo {
@@ -97,7 +112,7 @@ impl Model for BlockNo {
 
     ghost view = { λ n. n.block };
 
-    ghost invariant = { λ n. n.block < 8 };
+    ghost invariant = { λ n. n.block < 32768 };
 
     ghost inverse = { λ n. record { block = n } };
 }
@@ -110,17 +125,31 @@ impl BlockNo {
     {
         if number < BLOCKS {
             Some(BlockNo {
-                block: number as u8,
+                block: number as u16,
             })
         } else {
             None
         }
     }
 
-    /// The number, 0 to 7.
+    /// The number as one of 0 to 32,767. None where it is out of this range.
+    pub fn in_any_zone(number: u32) -> Option<Self>
+        ensures valid { IsSome result ↔ (number < 32768) }
+        ensures value { IfSome result (λ n. n ≡ number) }
+    {
+        if number < MOST_BLOCKS {
+            Some(BlockNo {
+                block: number as u16,
+            })
+        } else {
+            None
+        }
+    }
+
+    /// The number, 0 to 32,767.
     pub fn get(self) -> u32
         ensures value { result ≡ self }
-        ensures range { result < 8 }
+        ensures range { result < 32768 }
     {
         u32::from(self.block)
     }
@@ -222,7 +251,7 @@ pub fn block_of(frame: FrameNo) -> BlockNo
     ensures { result ≡ frame / 512 }
 {
     BlockNo {
-        block: (frame.get() / 512) as u8,
+        block: (frame.get() / 512) as u16,
     }
 }
 
@@ -231,6 +260,6 @@ pub fn first_frame(block: BlockNo) -> FrameNo
     ensures { result ≡ 512 * block }
 {
     FrameNo {
-        frame: (block.get() * 512) as u16,
+        frame: block.get() * 512,
     }
 }
