@@ -18,6 +18,7 @@ use Rattle.scan_core.specs.Runs.{has_block, is_run, with_run}
 use Rattle.scan_core.specs.Seen.{seen}
 use Rattle.scan_core.specs.Sound.{frames_of, IsSound}
 use Rattle.scan_core.specs.declared.frames.Frames.TheInside.{Inside}
+use Rattle.std.proofs.lemmas.Nat.{pow_pos}
 use Rattle.scan_core.proofs.FrameSets.{all_pass, insert_if, remove_if, keep_if}
 use Rattle.scan_core.proofs.Masking.{clash}
 use Rattle.scan_core.proofs.Numbering.{member_insert, member_remove}
@@ -308,6 +309,14 @@ module _ {now : Frames} (z : Inside) (sound : IsSound z) (view : frames_of z ≡
   block_within here =
       let parts = both (is_aligned order first) (nat_le (first + 2 ^ order) (length now.states)) here in
       omega (arith, leb-true (first + 2 ^ order) (length now.states) parts.1, ap (λ (frames : Frames). length frames.states) view, seen_length z sound)
+
+  pub block_first : has_block now.states order first ≡ true → first < 4096
+  block_first here =
+      let some : 0 < 2 ^ order = pow_pos order in
+      omega (arith, block_within here, some, sound.whole, sound.few)
+
+  pub run_first : is_run now.states order first ≡ true → first < 4096
+  run_first run = block_first (both _ (all_from (free_at now.states) first (2 ^ order)) run).0
 
   pub run_free : is_run now.states order first ≡ true → (n : ℕ) → in_run first (2 ^ order) n ≡ true → free_at now.states n ≡ true
   run_free run = all_pass (free_at now.states) first (2 ^ order) (both (has_block now.states order first) _ run).1

@@ -47,6 +47,7 @@ impl BlockCounts {
 
     /// How many frames of a pageblock are counted.
     pub fn get(&self, block: BlockNo) -> u32
+        requires { block < 8 }
         ensures { result ≡ slice_index self.now block }
     {
         self.counts[block.get() as usize]
@@ -54,7 +55,8 @@ impl BlockCounts {
 
     /// Counts this many more frames in a pageblock. There may be 512 in it at most.
     pub fn more(&mut self, block: BlockNo, frames: u32)
-        requires { slice_index self.old block + frames ≤ 512 }
+        requires block { block < 8 }
+        requires most { slice_index self.old block + frames ≤ 512 }
         ensures { self.new ≡ slice_set self.old block (slice_index self.old block + frames) }
     {
         self.counts[block.get() as usize] += frames;
@@ -62,7 +64,8 @@ impl BlockCounts {
 
     /// Counts this many fewer frames in a pageblock. At least as many have to be counted.
     pub fn fewer(&mut self, block: BlockNo, frames: u32)
-        requires { frames ≤ slice_index self.old block }
+        requires block { block < 8 }
+        requires least { frames ≤ slice_index self.old block }
         ensures { self.new ≡ slice_set self.old block (slice_index self.old block - frames) }
     {
         self.counts[block.get() as usize] -= frames;

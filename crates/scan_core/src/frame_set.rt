@@ -75,6 +75,7 @@ impl FrameSet {
 
     /// Whether a frame is a member.
     pub fn contains(&self, frame: FrameNo) -> bool
+        requires { frame < 4096 }
         ensures { result ≡ set.contains self.now frame }
     {
         self.numbers.contains(frame.get())
@@ -83,6 +84,7 @@ impl FrameSet {
     /// Puts a frame in where `member` says so, and takes it out where not.
     #[inline(always)]
     pub fn set_member(&mut self, frame: FrameNo, member: bool)
+        requires { frame < 4096 }
         ensures { (other : ℕ) → set.contains self.new other ≡ (if nat_eq other frame then member else set.contains self.old other) }
     {
         if member {
@@ -97,7 +99,8 @@ impl FrameSet {
     /// Puts in a frame that isn't a member, where `joins` says so.
     #[inline(always)]
     pub fn insert_if(&mut self, frame: FrameNo, joins: bool)
-        requires { set.contains self.old frame ≡ false }
+        requires within { frame < 4096 }
+        requires out { set.contains self.old frame ≡ false }
         ensures { (other : ℕ) → set.contains self.new other ≡ (if nat_eq other frame then joins else set.contains self.old other) }
     {
         if joins {
@@ -107,7 +110,8 @@ impl FrameSet {
 
     /// Puts in a frame that isn't a member.
     pub fn insert(&mut self, frame: FrameNo)
-        requires { set.contains self.old frame ≡ false }
+        requires within { frame < 4096 }
+        requires out { set.contains self.old frame ≡ false }
         ensures { self.new ≡ set.insert self.old frame }
     {
         self.numbers.insert(frame.get());
@@ -117,7 +121,8 @@ impl FrameSet {
 
     /// Takes out a frame that is a member.
     pub fn remove(&mut self, frame: FrameNo)
-        requires { set.contains self.old frame ≡ true }
+        requires within { frame < 4096 }
+        requires member { set.contains self.old frame ≡ true }
         ensures { self.new ≡ set.remove self.old frame }
     {
         self.numbers.remove(frame.get());
@@ -127,6 +132,7 @@ impl FrameSet {
 
     /// Puts in the frames of a block of this order, none of which is a member.
     pub fn insert_run(&mut self, first: FrameNo, order: Order)
+        requires within { first < 4096 }
         requires aligned { is_aligned order first ≡ true }
         requires none { (frame : ℕ) → in_run first (2 ^ order) frame ≡ true → set.contains self.old frame ≡ false }
         ensures { (frame : ℕ) → set.contains self.new frame ≡ (in_run first (2 ^ order) frame || set.contains self.old frame) }
@@ -139,6 +145,7 @@ impl FrameSet {
 
     /// Takes out the frames of a block of this order, all of which are members.
     pub fn remove_run(&mut self, first: FrameNo, order: Order)
+        requires within { first < 4096 }
         requires aligned { is_aligned order first ≡ true }
         requires all { (frame : ℕ) → in_run first (2 ^ order) frame ≡ true → set.contains self.old frame ≡ true }
         ensures { (frame : ℕ) → set.contains self.new frame ≡ (not (in_run first (2 ^ order) frame) && set.contains self.old frame) }
@@ -194,7 +201,8 @@ impl FrameSet {
 
     /// Whether all frames of a block of this order are members. In most cases the count of its pageblock is enough to tell.
     fn has_run(&self, first: FrameNo, order: Order) -> bool
-        requires { is_aligned order first ≡ true }
+        requires within { first < 4096 }
+        requires aligned { is_aligned order first ≡ true }
         ensures { result ≡ all_from (set.contains self.now) first (2 ^ order) }
     {
         let count = self.blocks.get(block_of(first));

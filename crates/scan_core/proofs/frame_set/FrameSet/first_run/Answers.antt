@@ -6,8 +6,8 @@ use Rattle.scan_core.specs.NumberSet.{all_from}
 use Rattle.scan_core.proofs.FrameSets.{multiple_aligned, multiple_within, no_run_more, no_run, run_lowest}
 use Rattle.scan_core.proofs.frame_set.FrameSet.first_run.Goals as goal
 
-pub has_run-requires : goal.has_run-requires
-has_run-requires c =
+pub has_run-requires-clause-aligned : goal.has_run-requires-clause-aligned
+has_run-requires-clause-aligned c =
     ap (is_aligned c.args.order) c.in_ok-first.ensures.value
     ∙ multiple_aligned (set.contains c.args.self.now) c.args.order c.frames-frames.result c.frames-frames.ensures.low c.frames-frames.ensures.high c.frames-frames.ensures.value c.loop-run.run
 

@@ -8,7 +8,7 @@ use Rattle.scan_core.proofs.frame_set.FrameSet.has_run.Goals as goal
 
 pub returns-then-count-eq512 : goal.returns-then-count-eq512
 returns-then-count-eq512 c =
-    let within = one_block c.args.order (omega arith) (omega arith) c.args.first c.requires in
+    let within = one_block c.args.order (omega arith) (omega arith) c.args.first c.requires.aligned in
     let count = c.get-count.ensures ∙ ap (slice_index c.self.inside.blocks) c.block_of.ensures in
     eq-eqb c.get-count.result 512 c.if-count-eq512.true
     ∙ sym (run_of_all (set.contains c.self.inside.numbers) c.args.first (2 ^ c.args.order) c.self.inside.count c.get-count.result c.self.inside.blocks (omega arith) within c.self.invariant count c.if-count-eq512.true)
@@ -16,7 +16,7 @@ returns-then-count-eq512 c =
 
 pub returns-else-count-frames : goal.returns-else-count-frames
 returns-else-count-frames c =
-    let within = one_block c.args.order (omega arith) (omega arith) c.args.first c.requires in
+    let within = one_block c.args.order (omega arith) (omega arith) c.args.first c.requires.aligned in
     let count = c.get-count.ensures ∙ ap (slice_index c.self.inside.blocks) c.block_of.ensures in
     lt-leb c.frames.result c.get-count.result c.if-count-frames.false
     ∙ sym (no_run_of_few (set.contains c.self.inside.numbers) c.args.first (2 ^ c.args.order) c.self.inside.count c.get-count.result c.self.inside.blocks (omega arith) within c.self.invariant count (omega (arith, c.if-count-frames.false, c.frames.ensures.value)))

@@ -5,8 +5,14 @@ use Rattle.scan_core.specs.Frames.{is_holding_state}
 use Rattle.scan_core.proofs.Steps.{is_within, page_isnt_free, sound_emptied}
 use Rattle.scan_core.proofs.frames.Frames.empty.Goals as goal
 
-pub insert-requires : goal.insert-requires
-insert-requires c = page_isnt_free c.self.inside c.self.invariant c.self.view_is c.args.frame c.requires
+pub insert-requires-clause-within : goal.insert-requires-clause-within
+insert-requires-clause-within c = omega (arith, is_within c.self.inside c.self.invariant c.self.view_is c.args.frame is_holding_state refl c.requires, c.self.invariant.whole, c.self.invariant.few)
+
+pub insert-requires-clause-out : goal.insert-requires-clause-out
+insert-requires-clause-out c = page_isnt_free c.self.inside c.self.invariant c.self.view_is c.args.frame c.requires
+
+pub set_member-requires : goal.set_member-requires
+set_member-requires c = omega (arith, is_within c.self.inside c.self.invariant c.self.view_is c.args.frame is_holding_state refl c.requires, c.self.invariant.whole, c.self.invariant.few)
 
 pub index_mut-requires : goal.index_mut-requires
 index_mut-requires c = omega (arith, is_within c.self.inside c.self.invariant c.self.view_is c.args.frame is_holding_state refl c.requires, c.get.ensures.value)

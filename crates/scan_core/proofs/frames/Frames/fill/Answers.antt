@@ -6,11 +6,17 @@ use Rattle.scan_core.specs.Frames.{is_free_state}
 use Rattle.scan_core.proofs.Steps.{is_within, free_stuck, seen_test, sound_filled}
 use Rattle.scan_core.proofs.frames.Frames.fill.Goals as goal
 
-pub remove-requires : goal.remove-requires
-remove-requires c = c.self.invariant.free c.args.frame ∙ seen_test c.self.inside c.self.invariant c.self.view_is c.args.frame is_free_state c.requires
+pub remove-requires-clause-within : goal.remove-requires-clause-within
+remove-requires-clause-within c = omega (arith, is_within c.self.inside c.self.invariant c.self.view_is c.args.frame is_free_state refl c.requires, c.self.invariant.whole, c.self.invariant.few)
 
-pub insert_if-requires : goal.insert_if-requires
-insert_if-requires c = free_stuck c.self.inside c.self.invariant c.self.view_is c.args.frame c.requires
+pub remove-requires-clause-member : goal.remove-requires-clause-member
+remove-requires-clause-member c = c.self.invariant.free c.args.frame ∙ seen_test c.self.inside c.self.invariant c.self.view_is c.args.frame is_free_state c.requires
+
+pub insert_if-requires-clause-within : goal.insert_if-requires-clause-within
+insert_if-requires-clause-within c = omega (arith, is_within c.self.inside c.self.invariant c.self.view_is c.args.frame is_free_state refl c.requires, c.self.invariant.whole, c.self.invariant.few)
+
+pub insert_if-requires-clause-out : goal.insert_if-requires-clause-out
+insert_if-requires-clause-out c = free_stuck c.self.inside c.self.invariant c.self.view_is c.args.frame c.requires
 
 pub index_mut-requires : goal.index_mut-requires
 index_mut-requires c = omega (arith, is_within c.self.inside c.self.invariant c.self.view_is c.args.frame is_free_state refl c.requires, c.self.invariant.movable, c.get-index.ensures.value)

@@ -1,7 +1,16 @@
-use Rattle.std.proofs.Common.{◌∙◌}
+use Rattle.std.proofs.Common.{◌∙◌, arith}
 use Rattle.scan_core.specs.Frames.{is_free_state}
-use Rattle.scan_core.proofs.Steps.{block_held, free_stuck, run_free, seen_test}
+use Rattle.scan_core.proofs.Steps.{block_held, free_stuck, run_first, run_free, seen_test}
 use Rattle.scan_core.proofs.frames.Frames.hold.Goals as goal
+
+pub remove_run-requires-clause-within : goal.remove_run-requires-clause-within
+remove_run-requires-clause-within c = run_first c.self.inside c.self.invariant c.self.view_is c.args.first c.args.order c.requires
+
+pub insert_run-requires-clause-within : goal.insert_run-requires-clause-within
+insert_run-requires-clause-within c = run_first c.self.inside c.self.invariant c.self.view_is c.args.first c.args.order c.requires
+
+pub insert_run-requires-2-clause-within : goal.insert_run-requires-2-clause-within
+insert_run-requires-2-clause-within c = omega (arith, run_first c.self.inside c.self.invariant c.self.view_is c.args.first c.args.order c.requires, c.get.ensures.value)
 
 pub remove_run-requires-clause-all : goal.remove_run-requires-clause-all
 remove_run-requires-clause-all c = λ n inside.

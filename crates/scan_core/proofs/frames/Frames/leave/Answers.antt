@@ -5,8 +5,11 @@ use Rattle.scan_core.specs.Frames.{is_way_state}
 use Rattle.scan_core.proofs.Steps.{is_within, way_isnt_free, sound_left}
 use Rattle.scan_core.proofs.frames.Frames.leave.Goals as goal
 
-pub insert-requires : goal.insert-requires
-insert-requires c = way_isnt_free c.self.inside c.self.invariant c.self.view_is c.args.other c.requires
+pub insert-requires-clause-within : goal.insert-requires-clause-within
+insert-requires-clause-within c = omega (arith, is_within c.self.inside c.self.invariant c.self.view_is c.args.other is_way_state refl c.requires, c.self.invariant.whole, c.self.invariant.few)
+
+pub insert-requires-clause-out : goal.insert-requires-clause-out
+insert-requires-clause-out c = way_isnt_free c.self.inside c.self.invariant c.self.view_is c.args.other c.requires
 
 pub index_mut-requires : goal.index_mut-requires
 index_mut-requires c = omega (arith, is_within c.self.inside c.self.invariant c.self.view_is c.args.other is_way_state refl c.requires, c.get.ensures.value)

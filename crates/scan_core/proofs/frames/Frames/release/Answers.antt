@@ -1,8 +1,17 @@
-use Rattle.std.proofs.Common.{◌^◌}
+use Rattle.std.proofs.Common.{◌^◌, arith}
 use Rattle.scan_core.specs.Frames.{huge_at}
 use Rattle.scan_core.proofs.FrameSets.{all_pass}
-use Rattle.scan_core.proofs.Steps.{block_released, huge_is_stuck, huge_isnt_free}
+use Rattle.scan_core.proofs.Steps.{block_first, block_released, huge_is_stuck, huge_isnt_free}
 use Rattle.scan_core.proofs.frames.Frames.release.Goals as goal
+
+pub remove_run-requires-clause-within : goal.remove_run-requires-clause-within
+remove_run-requires-clause-within c = omega (arith, block_first c.self.inside c.self.invariant c.self.view_is c.args.first c.args.order c.requires.block, c.get.ensures.value)
+
+pub remove_run-requires-2-clause-within : goal.remove_run-requires-2-clause-within
+remove_run-requires-2-clause-within c = block_first c.self.inside c.self.invariant c.self.view_is c.args.first c.args.order c.requires.block
+
+pub insert_run-requires-clause-within : goal.insert_run-requires-clause-within
+insert_run-requires-clause-within c = block_first c.self.inside c.self.invariant c.self.view_is c.args.first c.args.order c.requires.block
 
 pub remove_run-requires-2-clause-all : goal.remove_run-requires-2-clause-all
 remove_run-requires-2-clause-all c = λ n inside.

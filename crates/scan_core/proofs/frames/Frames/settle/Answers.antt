@@ -6,8 +6,11 @@ use Rattle.scan_core.specs.Frames.{is_way_state}
 use Rattle.scan_core.proofs.Steps.{is_within, way_isnt_stuck, sound_settled}
 use Rattle.scan_core.proofs.frames.Frames.settle.Goals as goal
 
-pub insert_if-requires : goal.insert_if-requires
-insert_if-requires c = way_isnt_stuck c.self.inside c.self.invariant c.self.view_is c.args.frame c.requires
+pub insert_if-requires-clause-within : goal.insert_if-requires-clause-within
+insert_if-requires-clause-within c = omega (arith, is_within c.self.inside c.self.invariant c.self.view_is c.args.frame is_way_state refl c.requires, c.self.invariant.whole, c.self.invariant.few)
+
+pub insert_if-requires-clause-out : goal.insert_if-requires-clause-out
+insert_if-requires-clause-out c = way_isnt_stuck c.self.inside c.self.invariant c.self.view_is c.args.frame c.requires
 
 pub index_mut-requires : goal.index_mut-requires
 index_mut-requires c = omega (arith, is_within c.self.inside c.self.invariant c.self.view_is c.args.frame is_way_state refl c.requires, c.self.invariant.movable, c.get-index.ensures.value)

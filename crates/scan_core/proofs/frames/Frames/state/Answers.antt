@@ -9,6 +9,9 @@ use Rattle.scan_core.proofs.Spanning.{same_by}
 use Rattle.scan_core.proofs.frames.Frames.state.Goals as goal
 use Rattle.scan_core.proofs.frames.Frames.state.Goals.{else-is_free-via-then-is_free+else-contains, else-is_free-via-else-is_free}
 
+pub contains-requires : goal.contains-requires
+contains-requires c = omega (arith, c.requires, frames_kept c.self.inside c.self.invariant c.self.view_is, c.get-then-is_free.ensures.value, c.self.invariant.whole, c.self.invariant.few)
+
 pub index-requires : goal.index-requires
 index-requires c = omega (arith, c.requires, frames_kept c.self.inside c.self.invariant c.self.view_is, c.get.ensures.value)
 
