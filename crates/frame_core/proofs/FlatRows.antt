@@ -1,11 +1,12 @@
 -- The rows of frames whose words stand one after the other.
-use Rattle.std.proofs.Common.{◌≡◌, ℕ, zero, suc, ◌+◌, ◌-◌, ◌*◌, ◌<◌, ◌≤◌, Bool, true, false, List, [], ◌∷◌, ◌++◌, length, take, drop, get_or, replicate, refl, sym, ap, subst, ◌∙◌, arith}
+use Rattle.std.proofs.Common.{◌≡◌, ◌≢◌, ◌⊎◌, inl, inr, ℕ, zero, suc, ◌+◌, ◌-◌, ◌*◌, ◌<◌, ◌≤◌, Bool, true, false, List, [], ◌∷◌, ◌++◌, length, take, drop, get_or, replicate, refl, sym, ap, subst, ◌∙◌, arith}
 use Rattle.std.specs.Prelude.{slice_set}
 use Rattle.std.specs.List.{All}
 use Rattle.std.proofs.lemmas.List.{append_assoc, append-nil, drop_all, drop_at, drop-append-le, drop-drop, length-append, length-drop, length-replicate, length-take-le, replicate-append-replicate, take_at, take-append-drop, take-append-le, take-set-le}
 use Rattle.std.proofs.lemmas.List.Concat.{flat_map-cons}
 use Rattle.std.proofs.lemmas.Grind.{drop-set_at}
 use Rattle.std.proofs.lemmas.Option.{unwrap_or-slice_get}
+use Rattle.std.proofs.lemmas.Bool.{cases_lt}
 use Rattle.std.proofs.Math.Seq.{take-append-add, drop-append-add, drop-cons}
 use Rattle.row_core.specs.Parts.{part as part_of, spliced, AreHere}
 use Rattle.row_core.proofs.Lists.{part_here, spliced_long}
@@ -265,19 +266,28 @@ one_stored old new frame from values within is =
     one_changed old new frame (put_from (block_words old frame 1) from values) within is
     ∙ ap (λ (row : List ℕ). with_words old frame (put_from row from values)) (one_row old frame within)
 
--- the words of a frame are copied into a higher one
-module _ (size n : ℕ) (words : List ℕ) (long : length words ≡ n * size) (seen : List (List ℕ)) (seen_is : rows_of size n words ≡ seen) (from to : ℕ) (upward : from < to) (enough : to < length seen) (source : ℕ) (source_is : source ≡ from) (target : ℕ) (target_is : target ≡ to) where
+-- the words of a frame are copied into another
+module _ (size n : ℕ) (words : List ℕ) (long : length words ≡ n * size) (seen : List (List ℕ)) (seen_is : rows_of size n words ≡ seen) (from to : ℕ) (least : from < length seen) (enough : to < length seen) (source : ℕ) (source_is : source ≡ from) (target : ℕ) (target_is : target ≡ to) where
   one : size ≡ 1 * size
   one = omega arith
 
   pub target_ends : target * size + size ≤ length words
   target_ends = omega (arith, ends size n words long seen seen_is to 1 (omega (arith, enough)) target target_is)
 
-  pub source_below : source * size + size ≤ target * size
-  source_below = omega (arith, ap (λ (k : ℕ). k * size) source_is, ap (λ (k : ℕ). k * size) target_is, words_within size from 1 to (omega (arith, upward)))
+  pub source_ends : source * size + size ≤ length words
+  source_ends = omega (arith, ends size n words long seen seen_is from 1 (omega (arith, least)) source source_is)
+
+  -- neither lies over the other
+  pub rows_beside : from ≢ to → (source * size + size ≤ target * size) ⊎ (target * size + size ≤ source * size)
+  rows_beside apart = by_order (cases_lt from to) (cases_lt to from)
+    where
+      by_order : (from < to) ⊎ (to ≤ from) → (to < from) ⊎ (from ≤ to) → (source * size + size ≤ target * size) ⊎ (target * size + size ≤ source * size)
+      by_order (inl upward) other = inl (omega (arith, ap (λ (k : ℕ). k * size) source_is, ap (λ (k : ℕ). k * size) target_is, words_within size from 1 to (omega (arith, upward))))
+      by_order (inr least) (inl downward) = inr (omega (arith, ap (λ (k : ℕ). k * size) source_is, ap (λ (k : ℕ). k * size) target_is, words_within size to 1 from (omega (arith, downward))))
+      by_order (inr least) (inr most) = absurd (apart (omega (arith, least, most)))
 
   pub source_here : (here : List Bool) → AreHere here (n * size) → AreHere (part_of here (source * size) size) size
-  source_here here all = part_here here (n * size) (source * size) size all (omega (arith, source_below, target_ends, long))
+  source_here here all = part_here here (n * size) (source * size) size all (omega (arith, source_ends, long))
 
   pub target_here : (here : List Bool) → AreHere here (n * size) → AreHere (part_of here (target * size) size) size
   target_here here all = part_here here (n * size) (target * size) size all (omega (arith, target_ends, long))
@@ -285,12 +295,12 @@ module _ (size n : ℕ) (words : List ℕ) (long : length words ≡ n * size) (s
   pub copied_long : (new : List ℕ) → new ≡ spliced words (target * size) size (part_of words (source * size) size) → length new ≡ n * size
   copied_long new is =
       ap length is ∙ spliced_long words (target * size) size target_ends (part_of words (source * size) size)
-      (length-take-le size (drop (source * size) words) (omega (arith, source_below, target_ends, length-drop (source * size) words))) ∙ long
+      (length-take-le size (drop (source * size) words) (omega (arith, source_ends, length-drop (source * size) words))) ∙ long
 
-  -- the higher one has those words
+  -- the other one has those words
   copied_here : (new : List ℕ) → new ≡ spliced words (target * size) size (part_of words (source * size) size) → HasBlock seen (rows_of size n new) to 1 (part_of words (source * size) size)
   copied_here new is =
-      let below : from + 1 ≤ length seen = omega (arith, upward, enough) in
+      let below : from + 1 ≤ length seen = omega (arith, least) in
       let ws = part_of words (source * size) size in
       let ws_is : ws ≡ part_of words (source * size) (1 * size) = ap (λ (k : ℕ). take k (drop (source * size) words)) one in
       let same : length ws ≡ 1 * size = ap length ws_is ∙ lent_count size n words long seen seen_is from 1 below source source_is in
@@ -304,11 +314,11 @@ module _ (size n : ℕ) (words : List ℕ) (long : length words ≡ n * size) (s
   copied_blank known listed blank left left_is new is =
       came_blank size n words long seen seen_is to 1 (omega (arith, enough)) target target_is known listed blank left left_is new (part_of words (source * size) size) (copied_here new is)
 
-  pub copied_up : (new : List ℕ) → new ≡ spliced words (target * size) size (part_of words (source * size) size) → rows_of size n new ≡ with_words seen to (words_of seen from)
-  copied_up new is =
+  pub copied_over : (new : List ℕ) → new ≡ spliced words (target * size) size (part_of words (source * size) size) → rows_of size n new ≡ with_words seen to (words_of seen from)
+  copied_over new is =
       let ws_is : part_of words (source * size) size ≡ part_of words (source * size) (1 * size) = ap (λ (k : ℕ). take k (drop (source * size) words)) one in
       one_changed seen (rows_of size n new) to (part_of words (source * size) size) enough (copied_here new is)
-      ∙ ap (with_words seen to) (ws_is ∙ lent_words size n words long seen seen_is from 1 (omega (arith, upward, enough)) source source_is ∙ one_row seen from (omega (arith, upward, enough)))
+      ∙ ap (with_words seen to) (ws_is ∙ lent_words size n words long seen seen_is from 1 (omega (arith, least)) source source_is ∙ one_row seen from least)
 
 -- rows of zeros
 pub blank_rows : (size n : ℕ) (words : List ℕ) → words ≡ replicate (n * size) 0 → rows_of size n words ≡ replicate n (replicate size 0)

@@ -1,4 +1,4 @@
-ghost use Rattle.std.specs.Prelude.{◌≡◌, ◌<◌, ◌≤◌, ◌+◌, ◌*◌, ◌↔◌, ℕ, List, length, replicate, IfOk, IsTrue};
+ghost use Rattle.std.specs.Prelude.{◌≡◌, ◌≢◌, ◌<◌, ◌≤◌, ◌+◌, ◌*◌, ◌↔◌, ℕ, List, length, replicate, IfOk, IsTrue};
 ghost use Rattle.std.specs.Fn.{FnOnceTakesAtMut, FnOnceReturnsAtMut};
 ghost use Rattle.std.specs.List.{All};
 ghost use Rattle.frame_core.specs.Page.{blank_words};
@@ -204,10 +204,11 @@ impl<const W: usize> Words<W> {
         self.store_block(frame, 1, 0, page.words());
     }
 
-    /// Copies the words of a frame into a higher one, in one pass.
+    /// Copies the words of a frame into another one, in one pass.
     pub fn copy(&mut self, from: FrameNo, to: FrameNo)
-        requires upward { from < to }
-        requires within { to < length self.old }
+        requires apart { from ≢ to }
+        requires source { from < length self.old }
+        requires target { to < length self.old }
         ensures copied { self.new ≡ with_words self.old to (words_of self.old from) }
         ensures frames { length self.new ≡ length self.old }
     {
