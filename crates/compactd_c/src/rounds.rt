@@ -1,6 +1,6 @@
 //! What C calls to run rounds, and to make the moves of a round itself.
 
-ghost use Rattle.std.specs.Prelude.{◌≡◌, ◌+◌, ◌≤◌, ◌⊎◌, ◌↔◌, true, false, length, IsTrue, None, Some};
+ghost use Rattle.std.specs.Prelude.{◌≡◌, ◌+◌, ◌≤◌, ◌↔◌, true, false, if◌then◌else◌, is_some, nat_eq, length, IsTrue, None, Some};
 ghost use Rattle.compactd_c.specs.Answers.{answer, left};
 ghost use Rattle.compactd_c.specs.Carried.{is_moving};
 ghost use Rattle.frame_core.specs.Moves.{moved as pages_moved, out};
@@ -55,10 +55,8 @@ pub extern "C" fn compactd_move_pages(
     ensures answer { result ≡ answer pool.old.zone (λ z. None) }
     ensures zone { pool.new.zone ≡ left pool.old.zone (λ z. None) (moved_at_most most) }
     ensures moved { (z : ZoneState) → pool.old.zone ≡ Some z → (moved.new ≤ most) × (pages_moved (moved_at_most most z).records ≡ pages_moved z.records + moved.new) }
-    ensures all { (z : ZoneState) → pool.old.zone ≡ Some z → stopped.new ≡ 0 → moved.new ≡ most }
+    ensures stopped { (z : ZoneState) → pool.new.zone ≡ Some z → stopped.new ≡ (if nat_eq moved.new most then 0 else if is_some (isolate_refusal z) then 2 else 53) }
     ensures met { (z : ZoneState) → pool.new.zone ≡ Some z → stopped.new ≡ 53 → HaveMet z }
-    ensures full { (z : ZoneState) → pool.new.zone ≡ Some z → stopped.new ≡ 2 → isolate_refusal z ≡ Some ZoneError.JournalFull }
-    ensures reasons { (z : ZoneState) → pool.old.zone ≡ Some z → (stopped.new ≡ 0) ⊎ ((stopped.new ≡ 53) ⊎ (stopped.new ≡ 2)) }
     // Where nothing was stuck and the scanners met, the zone is packed.
     ensures packed { (z : ZoneState) → pool.new.zone ≡ Some z → stopped.new ≡ 53 → is_quiet z ≡ true → length (out z.records) ≡ 0 → IsPacked z }
     ensures kept { ¬ (result ≡ 0) → (moved.new ≡ moved.old) × (stopped.new ≡ stopped.old) }

@@ -19,7 +19,7 @@ ghost use Rattle.state_core.specs.ZoneState.{is_quiet};
 ghost use Rattle.zone_core.specs.Counted.{IsCounted};
 ghost use Rattle.zone_core.specs.FreeRuns.{fragmentation, maximal_runs};
 ghost use Rattle.zone_core.specs.NextMoving.{IsNextMoving, IsNoneMoving};
-ghost use Rattle.zone_core.specs.OneThread.{moved_at_most, all_moved};
+ghost use Rattle.zone_core.specs.OneThread.{last_of_slice, moved_at_most, all_moved};
 ghost use Rattle.compactd_c.specs.Asked.{address_of, is_address, is_client, is_block, ranged, refusal_for, answer_for, after_asked};
 ghost use Rattle.compactd_c.specs.Kinds.{IsPageSize};
 ghost use Rattle.compactd_c.specs.Looks.{look_refusal, audit_refusal};
@@ -394,9 +394,8 @@ impl Zone {
         ensures zone { self.new ≡ moved_at_most most self.old }
         ensures moved { moved self.new.records ≡ moved self.old.records + result.moved }
         ensures most { result.moved ≤ most }
-        ensures page { result.last ≡ Answered.Page → result.moved ≡ most }
+        ensures last { result.last ≡ last_of_slice result.moved most (isolate_refusal self.new) }
         ensures met { result.last ≡ Answered.Met → HaveMet self.new }
-        ensures full { result.last ≡ Answered.JournalFull → isolate_refusal self.new ≡ Some ZoneError.JournalFull }
         ensures packed { result.last ≡ Answered.Met → is_quiet self.new ≡ true → length (out self.new.records) ≡ 0 → IsPacked self.new }
     {
         match &mut self.kind {

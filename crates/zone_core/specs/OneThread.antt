@@ -1,5 +1,5 @@
 -- A round on one thread, which moves one page after the other, and why it stops.
-use Rattle.std.specs.Prelude.{ℕ, zero, suc, if◌then◌else◌, is_some, Option, Some, None}
+use Rattle.std.specs.Prelude.{ℕ, zero, suc, if◌then◌else◌, is_some, nat_eq, Option, Some, None}
 use Rattle.frame_core.specs.Moves.{isolated}
 use Rattle.zone_core.specs.ByHand.{all_isolated}
 use Rattle.state_core.specs.declared.error.ZoneError.{ZoneError}
@@ -9,12 +9,16 @@ use Rattle.state_core.specs.Isolating.{isolate_refusal, isolated_next}
 use Rattle.state_core.specs.Pairs.{next_pair}
 use Rattle.state_core.specs.ZoneState.{ZoneState}
 use Rattle.zone_core.specs.declared.seats.Answered.{Answered}
-use Rattle.zone_core.specs.declared.seats.Answered.TheVariants.{Met, JournalFull}
+use Rattle.zone_core.specs.declared.seats.Answered.TheVariants.{Page, Met, JournalFull}
 
 -- the answer after which a scanner stops, by what the journal refuses to isolate a page as
 abbrev pub last_for : Option ZoneError → Answered
 last_for None = Met
 last_for (Some error) = JournalFull
+
+-- the last answer of a slice of a round: `Page` where it moved as many pages as it was to, and else why there were fewer
+abbrev pub last_of_slice : ℕ → ℕ → Option ZoneError → Answered
+last_of_slice moved most refusal = if nat_eq moved most then Page else last_for refusal
 
 -- the answer after which the scanner of a round by hand stops
 abbrev pub last_by_hand : ZoneState → Answered

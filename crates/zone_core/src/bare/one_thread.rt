@@ -1,6 +1,6 @@
 //! A round on the thread that calls, at once or in slices.
 
-ghost use Rattle.std.specs.Prelude.{◌≡◌, ◌+◌, ◌≤◌, true, length, Some};
+ghost use Rattle.std.specs.Prelude.{◌≡◌, ◌+◌, ◌≤◌, true, length};
 ghost use Rattle.frame_core.specs.Moves.{moved, out};
 ghost use Rattle.state_core.specs.Isolating.{isolate_refusal};
 ghost use Rattle.state_core.specs.Packed.{IsPacked};
@@ -8,10 +8,9 @@ ghost use Rattle.state_core.specs.Pairs.{HaveMet};
 ghost use Rattle.state_core.specs.Rounds.{round_begun};
 ghost use Rattle.state_core.specs.Valid.{IsValidZone};
 ghost use Rattle.state_core.specs.ZoneState.{is_quiet};
-ghost use Rattle.state_core.specs.declared.error.ZoneError.{ZoneError};
 ghost use Rattle.zone_core.specs.Alone.{IsAtRest};
 ghost use Rattle.zone_core.specs.ByHand.{by_hand};
-ghost use Rattle.zone_core.specs.OneThread.{last_for, moved_at_most, all_moved};
+ghost use Rattle.zone_core.specs.OneThread.{last_for, last_of_slice, moved_at_most, all_moved};
 ghost use Rattle.zone_core.specs.Outcome.{IsSame};
 ghost use Rattle.zone_core.specs.ZoneIdentity.{HasIdentity};
 
@@ -58,9 +57,8 @@ impl<const W: usize> BareZone<W> {
         ensures zone { self.new ≡ moved_at_most most self.old }
         ensures moved { moved self.new.records ≡ moved self.old.records + result.moved }
         ensures most { result.moved ≤ most }
-        ensures page { result.last ≡ Answered.Page → result.moved ≡ most }
+        ensures last { result.last ≡ last_of_slice result.moved most (isolate_refusal self.new) }
         ensures met { result.last ≡ Answered.Met → HaveMet self.new }
-        ensures full { result.last ≡ Answered.JournalFull → isolate_refusal self.new ≡ Some ZoneError.JournalFull }
         // Where nothing was stuck and the scanners met, the zone is packed.
         ensures packed { result.last ≡ Answered.Met → is_quiet self.new ≡ true → length (out self.new.records) ≡ 0 → IsPacked self.new }
         ensures identity { HasIdentity self.old.number self.old.blocks self.new }
