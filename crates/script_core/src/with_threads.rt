@@ -420,7 +420,7 @@ fn pool_reply(blocks: PoolBlocks, report: &Report) -> Reply
 }
 
 /// The numbers that name at most eight blocks.
-fn told_of(blocks: &PoolBlocks, got: &[Option<Huge>]) -> ArrayVec<u16, 8>
+fn told_of(blocks: &PoolBlocks, got: &[Option<Huge>]) -> ArrayVec<u32, 8>
     requires few { length got.now ≤ 8 }
     ensures { result.items ≡ told_of blocks.now got.now }
 {

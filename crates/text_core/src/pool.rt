@@ -24,12 +24,12 @@ impl PoolBlocks {
     }
 
     /// The number that names the block with this first frame.
-    pub fn told_as(&self, first: FrameNo) -> u16
+    pub fn told_as(&self, first: FrameNo) -> u32
         ensures { result ≡ told_as self.now first }
     {
         match self {
-            PoolBlocks::Pageblocks => block_of(first).get() as u16,
-            PoolBlocks::OfOrder(_) => first.get() as u16,
+            PoolBlocks::Pageblocks => block_of(first).get(),
+            PoolBlocks::OfOrder(_) => first.get(),
         }
     }
 }

@@ -53,7 +53,7 @@ pub enum Reply {
     /// A pool: the numbers that name its blocks, in the order in which it got them, its rounds, and why it stopped.
     Pool {
         blocks: PoolBlocks,
-        got: ArrayVec<u16, 8>,
+        got: ArrayVec<u32, 8>,
         rounds: u32,
         stopped: PoolStopped,
     },
@@ -217,17 +217,19 @@ fn stopped_word(stopped: Stopped) -> &'static str
 fn push_pool<const N: usize>(
     text: &mut ArrayString<N>,
     blocks: PoolBlocks,
-    got: &[u16],
+    got: &[u32],
     rounds: u32,
     stopped: PoolStopped,
 )
     requires few { length got.now ≤ 8 }
-    requires room { array_string_len text.old + 137 ≤ N }
+    requires room { array_string_len text.old + 157 ≤ N }
     ensures text { text.new.bytes ≡ text.old.bytes ++ pool_text blocks got.now rounds stopped }
-    ensures len { array_string_len text.new ≤ array_string_len text.old + 137 }
+    ensures len { array_string_len text.new ≤ array_string_len text.old + 157 }
 {
-    push_field(text, "got=", got.len() as u64);
-    push_field(text, " rounds=", u64::from(rounds));
+    text.push_str("got=");
+    push_short(text, got.len() as u32);
+    text.push_str(" rounds=");
+    push_short(text, rounds);
     push_pool_stopped(text, stopped);
     push_pool_name(text, blocks);
     push_numbers(text, got);
@@ -261,11 +263,11 @@ fn push_pool_name<const N: usize>(text: &mut ArrayString<N>, blocks: PoolBlocks)
 }
 
 /// Appends numbers with commas between them, or a dash where there are none.
-fn push_numbers<const N: usize>(text: &mut ArrayString<N>, numbers: &[u16])
+fn push_numbers<const N: usize>(text: &mut ArrayString<N>, numbers: &[u32])
     requires few { length numbers.now ≤ 8 }
-    requires room { array_string_len text.old + 48 ≤ N }
+    requires room { array_string_len text.old + 88 ≤ N }
     ensures text { text.new.bytes ≡ text.old.bytes ++ numbers_text numbers.now }
-    ensures len { array_string_len text.new ≤ array_string_len text.old + 48 }
+    ensures len { array_string_len text.new ≤ array_string_len text.old + 88 }
 {
     let [first, more @ ..] = numbers else {
         text.push_str("-");
@@ -276,10 +278,10 @@ fn push_numbers<const N: usize>(text: &mut ArrayString<N>, numbers: &[u16])
 }
 
 /// Appends numbers with a comma before each.
-fn push_after_commas<const N: usize>(text: &mut ArrayString<N>, numbers: &[u16])
-    requires { array_string_len text.old + 6 * length numbers.now ≤ N }
+fn push_after_commas<const N: usize>(text: &mut ArrayString<N>, numbers: &[u32])
+    requires { array_string_len text.old + 11 * length numbers.now ≤ N }
     ensures text { text.new.bytes ≡ text.old.bytes ++ after_commas numbers.now }
-    ensures len { array_string_len text.new ≤ array_string_len text.old + 6 * length numbers.now }
+    ensures len { array_string_len text.new ≤ array_string_len text.old + 11 * length numbers.now }
 {
     for number in numbers {
         text.push_str(",");
@@ -287,11 +289,11 @@ fn push_after_commas<const N: usize>(text: &mut ArrayString<N>, numbers: &[u16])
     }
 }
 
-/// Appends a number of at most five digits.
-fn push_short<const N: usize>(text: &mut ArrayString<N>, number: u16)
-    requires { array_string_len text.old + 5 ≤ N }
+/// Appends a number of at most ten digits.
+fn push_short<const N: usize>(text: &mut ArrayString<N>, number: u32)
+    requires { array_string_len text.old + 10 ≤ N }
     ensures text { text.new.bytes ≡ text.old.bytes ++ decimal number }
-    ensures len { array_string_len text.new ≤ array_string_len text.old + 5 }
+    ensures len { array_string_len text.new ≤ array_string_len text.old + 10 }
 {
     text.push_str(Buffer::new().format(number));
 }

@@ -19,6 +19,7 @@ impl<const W: usize> ZoneTables<W> {
 
     /// Whether a pageblock is marked.
     pub fn is_marked(&self, block: BlockNo) -> bool
+        requires { block < self.now.blocks }
         ensures { result ≡ set.contains self.now.marked block }
     {
         self.marked[block.get() as usize]
@@ -26,6 +27,7 @@ impl<const W: usize> ZoneTables<W> {
 
     /// Marks a pageblock.
     pub fn mark(&mut self, block: BlockNo)
+        requires within { block < self.old.blocks }
         requires room { IsTrue (has_room self.old) }
         ensures step { self.new ≡ block_marked self.old block }
         ensures valid { IsValidZone self.new }
@@ -36,6 +38,7 @@ impl<const W: usize> ZoneTables<W> {
 
     /// Takes the mark of a pageblock off.
     pub fn unmark(&mut self, block: BlockNo)
+        requires within { block < self.old.blocks }
         requires room { IsTrue (has_room self.old) }
         ensures step { self.new ≡ block_unmarked self.old block }
         ensures valid { IsValidZone self.new }

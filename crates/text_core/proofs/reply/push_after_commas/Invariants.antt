@@ -6,5 +6,5 @@ use Rattle.text_core.proofs.reply.push_after_commas.Given as goal
 abbrev pub invariant-loop-number : goal.invariant-loop-number
 invariant-loop-number g l = record {
   text : l.text.bytes ≡ l.fn.text.bytes ++ after_commas (take l.number-index l.numbers);
-  len : length l.text.bytes ≤ length l.fn.text.bytes + 6 * l.number-index;
+  len : length l.text.bytes ≤ length l.fn.text.bytes + 11 * l.number-index;
 }
