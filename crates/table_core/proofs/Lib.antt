@@ -2,6 +2,7 @@ mod Blank
 mod Counting
 pub mod Listing
 mod Passing
+pub mod Places
 pub mod Rising
 mod Walking
 mod Writing

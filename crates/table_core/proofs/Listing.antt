@@ -1,45 +1,23 @@
 -- The lists of a zone's tables still agree with its entries after each change.
-use Rattle.std.proofs.Common.{◌≡◌, ◌≢◌, ℕ, zero, suc, ◌+◌, ◌*◌, ◌/◌, ◌%◌, ◌<◌, true, false, List, [], ◌++◌, length, take, drop, get_or, replicate, ◌⊎◌, inl, inr, refl, sym, ap, subst, ◌∙◌, arith}
+use Rattle.std.proofs.Common.{◌≡◌, ◌≢◌, ℕ, zero, suc, ◌<◌, true, false, List, [], ◌++◌, length, take, drop, get_or, replicate, ◌⊎◌, inl, inr, refl, sym, ap, subst, ◌∙◌, arith}
 use Rattle.std.specs.Prelude.{Option, Some, slice_get, slice_set, unwrap_or}
 use Rattle.std.specs.List.{SwappedAt}
 use Rattle.std.proofs.lemmas.Bool.{eq-eqb, eqb-true, ne_eqb, both_ways, false_from_ne_true}
 use Rattle.std.proofs.lemmas.Bool.Decides.{eqb_tells, leb_tells}
 use Rattle.std.proofs.lemmas.List.{length-set, take_all, take-append-le}
 use Rattle.std.proofs.lemmas.Option.{slice_get_within, slice_get_past, slice_get-get_or}
-use Rattle.std.proofs.Math.Nat.{div-add-mod}
 use Rattle.frame_core.proofs.Lists.{slice_get_set_same, slice_get_set_other}
 use Rattle.frame_core.specs.Address.{InRange}
 use Rattle.frame_core.specs.declared.place.Address.{Address}
 use Rattle.table_core.specs.declared.entry.Entry.{Entry}
 use Rattle.table_core.specs.declared.entry.Entry.TheVariants.{Absent, Present, Migration}
 use Rattle.table_core.specs.Listed.{IsListOf, AreListed}
-use Rattle.table_core.specs.Names.{IsIn, IsRising, AreJust, inserted, without}
-use Rattle.table_core.specs.Tables.{place_of, entry_at, is_listed, IsBlank, ChangesOnly, Replaces}
+use Rattle.table_core.specs.Names.{IsIn, IsRising, AreJust, order_of, inserted, without}
+use Rattle.table_core.specs.Tables.{EntryTable, entry_at, is_listed, IsBlank, Replaces}
+use Rattle.table_core.proofs.Places.{address_tells, same_order, Changes}
 use Rattle.table_core.proofs.Rising.{from_inserted, to_inserted, rising_inserted, length_inserted, from_without, to_without, rising_without, length_without}
 
--- addresses in range that have the same place are equal
-pub same_address : (a b : Address) → InRange a → InRange b → place_of a ≡ place_of b → a ≡ b
-same_address a b in_a in_b at =
-    let space : a.space ≡ b.space = omega (arith, in_a.vpage, in_b.vpage) in
-    let vpage : a.vpage ≡ b.vpage = omega (arith, in_a.vpage, in_b.vpage) in
-    λ i. record { space = space i; vpage = vpage i }
-
--- the address of a place
-abbrev pub address_at : ℕ → Address
-address_at place = record { space = place / 4096; vpage = place % 4096 }
-
-pub place_at : (place : ℕ) → place_of (address_at place) ≡ place
-place_at place = div-add-mod place 4096
-
-pub range_at : (place : ℕ) → place < 32768 → InRange (address_at place)
-range_at place h = let whole = div-add-mod place 4096 in record { space = omega arith; vpage = omega arith }
-
--- an entry that is read by its place, and a list that is read by its index
-pub entry_got : (entries : List Entry) (a : Address) (place : ℕ) (entry : Entry) → place ≡ place_of a → slice_get entries place ≡ Some entry → entry_at entries a ≡ entry
-entry_got entries a place entry at got =
-    ap (λ (p : ℕ). unwrap_or (slice_get entries p) Absent) (sym at)
-    ∙ ap (λ (o : Option Entry). unwrap_or o Absent) got
-
+-- a list that is read by its index
 pub list_read : (lists : List (List Address)) (frame index : ℕ) (names : List Address) → index ≡ frame → index < length lists → names ≡ get_or lists index names →
     slice_get lists frame ≡ Some names
 list_read lists frame index names at within read = ap (slice_get lists) (sym at) ∙ slice_get-get_or lists index names within ∙ ap Some (sym read)
@@ -67,7 +45,7 @@ same_entry (Migration s f) (Migration t g) = elim (eqb_tells s t) [
 ]
 
 -- a list has the addresses of a frame where the same ones are listed under it that were listed under the frame of the list
-pub moved_list : (old new : List Entry) (f g : ℕ) (names : List Address) → IsListOf old f names → ((b : Address) → InRange b → is_listed (entry_at new b) g ≡ is_listed (entry_at old b) f) → IsListOf new g names
+pub moved_list : (old new : EntryTable) (f g : ℕ) (names : List Address) → IsListOf old f names → ((b : Address) → InRange b → is_listed (entry_at new b) g ≡ is_listed (entry_at old b) f) → IsListOf new g names
 moved_list old new f g names list same = record {
   few = list.few;
   just = record {
@@ -79,31 +57,15 @@ moved_list old new f g names list same = record {
   };
 }
 
--- one entry changed, and no other
-pub record Changes (old new : List Entry) (address : Address) (entry : Entry) : Type 0 where
-  pub here : (b : Address) → place_of b ≡ place_of address → entry_at new b ≡ entry
-  pub elsewhere : (b : Address) → place_of b ≢ place_of address → entry_at new b ≡ entry_at old b
-
-pub changes : (old : List Entry) (address : Address) (entry : Entry) (index : ℕ) → index ≡ place_of address → index < length old →
-    Changes old (slice_set old index entry) address entry
-changes old address entry index at within = record {
-  here = λ b same. ap (λ (o : Option Entry). unwrap_or o Absent) (slice_get_set_same old index (place_of b) entry (same ∙ sym at) within);
-  elsewhere = λ b other. ap (λ (o : Option Entry). unwrap_or o Absent) (slice_get_set_other old index (place_of b) entry (λ e. other (e ∙ at)));
-}
-
-pub changes_only : (old new : List Entry) (address : Address) (entry : Entry) → InRange address → Changes old new address entry → ChangesOnly old new address entry
-changes_only old new address entry range change = record {
-  changed = λ a space vpage. change.here a (λ i. 4096 * space i + vpage i);
-  other_spaces = λ a small ne. change.elsewhere a (λ e. ne (omega (arith, range.vpage)));
-  other_pages = λ a small ne. change.elsewhere a (λ e. ne (omega (arith, range.vpage)));
-}
-
 -- what a change of one entry does to the list of a frame
-module _ (old new : List Entry) (address : Address) (entry : Entry) (range : InRange address) (change : Changes old new address entry) (frame : ℕ) (names : List Address) (list : IsListOf old frame names) where
+module _ (old new : EntryTable) (address : Address) (entry : Entry) (range : InRange address) (change : Changes old new address entry) (frame : ℕ) (names : List Address) (list : IsListOf old frame names) where
+  at_it : (b : Address) → b ≡ address → is_listed (entry_at new b) frame ≡ is_listed entry frame
+  at_it b same = ap (λ (a : Address). is_listed (entry_at new a) frame) same ∙ ap (λ e. is_listed e frame) change.here
+
   pub list_kept : is_listed (entry_at old address) frame ≡ false → is_listed entry frame ≡ false → IsListOf new frame names
-  list_kept before after = moved_list old new frame frame names list (λ b in_b. elim (eqb_tells (place_of b) (place_of address)) [
-    | inl same ↦ ap (λ e. is_listed e frame) (change.here b same.1) ∙ after ∙ sym (ap (λ a. is_listed (entry_at old a) frame) (same_address b address in_b range same.1) ∙ before)
-    | inr other ↦ ap (λ e. is_listed e frame) (change.elsewhere b other.1)
+  list_kept before after = moved_list old new frame frame names list (λ b in_b. elim (address_tells b address) [
+    | inl same ↦ at_it b same ∙ after ∙ sym (ap (λ a. is_listed (entry_at old a) frame) same ∙ before)
+    | inr other ↦ ap (λ e. is_listed e frame) (change.elsewhere b other)
   ])
 
   pub list_gains : is_listed (entry_at old address) frame ≡ false → is_listed entry frame ≡ true → length names < 4 → IsListOf new frame (inserted names address)
@@ -111,21 +73,21 @@ module _ (old new : List Entry) (address : Address) (entry : Entry) (range : InR
     few = omega (arith, length_inserted names address);
     just = record {
       rising = rising_inserted names address list.just.rising (λ b h at. (let was = (list.just.each b).0 h in
-          both_ways _ (ap (λ a. is_listed (entry_at old a) frame) (same_address b address was.0 range at) ∙ before) was.1));
+          both_ways _ (ap (λ a. is_listed (entry_at old a) frame) (same_order b address was.0 range at) ∙ before) was.1));
       each = λ b. (
         λ h. elim (from_inserted names address b h) [
-          | inl e ↦ (subst InRange e range, ap (λ e. is_listed e frame) (change.here b (sym (ap place_of e))) ∙ after)
+          | inl e ↦ (subst InRange e range, at_it b (sym e) ∙ after)
           | inr k ↦ (let was = (list.just.each b).0 k in (
             was.0,
-            elim (eqb_tells (place_of b) (place_of address)) [
-              | inl same ↦ ap (λ e. is_listed e frame) (change.here b same.1) ∙ after
-              | inr other ↦ ap (λ e. is_listed e frame) (change.elsewhere b other.1) ∙ was.1
+            elim (address_tells b address) [
+              | inl same ↦ at_it b same ∙ after
+              | inr other ↦ ap (λ e. is_listed e frame) (change.elsewhere b other) ∙ was.1
             ],
           ))
         ],
-        λ h. elim (eqb_tells (place_of b) (place_of address)) [
-          | inl same ↦ to_inserted names address b (inl (sym (same_address b address h.0 range same.1)))
-          | inr other ↦ to_inserted names address b (inr ((list.just.each b).1 (h.0, sym (ap (λ e. is_listed e frame) (change.elsewhere b other.1)) ∙ h.1)))
+        λ h. elim (address_tells b address) [
+          | inl same ↦ to_inserted names address b (inl (sym same))
+          | inr other ↦ to_inserted names address b (inr ((list.just.each b).1 (h.0, sym (ap (λ e. is_listed e frame) (change.elsewhere b other)) ∙ h.1)))
         ],
       );
     };
@@ -139,34 +101,38 @@ module _ (old new : List Entry) (address : Address) (entry : Entry) (range : InR
       each = λ b. (
         λ h. (let k = from_without names address b list.just.rising h in
             let was = (list.just.each b).0 k.0 in
-            (was.0, ap (λ e. is_listed e frame) (change.elsewhere b k.1) ∙ was.1)),
-        λ h. elim (eqb_tells (place_of b) (place_of address)) [
-          | inl same ↦ absurd (both_ways _ (ap (λ e. is_listed e frame) (change.here b same.1) ∙ after) h.1)
-          | inr other ↦ to_without names address b ((list.just.each b).1 (h.0, sym (ap (λ e. is_listed e frame) (change.elsewhere b other.1)) ∙ h.1)) other.1
+            (was.0, ap (λ e. is_listed e frame) (change.elsewhere b (λ e. k.1 (ap order_of e))) ∙ was.1)),
+        λ h. elim (address_tells b address) [
+          | inl same ↦ absurd (both_ways _ (at_it b same ∙ after) h.1)
+          | inr other ↦ to_without names address b ((list.just.each b).1 (h.0, sym (ap (λ e. is_listed e frame) (change.elsewhere b other)) ∙ h.1))
+              (λ e. other (same_order b address h.0 range e))
         ],
       );
     };
   }
 
 -- one list is replaced as its entry changed, which is no migration entry then, and no other list is touched
-pub listed_changed : (old new : List Entry) (lists : List (List Address)) (address : Address) (entry : Entry) (frame : ℕ) (names changed : List Address) →
-    AreListed old lists → InRange address → length new ≡ 32768 → Changes old new address entry → ((serial s : ℕ) → entry ≢ Migration serial s) →
+pub listed_changed : (old new : EntryTable) (lists : List (List Address)) (address : Address) (entry : Entry) (frame : ℕ) (names changed : List Address) →
+    AreListed old lists → InRange address → Changes old new address entry → ((serial s : ℕ) → entry ≢ Migration serial s) →
     slice_get lists frame ≡ Some names → IsListOf new frame changed →
     ((g : ℕ) → g ≢ frame → (is_listed (entry_at old address) g ≡ false) × (is_listed entry g ≡ false)) → AreListed new (slice_set lists frame changed)
-listed_changed old new lists address entry frame names changed listed range count change rests at list off = record {
-  count = count;
+listed_changed old new lists address entry frame names changed listed range change rests at list off = record {
+  in_range = λ a some. elim (address_tells a address) [
+    | inl same ↦ subst InRange (sym same) range
+    | inr other ↦ listed.in_range a (λ e. some (change.elsewhere a other ∙ e))
+  ];
   each = λ g xs e. elim (eqb_tells g frame) [
     | inl here ↦ (let both : Some changed ≡ Some xs = sym (slice_get_set_same lists frame g changed here.1 inside) ∙ e in
         let is : changed ≡ xs = cc in
         subst (λ (f : ℕ). IsListOf new f xs) (sym here.1) (subst (IsListOf new frame) is list))
     | inr other ↦ list_kept old new address entry range change g xs (listed.each g xs (sym (slice_get_set_other lists frame g changed other.1) ∙ e)) (off g other.1).0 (off g other.1).1
   ];
-  within = λ b g e. elim (eqb_tells (place_of b) (place_of address)) [
+  within = λ b g e. elim (address_tells b address) [
     | inl same ↦ elim (eqb_tells g frame) [
       | inl is ↦ omega (arith, is.1, inside, length-set lists frame changed)
-      | inr ne ↦ absurd (both_ways _ (off g ne.1).1 (sym (ap (λ e. is_listed e g) (change.here b same.1)) ∙ e))
+      | inr ne ↦ absurd (both_ways _ (off g ne.1).1 (sym (ap (λ e. is_listed e g) (ap (entry_at new) same ∙ change.here)) ∙ e))
     ]
-    | inr other ↦ omega (arith, listed.within b g (sym (ap (λ e. is_listed e g) (change.elsewhere b other.1)) ∙ e), length-set lists frame changed)
+    | inr other ↦ omega (arith, listed.within b g (sym (ap (λ e. is_listed e g) (change.elsewhere b other)) ∙ e), length-set lists frame changed)
   ];
   one_source = λ a b serial s t p q x y. listed.one_source a b serial s t p q (was a serial s x) (was b serial t y);
 } where
@@ -174,51 +140,51 @@ listed_changed old new lists address entry frame names changed listed range coun
   inside = slice_get_within lists frame names at
 
   was : (a : Address) (serial s : ℕ) → entry_at new a ≡ Migration serial s → entry_at old a ≡ Migration serial s
-  was a serial s x = elim (eqb_tells (place_of a) (place_of address)) [
-    | inl same ↦ absurd (rests serial s (sym (change.here a same.1) ∙ x))
-    | inr other ↦ sym (change.elsewhere a other.1) ∙ x
+  was a serial s x = elim (address_tells a address) [
+    | inl same ↦ absurd (rests serial s (sym (ap (entry_at new) same ∙ change.here) ∙ x))
+    | inr other ↦ sym (change.elsewhere a other) ∙ x
   ]
 
 -- an address is bound to a frame
-pub listed_set : (old new : List Entry) (lists : List (List Address)) (address : Address) (frame : ℕ) (names : List Address) →
-    AreListed old lists → InRange address → length new ≡ 32768 → Changes old new address (Present frame) → entry_at old address ≡ Absent →
+pub listed_set : (old new : EntryTable) (lists : List (List Address)) (address : Address) (frame : ℕ) (names : List Address) →
+    AreListed old lists → InRange address → Changes old new address (Present frame) → entry_at old address ≡ Absent →
     slice_get lists frame ≡ Some names → length names < 4 → AreListed new (slice_set lists frame (inserted names address))
-listed_set old new lists address frame names listed range count change absent at room =
-    listed_changed old new lists address (Present frame) frame names (inserted names address) listed range count change (λ serial s e. cc) at
+listed_set old new lists address frame names listed range change absent at room =
+    listed_changed old new lists address (Present frame) frame names (inserted names address) listed range change (λ serial s e. cc) at
     (list_gains old new address (Present frame) range change frame names (listed.each frame names at) (ap (λ e. is_listed e frame) absent) (eq-eqb frame frame refl) room)
     (λ g ne. (ap (λ e. is_listed e g) absent, ne_eqb frame g (λ e. ne (sym e))))
 
 -- an address names nothing any more
-pub listed_clear : (old new : List Entry) (lists : List (List Address)) (address : Address) (frame : ℕ) (names : List Address) →
-    AreListed old lists → InRange address → length new ≡ 32768 → Changes old new address Absent → entry_at old address ≡ Present frame →
+pub listed_clear : (old new : EntryTable) (lists : List (List Address)) (address : Address) (frame : ℕ) (names : List Address) →
+    AreListed old lists → InRange address → Changes old new address Absent → entry_at old address ≡ Present frame →
     slice_get lists frame ≡ Some names → AreListed new (slice_set lists frame (without names address))
-listed_clear old new lists address frame names listed range count change present at =
-    listed_changed old new lists address Absent frame names (without names address) listed range count change (λ serial s e. cc) at
+listed_clear old new lists address frame names listed range change present at =
+    listed_changed old new lists address Absent frame names (without names address) listed range change (λ serial s e. cc) at
     (list_loses old new address Absent range change frame names (listed.each frame names at) refl)
     (λ g ne. (ap (λ e. is_listed e g) present ∙ ne_eqb frame g (λ e. ne (sym e)), refl))
 
--- an address that names something has the place of an address in range
-pub real : (entries : List Entry) (a : Address) → length entries ≡ 32768 → entry_at entries a ≢ Absent → (b : Address) × InRange b × (place_of b ≡ place_of a)
-real entries a count some = elim (leb_tells (length entries) (place_of a)) [
-  | inl past ↦ absurd (some (ap (λ (o : Option Entry). unwrap_or o Absent) (slice_get_past entries (place_of a) past.1)))
-  | inr here ↦ (address_at (place_of a), range_at (place_of a) (omega (arith, here.1)), place_at (place_of a))
+-- what holds of the absent entry, and at each address in range, holds at every address
+pub everywhere : (entries : EntryTable) (lists : List (List Address)) → AreListed entries lists → (Holds : Entry → Type 0) → Holds Absent →
+    ((a : Address) → InRange a → Holds (entry_at entries a)) → (a : Address) → Holds (entry_at entries a)
+everywhere entries lists listed Holds none here a = elim (same_entry (entry_at entries a) Absent) [
+  | inl absent ↦ subst Holds (sym absent) none
+  | inr some ↦ here a (listed.in_range a some)
 ]
 
--- what holds of the absent entry, and at each address in range, holds at every address
-pub everywhere : (entries : List Entry) → length entries ≡ 32768 → (Holds : Entry → Type 0) → Holds Absent →
-    ((a : Address) → InRange a → Holds (entry_at entries a)) → (a : Address) → Holds (entry_at entries a)
-everywhere entries count Holds none here a = elim (leb_tells (length entries) (place_of a)) [
-  | inl past ↦ subst Holds (sym (ap (λ (o : Option Entry). unwrap_or o Absent) (slice_get_past entries (place_of a) past.1))) none
-  | inr low ↦ subst Holds (ap (λ (p : ℕ). unwrap_or (slice_get entries p) Absent) (place_at (place_of a)))
-      (here (address_at (place_of a)) (range_at (place_of a) (omega (arith, low.1))))
+-- each address that names something is still in range where one entry took the place of another
+pub range_kept : (old new : EntryTable) (lists : List (List Address)) (from to : Entry) → AreListed old lists → Replaces old new from to → from ≢ Absent →
+    (a : Address) → entry_at new a ≢ Absent → InRange a
+range_kept old new lists from to listed change names a some = elim (same_entry (entry_at old a) from) [
+  | inl one ↦ listed.in_range a (λ e. names (sym one ∙ e))
+  | inr one ↦ listed.in_range a (λ e. some (change.elsewhere a one ∙ e))
 ]
 
 -- a page is isolated: its addresses stay listed under the frame that it left
-pub listed_moved : (old new : List Entry) (lists : List (List Address)) (frame serial : ℕ) → AreListed old lists → length new ≡ 32768 →
+pub listed_moved : (old new : EntryTable) (lists : List (List Address)) (frame serial : ℕ) → AreListed old lists →
     Replaces old new (Present frame) (Migration serial frame) →
     ((a : Address) (source : ℕ) → InRange a → entry_at old a ≢ Migration serial source) → AreListed new lists
-listed_moved old new lists frame serial listed count change fresh = record {
-  count = count;
+listed_moved old new lists frame serial listed change fresh = record {
+  in_range = range_kept old new lists (Present frame) (Migration serial frame) listed change (λ e. cc);
   each = λ g names e. moved_list old new g g names (listed.each g names e) (λ b range. same b g);
   within = λ b g e. listed.within b g (sym (same b g) ∙ e);
   one_source = λ a b s f g p q x y. elim (was a s f x) [
@@ -257,7 +223,7 @@ swapped_at lists swapped i j a b count at = record {
 }
 
 -- a move ends: the addresses of the page are listed under its frame
-module _ (old new : List Entry) (lists swapped : List (List Address)) (serial source frame : ℕ) (listed : AreListed old lists) (count : length new ≡ 32768)
+module _ (old new : EntryTable) (lists swapped : List (List Address)) (serial source frame : ℕ) (listed : AreListed old lists)
     (change : Replaces old new (Migration serial source) (Present frame)) (swap : Swapped lists swapped source frame)
     (left : (a : Address) → InRange a → is_listed (entry_at old a) source ≡ true → entry_at old a ≡ Migration serial source)
     (unnamed : frame ≢ source → (a : Address) → InRange a → is_listed (entry_at old a) frame ≡ false)
@@ -292,7 +258,7 @@ module _ (old new : List Entry) (lists swapped : List (List Address)) (serial so
 
   pub listed_ended : AreListed new swapped
   listed_ended = record {
-    count = count;
+    in_range = range_kept old new lists (Migration serial source) (Present frame) listed change (λ e. cc);
     each = λ g names e. elim (eqb_tells g frame) [
       | inl same ↦ subst (λ (f : ℕ). IsListOf new f names) (sym same.1) (moved_list old new source frame names (listed.each source names (sym swap.second ∙ ap (slice_get swapped) (sym same.1) ∙ e)) here)
       | inr ne ↦ elim (eqb_tells g source) [
@@ -314,9 +280,9 @@ all_same (suc n) zero x = refl
 all_same (suc n) (suc place) x = all_same n place x
 
 -- no address names anything
-pub listed_none : (entries : List Entry) (n : ℕ) → length entries ≡ 32768 → IsBlank entries → AreListed entries (replicate n [])
-listed_none entries n count blank = record {
-  count = count;
+pub listed_none : (entries : EntryTable) (n : ℕ) → IsBlank entries → AreListed entries (replicate n [])
+listed_none entries n blank = record {
+  in_range = λ a some. absurd (some (blank a));
   each = λ frame names e. subst (IsListOf entries frame) (sym (all_same n frame []) ∙ ap (λ (o : Option (List Address)). unwrap_or o []) e) (record {
     few = omega arith;
     just = record { rising = tt; each = λ b. (λ h. absurd h, λ h. (let bad : false ≡ true = sym (ap (λ x. is_listed x frame) (blank b)) ∙ h.1 in cc)) };
@@ -326,7 +292,7 @@ listed_none entries n count blank = record {
 }
 
 -- the addresses of a frame's list that have an entry are all that have it
-pub just_those : (entries : List Entry) (frame : ℕ) (names found : List Address) (entry : Entry) → IsListOf entries frame names → is_listed entry frame ≡ true → IsRising found →
+pub just_those : (entries : EntryTable) (frame : ℕ) (names found : List Address) (entry : Entry) → IsListOf entries frame names → is_listed entry frame ≡ true → IsRising found →
     ((a : Address) → (IsIn found a → IsIn names a × (entry_at entries a ≡ entry)) × (IsIn names a × (entry_at entries a ≡ entry) → IsIn found a)) →
     AreJust found (λ a. entry_at entries a ≡ entry)
 just_those entries frame names found entry list under rising those = record {

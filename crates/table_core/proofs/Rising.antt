@@ -3,8 +3,7 @@ use Rattle.std.proofs.Common.{◌≡◌, ◌≢◌, ℕ, suc, ◌+◌, ◌<◌, 
 use Rattle.std.specs.Prelude.{nat_le, nat_eq, if◌then◌else◌, insert, remove}
 use Rattle.std.proofs.lemmas.Bool.Decides.{leb_tells, eqb_tells}
 use Rattle.frame_core.specs.declared.place.Address.{Address}
-use Rattle.table_core.specs.Names.{IsIn, IsRising, rank, inserted, without}
-use Rattle.table_core.specs.Tables.{place_of}
+use Rattle.table_core.specs.Names.{IsIn, IsRising, order_of, rank, inserted, without}
 
 -- where an address is inserted
 at_rank : (x : Address) (xs : List Address) (a : Address) (t : Bool) → insert xs (rank xs a) a ≡ inserted xs a →
@@ -14,7 +13,7 @@ at_rank x xs a true same = refl
 
 pub insert_at_rank : (xs : List Address) (a : Address) → insert xs (rank xs a) a ≡ inserted xs a
 insert_at_rank [] a = refl
-insert_at_rank (x ∷ xs) a = at_rank x xs a (nat_le (place_of a) (place_of x)) (insert_at_rank xs a)
+insert_at_rank (x ∷ xs) a = at_rank x xs a (nat_le (order_of a) (order_of x)) (insert_at_rank xs a)
 
 insert_last : (xs : List Address) (a : Address) → insert xs (length xs) a ≡ xs ++ a ∷ []
 insert_last [] a = refl
@@ -33,7 +32,7 @@ from_step x xs a b true rest (inr h) = inr h
 pub from_inserted : (xs : List Address) (a b : Address) → IsIn (inserted xs a) b → (a ≡ b) ⊎ IsIn xs b
 from_inserted [] a b (inl e) = inl e
 from_inserted [] a b (inr h) = absurd h
-from_inserted (x ∷ xs) a b h = from_step x xs a b (nat_le (place_of a) (place_of x)) (from_inserted xs a b) h
+from_inserted (x ∷ xs) a b h = from_step x xs a b (nat_le (order_of a) (order_of x)) (from_inserted xs a b) h
 
 to_step : (x : Address) (xs : List Address) (a b : Address) (t : Bool) → ((a ≡ b) ⊎ IsIn xs b → IsIn (inserted xs a) b) →
     (a ≡ b) ⊎ IsIn (x ∷ xs) b → IsIn (if t then a ∷ x ∷ xs else x ∷ inserted xs a) b
@@ -46,7 +45,7 @@ to_step x xs a b true rest (inr h) = inr h
 pub to_inserted : (xs : List Address) (a b : Address) → (a ≡ b) ⊎ IsIn xs b → IsIn (inserted xs a) b
 to_inserted [] a b (inl e) = inl e
 to_inserted [] a b (inr h) = absurd h
-to_inserted (x ∷ xs) a b h = to_step x xs a b (nat_le (place_of a) (place_of x)) (to_inserted xs a b) h
+to_inserted (x ∷ xs) a b h = to_step x xs a b (nat_le (order_of a) (order_of x)) (to_inserted xs a b) h
 
 length_step : (x : Address) (xs : List Address) (a : Address) (t : Bool) → length (inserted xs a) ≡ length xs + 1 →
     length (if t then a ∷ x ∷ xs else x ∷ inserted xs a) ≡ suc (length xs) + 1
@@ -55,27 +54,27 @@ length_step x xs a true rest = omega arith
 
 pub length_inserted : (xs : List Address) (a : Address) → length (inserted xs a) ≡ length xs + 1
 length_inserted [] a = refl
-length_inserted (x ∷ xs) a = length_step x xs a (nat_le (place_of a) (place_of x)) (length_inserted xs a)
+length_inserted (x ∷ xs) a = length_step x xs a (nat_le (order_of a) (order_of x)) (length_inserted xs a)
 
-pub rising_inserted : (xs : List Address) (a : Address) → IsRising xs → ((b : Address) → IsIn xs b → place_of b ≢ place_of a) → IsRising (inserted xs a)
+pub rising_inserted : (xs : List Address) (a : Address) → IsRising xs → ((b : Address) → IsIn xs b → order_of b ≢ order_of a) → IsRising (inserted xs a)
 rising_inserted [] a r new = (λ b h. absurd h, tt)
 rising_inserted (x ∷ xs) a r new =
-    elim (leb_tells (place_of a) (place_of x)) [
+    elim (leb_tells (order_of a) (order_of x)) [
       | inr low ↦ subst IsRising (sym (ap (λ t. if t then a ∷ x ∷ xs else x ∷ inserted xs a) low.0))
-          (λ b h. (elim (from_inserted xs a b h) [ inl e ↦ (let at : place_of a ≡ place_of b = ap place_of e in omega (arith, low.1)) | inr k ↦ r.0 b k ]), rising_inserted xs a r.1 (λ b k. new b (inr k)))
-      | inl high ↦ (let ne : place_of x ≢ place_of a = new x (inl refl) in
+          (λ b h. (elim (from_inserted xs a b h) [ inl e ↦ (let at : order_of a ≡ order_of b = ap order_of e in omega (arith, low.1)) | inr k ↦ r.0 b k ]), rising_inserted xs a r.1 (λ b k. new b (inr k)))
+      | inl high ↦ (let ne : order_of x ≢ order_of a = new x (inl refl) in
           subst IsRising (sym (ap (λ t. if t then a ∷ x ∷ xs else x ∷ inserted xs a) high.0))
-          (λ b h. (elim h [ inl e ↦ (let at : place_of x ≡ place_of b = ap place_of e in omega (arith, high.1)) | inr k ↦ (let up : place_of x < place_of b = r.0 b k in omega (arith, high.1)) ]), r))
+          (λ b h. (elim h [ inl e ↦ (let at : order_of x ≡ order_of b = ap order_of e in omega (arith, high.1)) | inr k ↦ (let up : order_of x < order_of b = r.0 b k in omega (arith, high.1)) ]), r))
     ]
 
 -- where an address is removed
 pub rank_within : (xs : List Address) (a : Address) → IsRising xs → IsIn xs a → rank xs a < length xs
 rank_within [] a r h = absurd h
 rank_within (x ∷ xs) a r h =
-    elim (leb_tells (place_of a) (place_of x)) [
+    elim (leb_tells (order_of a) (order_of x)) [
       | inr low ↦ (let is : rank (x ∷ xs) a ≡ suc (rank xs a) = ap (λ t. if t then 0 else suc (rank xs a)) low.0 in
           elim h [
-            | inl e ↦ (let at : place_of x ≡ place_of a = ap place_of e in absurd (omega (arith, low.1)))
+            | inl e ↦ (let at : order_of x ≡ order_of a = ap order_of e in absurd (omega (arith, low.1)))
             | inr k ↦ (let rest = rank_within xs a r.1 k in omega arith)
           ])
       | inl high ↦ (let is : rank (x ∷ xs) a ≡ 0 = ap (λ t. if t then 0 else suc (rank xs a)) high.0 in omega arith)
@@ -84,10 +83,10 @@ rank_within (x ∷ xs) a r h =
 pub remove_at_rank : (xs : List Address) (a : Address) → IsRising xs → IsIn xs a → remove xs (rank xs a) ≡ without xs a
 remove_at_rank [] a r h = absurd h
 remove_at_rank (x ∷ xs) a r h =
-    elim (leb_tells (place_of a) (place_of x)) [
+    elim (leb_tells (order_of a) (order_of x)) [
       | inr low ↦ elim h [
-        | inl e ↦ (let at : place_of x ≡ place_of a = ap place_of e in absurd (omega (arith, low.1)))
-        | inr k ↦ elim (eqb_tells (place_of x) (place_of a)) [
+        | inl e ↦ (let at : order_of x ≡ order_of a = ap order_of e in absurd (omega (arith, low.1)))
+        | inr k ↦ elim (eqb_tells (order_of x) (order_of a)) [
           | inl same ↦ absurd (omega (arith, low.1, same.1))
           | inr other ↦
               ap (λ t. remove (x ∷ xs) (if t then 0 else suc (rank xs a))) low.0
@@ -95,30 +94,30 @@ remove_at_rank (x ∷ xs) a r h =
               ∙ sym (ap (λ t. if t then xs else x ∷ without xs a) other.0)
         ]
       ]
-      | inl high ↦ elim (eqb_tells (place_of x) (place_of a)) [
+      | inl high ↦ elim (eqb_tells (order_of x) (order_of a)) [
         | inl same ↦ ap (λ t. remove (x ∷ xs) (if t then 0 else suc (rank xs a))) high.0 ∙ sym (ap (λ t. if t then xs else x ∷ without xs a) same.0)
         | inr other ↦ elim h [
-          | inl e ↦ absurd (other.1 (ap place_of e))
-          | inr k ↦ (let up : place_of x < place_of a = r.0 a k in absurd (omega (arith, high.1)))
+          | inl e ↦ absurd (other.1 (ap order_of e))
+          | inr k ↦ (let up : order_of x < order_of a = r.0 a k in absurd (omega (arith, high.1)))
         ]
       ]
     ]
 
-pub from_without : (xs : List Address) (a b : Address) → IsRising xs → IsIn (without xs a) b → IsIn xs b × (place_of b ≢ place_of a)
+pub from_without : (xs : List Address) (a b : Address) → IsRising xs → IsIn (without xs a) b → IsIn xs b × (order_of b ≢ order_of a)
 from_without [] a b r h = absurd h
-from_without (x ∷ xs) a b r h = elim (eqb_tells (place_of x) (place_of a)) [
+from_without (x ∷ xs) a b r h = elim (eqb_tells (order_of x) (order_of a)) [
   | inl same ↦ (let k : IsIn xs b = subst (λ (ys : List Address). IsIn ys b) (ap (λ t. if t then xs else x ∷ without xs a) same.0) h in
-      let up : place_of x < place_of b = r.0 b k in
+      let up : order_of x < order_of b = r.0 b k in
       (inr k, λ e. absurd (omega (arith, same.1))))
   | inr other ↦ (let k : IsIn (x ∷ without xs a) b = subst (λ (ys : List Address). IsIn ys b) (ap (λ t. if t then xs else x ∷ without xs a) other.0) h in
-      elim k [ inl e ↦ (inl e, λ at. other.1 (ap place_of e ∙ at)) | inr l ↦ (let rest = from_without xs a b r.1 l in (inr rest.0, rest.1)) ])
+      elim k [ inl e ↦ (inl e, λ at. other.1 (ap order_of e ∙ at)) | inr l ↦ (let rest = from_without xs a b r.1 l in (inr rest.0, rest.1)) ])
 ]
 
-pub to_without : (xs : List Address) (a b : Address) → IsIn xs b → place_of b ≢ place_of a → IsIn (without xs a) b
+pub to_without : (xs : List Address) (a b : Address) → IsIn xs b → order_of b ≢ order_of a → IsIn (without xs a) b
 to_without [] a b h ne = absurd h
-to_without (x ∷ xs) a b h ne = elim (eqb_tells (place_of x) (place_of a)) [
+to_without (x ∷ xs) a b h ne = elim (eqb_tells (order_of x) (order_of a)) [
   | inl same ↦ subst (λ (ys : List Address). IsIn ys b) (sym (ap (λ t. if t then xs else x ∷ without xs a) same.0))
-      (elim h [ inl e ↦ absurd (ne (sym (ap place_of e) ∙ same.1)) | inr k ↦ k ])
+      (elim h [ inl e ↦ absurd (ne (sym (ap order_of e) ∙ same.1)) | inr k ↦ k ])
   | inr other ↦ subst (λ (ys : List Address). IsIn ys b) (sym (ap (λ t. if t then xs else x ∷ without xs a) other.0))
       (elim h [ inl e ↦ inl e | inr k ↦ inr (to_without xs a b k ne) ])
 ]
@@ -130,11 +129,11 @@ without_step x xs a false rest = omega (arith, rest)
 
 pub length_without : (xs : List Address) (a : Address) → length (without xs a) ≤ length xs
 length_without [] a = omega arith
-length_without (x ∷ xs) a = without_step x xs a (nat_eq (place_of x) (place_of a)) (length_without xs a)
+length_without (x ∷ xs) a = without_step x xs a (nat_eq (order_of x) (order_of a)) (length_without xs a)
 
 pub rising_without : (xs : List Address) (a : Address) → IsRising xs → IsRising (without xs a)
 rising_without [] a r = tt
-rising_without (x ∷ xs) a r = elim (eqb_tells (place_of x) (place_of a)) [
+rising_without (x ∷ xs) a r = elim (eqb_tells (order_of x) (order_of a)) [
   | inl same ↦ subst IsRising (sym (ap (λ t. if t then xs else x ∷ without xs a) same.0)) r.1
   | inr other ↦ subst IsRising (sym (ap (λ t. if t then xs else x ∷ without xs a) other.0))
       (λ b h. r.0 b (from_without xs a b r.1 h).0, rising_without xs a r.1)
@@ -154,10 +153,10 @@ to_pushed (x ∷ xs) a b (inl (inl e)) = inl e
 to_pushed (x ∷ xs) a b (inl (inr h)) = inr (to_pushed xs a b (inl h))
 to_pushed (x ∷ xs) a b (inr e) = inr (to_pushed xs a b (inr e))
 
-pub rising_pushed : (xs : List Address) (a : Address) → IsRising xs → ((b : Address) → IsIn xs b → place_of b < place_of a) → IsRising (xs ++ a ∷ [])
+pub rising_pushed : (xs : List Address) (a : Address) → IsRising xs → ((b : Address) → IsIn xs b → order_of b < order_of a) → IsRising (xs ++ a ∷ [])
 rising_pushed [] a r before = (λ b h. absurd h, tt)
 rising_pushed (x ∷ xs) a r before = (
-  λ b h. (elim (from_pushed xs a b h) [ inl k ↦ r.0 b k | inr e ↦ subst (λ (c : Address). place_of x < place_of c) e (before x (inl refl)) ]),
+  λ b h. (elim (from_pushed xs a b h) [ inl k ↦ r.0 b k | inr e ↦ subst (λ (c : Address). order_of x < order_of c) e (before x (inl refl)) ]),
   rising_pushed xs a r.1 (λ b k. before b (inr k)),
 )
 
@@ -169,15 +168,15 @@ no_longer (x ∷ xs) (y ∷ ys) r s each =
     elim (each x (inl refl)) [
       | inl e ↦ (let rest : length xs ≤ length ys = no_longer xs ys r.1 s.1 (λ a h.
           (elim (each a (inr h)) [
-            | inl f ↦ (let up : place_of x < place_of a = r.0 a h in let at : place_of y ≡ place_of x = ap place_of e in let to : place_of y ≡ place_of a = ap place_of f in absurd (omega arith))
+            | inl f ↦ (let up : order_of x < order_of a = r.0 a h in let at : order_of y ≡ order_of x = ap order_of e in let to : order_of y ≡ order_of a = ap order_of f in absurd (omega arith))
             | inr k ↦ k
           ])) in omega arith)
-      | inr k ↦ (let low : place_of y < place_of x = s.0 x k in
+      | inr k ↦ (let low : order_of y < order_of x = s.0 x k in
           let rest : suc (length xs) ≤ length ys = no_longer (x ∷ xs) ys r s.1 (λ a h.
           (elim (each a h) [
-            | inl f ↦ (let to : place_of y ≡ place_of a = ap place_of f in absurd (elim h [
-              | inl e ↦ (let at : place_of x ≡ place_of a = ap place_of e in omega arith)
-              | inr l ↦ (let up : place_of x < place_of a = r.0 a l in omega arith)
+            | inl f ↦ (let to : order_of y ≡ order_of a = ap order_of f in absurd (elim h [
+              | inl e ↦ (let at : order_of x ≡ order_of a = ap order_of e in omega arith)
+              | inr l ↦ (let up : order_of x < order_of a = r.0 a l in omega arith)
             ]))
             | inr l ↦ l
           ])) in omega arith)

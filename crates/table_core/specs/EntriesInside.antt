@@ -1,7 +1,8 @@
 -- How the frame of each address, and the serial of each frame, make up the entries of a zone's tables.
-use Rattle.std.specs.Prelude.{◌≡◌, ℕ, ◌<◌, List, length, map as each, slice_get, unwrap_or, Option, Some, None}
+use Rattle.std.specs.Prelude.{◌≡◌, ℕ, ◌*◌, ◌<◌, List, length, map as each, slice_get, unwrap_or, Option, Some, None}
 use Rattle.table_core.specs.declared.entry.Entry.{Entry}
 use Rattle.table_core.specs.declared.entry.Entry.TheVariants.{Absent, Present, Migration}
+use Rattle.table_core.specs.declared.size.Size.{Size}
 
 -- the serial of the page that left a frame and is moving, if there is one
 abbrev pub serial_at : List (Option ℕ) → ℕ → Option ℕ
@@ -22,6 +23,6 @@ abbrev pub entries_of : List (Option ℕ) → List (Option ℕ) → List Entry
 entries_of serials frames = each (entry_by serials) frames
 
 -- the list of frames has a place for each address, and the list of serials one for each frame that an address is listed under
-pub record AreKept (serials frames : List (Option ℕ)) : Type 0 where
-  pub count : length frames ≡ 32768
+pub record AreKept (size : Size) (serials frames : List (Option ℕ)) : Type 0 where
+  pub count : length frames ≡ size.spaces * size.pages
   pub within : (place frame : ℕ) → slice_get frames place ≡ Some (Some frame) → frame < length serials

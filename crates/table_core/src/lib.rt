@@ -6,6 +6,7 @@
 mod entries;
 mod entry;
 mod names;
+mod size;
 mod tables;
 mod walks;
 

@@ -1,12 +1,13 @@
 ghost use Rattle.std.specs.Prelude.{◌≡◌, ◌+◌, ◌<◌, ◌≤◌, [], length, replicate, IfOk};
-ghost use Rattle.table_core.specs.Names.{IsIn, IsRising, rank, inserted, without};
-ghost use Rattle.table_core.specs.Tables.{place_of};
-ghost use Rattle.frame_core.specs.Address.{InRange};
+ghost use Rattle.table_core.specs.Names.{IsIn, IsRising, order_of, rank, inserted, without};
 
 use arrayvec::ArrayVec;
 use frame_core::{Address, FixedVec};
 use std::alloc::{AllocError, Global};
 use std::marker::Model;
+
+/// The most virtual pages that a space of a table has.
+const MOST_PAGES: usize = 16_777_216;
 
 /// The addresses that are listed under a frame, in rising order.
 #[derive(Drop)]
@@ -85,18 +86,16 @@ fn rank(addresses: &[Address], address: &Address) -> usize
     ensures within { result ≤ length addresses.now }
 {
     for i in 0..addresses.len() {
-        if index_of(address) <= index_of(&addresses[i]) {
+        if order_of(address) <= order_of(&addresses[i]) {
             return i;
         }
     }
     addresses.len()
 }
 
-/// The place of an address among all addresses: the spaces stand one after the other.
-pub fn index_of(address: &Address) -> usize
-    ensures place { result ≡ place_of address.now }
-    ensures range { result < 32768 }
-    ensures in_range { InRange address.now }
+/// Where an address stands in rising order: by space, then by virtual page.
+fn order_of(address: &Address) -> usize
+    ensures { result ≡ order_of address.now }
 {
-    4096 * address.space.get() as usize + address.vpage.get() as usize
+    MOST_PAGES * address.space.get() as usize + address.vpage.get() as usize
 }

@@ -1,12 +1,13 @@
-ghost use Rattle.std.specs.Prelude.{◌≡◌, ◌≢◌, ◌↔◌, ℕ, ◌*◌, ◌<◌, ◌≤◌, true, false, length, IfOk, IsTrue};
+ghost use Rattle.std.specs.Prelude.{◌≡◌, ◌≢◌, ◌↔◌, ℕ, ◌*◌, ◌^◌, ◌<◌, ◌≤◌, true, false, length, IfOk, IsTrue};
 ghost use Rattle.frame_core.specs.Address.{InRange};
 ghost use Rattle.frame_core.specs.declared.place.Address.{Address as Named};
 ghost use Rattle.table_core.specs.Names.{IsIn, IsRising, AreJust};
-ghost use Rattle.table_core.specs.Tables.{entry_at, is_listed, count_listed, IsBlank, ChangesOnly, Replaces};
+ghost use Rattle.table_core.specs.Tables.{InTable, entry_at, is_listed, count_listed, IsBlank, ChangesOnly, Replaces};
 
 use crate::entries::Entries;
 use crate::entry::Entry;
-use crate::names::{Names, index_of, none_named};
+use crate::names::{Names, none_named};
+use crate::size::Size;
 use arrayvec::ArrayVec;
 use frame_core::{Address, FixedVec, FrameNo, Serial};
 use std::alloc::{AllocError, Global};
@@ -32,26 +33,35 @@ impl Model for Tables {
 }
 
 impl Tables {
-    /// Tables for this many pageblocks, 8 at most, in which each address is absent, or an error where there is no
-    /// memory for them. No other call takes memory.
-    pub fn open(alloc: Global, blocks: u32) -> Result<Tables, AllocError>
-        requires { blocks ≤ 8 }
+    /// Tables for this many pageblocks, and for this many address spaces with so many virtual pages each, in which each
+    /// address is absent, or an error where there is no memory for them. No other call takes memory.
+    pub fn open(alloc: Global, blocks: u32, spaces: u32, pages: u32) -> Result<Tables, AllocError>
+        requires blocks { blocks ≤ 32768 }
+        requires spaces { spaces ≤ 256 }
+        requires pages { pages ≤ 2 ^ 24 }
+        requires addresses { spaces * pages ≤ 2 ^ 26 }
         ensures blank { IfOk result (λ tables. IsBlank tables.entries) }
         ensures frames { IfOk result (λ tables. tables.frames ≡ 512 * blocks) }
+        ensures size { IfOk result (λ tables. tables.entries.size ≡ record { spaces = spaces; pages = pages }) }
     {
         let frames = 512 * blocks as usize;
         Ok(Tables {
-            entries: Entries::open(alloc, frames)?,
+            entries: Entries::open(alloc, Size { spaces, pages }, frames)?,
             lists: none_named(alloc, frames)?,
         })
     }
 
-    /// What an address names.
+    /// What an address names: nothing, if it is outside of the table.
     pub fn entry(&self, address: Address) -> Entry
         ensures value { result ≡ entry_at self.now.entries address }
         ensures range { InRange address }
     {
-        self.entries.get(index_of(&address))
+        let size = self.entries.size();
+        if size.has(&address) {
+            self.entries.get(size.place_of(&address))
+        } else {
+            Entry::Absent
+        }
     }
 
     /// Whether a further address may name a frame: fewer than 4 are listed under it.
@@ -62,9 +72,10 @@ impl Tables {
         self.lists[frame.get() as usize].as_slice().len() < 4
     }
 
-    /// Makes an absent address name the page in a frame. `has_room` has to be true of the frame, and no address may name a
-    /// page that left it.
+    /// Makes an absent address of the table name the page in a frame. `has_room` has to be true of the frame, and no address
+    /// may name a page that left it.
     pub fn set(&mut self, address: Address, frame: FrameNo)
+        requires inside { InRange address → InTable self.old.entries.size.spaces self.old.entries.size.pages address }
         requires absent { entry_at self.old.entries address ≡ Entry.Absent }
         requires within { frame < self.old.frames }
         requires room { count_listed self.old.entries frame < 4 }
@@ -72,8 +83,10 @@ impl Tables {
         ensures set { ChangesOnly self.old.entries self.new.entries address (Entry.Present frame) }
         ensures range { InRange address }
         ensures frames { self.new.frames ≡ self.old.frames }
+        ensures size { self.new.entries.size ≡ self.old.entries.size }
     {
-        self.entries.set(index_of(&address), frame);
+        let place = self.entries.size().place_of(&address);
+        self.entries.set(place, frame);
         self.lists[frame.get() as usize].insert(address);
     }
 
@@ -84,8 +97,9 @@ impl Tables {
         ensures cleared { ChangesOnly self.old.entries self.new.entries address Entry.Absent }
         ensures range { InRange address }
         ensures frames { self.new.frames ≡ self.old.frames }
+        ensures size { self.new.entries.size ≡ self.old.entries.size }
     {
-        let place = index_of(&address);
+        let place = self.entries.size().place_of(&address);
         if let Entry::Present(frame) = self.entries.get(place) {
             self.entries.clear(place);
             self.lists[frame.get() as usize].remove(&address);
@@ -100,6 +114,7 @@ impl Tables {
         requires resting { (a : Named) (other : ℕ) → InRange a → entry_at self.old.entries a ≢ Entry.Migration other frame }
         ensures replaced { Replaces self.old.entries self.new.entries (Entry.Present frame) (Entry.Migration serial frame) }
         ensures frames { self.new.frames ≡ self.old.frames }
+        ensures size { self.new.entries.size ≡ self.old.entries.size }
     {
         self.entries.to_migration(frame, serial);
     }
@@ -114,6 +129,7 @@ impl Tables {
         requires unnamed { frame ≢ source → (a : Named) → InRange a → is_listed (entry_at self.old.entries a) frame ≡ false }
         ensures replaced { Replaces self.old.entries self.new.entries (Entry.Migration serial source) (Entry.Present frame) }
         ensures frames { self.new.frames ≡ self.old.frames }
+        ensures size { self.new.entries.size ≡ self.old.entries.size }
     {
         let names = self.lists[source.get() as usize].as_slice();
         self.entries.to_present(names, serial, source, frame);
@@ -141,14 +157,16 @@ impl Tables {
 
 /// The addresses of the list, four at most, that have this entry.
 fn those_with(entries: &Entries, names: &[Address], entry: &Entry) -> ArrayVec<Address, 4>
+    requires inside { (a : Named) → IsIn names.now a → InTable entries.now.entries.size.spaces entries.now.entries.size.pages a }
     requires few { length names.now ≤ 4 }
     requires rising { IsRising names.now }
     ensures rising { IsRising result.items }
     ensures each { (a : Named) → IsIn result.items a ↔ (IsIn names.now a × (entry_at entries.now.entries a ≡ entry.now)) }
 {
+    let size = entries.size();
     let mut found = ArrayVec::new();
     for name in names {
-        if entries.get(index_of(name)) == *entry {
+        if entries.get(size.place_of(name)) == *entry {
             found.push(*name);
         }
     }

@@ -1,16 +1,16 @@
 //! Searches over all entries, for tests that compare what they find with the lists.
 
-ghost use Rattle.std.specs.Prelude.{◌≡◌, ◌≢◌, ℕ, ◌<◌, ◌≤◌, List, length, IfSome, IfNone};
+ghost use Rattle.std.specs.Prelude.{◌≡◌, ◌≢◌, ℕ, ◌≤◌, List, length, IfSome, IfNone};
 ghost use Rattle.frame_core.specs.Address.{InRange};
 ghost use Rattle.frame_core.specs.declared.place.Address.{Address as Named};
 ghost use Rattle.table_core.specs.Names.{IsIn, IsRising, AreJust};
-ghost use Rattle.table_core.specs.Tables.{place_of, entry_at};
+ghost use Rattle.table_core.specs.Tables.{entry_at};
 
-use crate::entries::{ADDRESSES, Entries};
+use crate::entries::Entries;
 use crate::entry::Entry;
 use crate::tables::Tables;
 use arrayvec::ArrayVec;
-use frame_core::{Address, FrameNo, Serial, SpaceNo, VPage};
+use frame_core::{Address, FrameNo, Serial};
 
 impl Tables {
     /// The addresses that name the page in a frame, found by a walk over all entries.
@@ -31,16 +31,20 @@ impl Tables {
     }
 }
 
-/// The addresses that have this entry, four at most.
+/// The addresses that have this entry, four at most. It has to name something.
 fn walk(entries: &Entries, entry: &Entry) -> ArrayVec<Address, 4>
-    requires { (names : List Named) → IsRising names
+    requires named { entry.now ≢ Entry.Absent }
+    requires few { (names : List Named) → IsRising names
         → ((a : Named) → IsIn names a → InRange a × (entry_at entries.now.entries a ≡ entry.now)) → length names ≤ 4 }
     ensures { AreJust result.items (λ a. entry_at entries.now.entries a ≡ entry.now) }
 {
+    let size = entries.size();
     let mut found = ArrayVec::new();
-    for place in 0..ADDRESSES {
+    for place in 0..size.addresses() {
         if entries.get(place) == *entry {
-            found.push(address_at(place));
+            if let Some(address) = size.address_at(place) {
+                found.push(address);
+            }
         }
     }
     found
@@ -48,10 +52,10 @@ fn walk(entries: &Entries, entry: &Entry) -> ArrayVec<Address, 4>
 
 /// The frame that the page with this serial left, if such a page is moving.
 fn source_of(entries: &Entries, serial: Serial) -> Option<FrameNo>
-    ensures some { IfSome result (λ source. (a : Named) × InRange a × (entry_at entries.now.entries a ≡ Entry.Migration serial source)) }
-    ensures none { IfNone result ((a : Named) (source : ℕ) → InRange a → entry_at entries.now.entries a ≢ Entry.Migration serial source) }
+    ensures some { IfSome result (λ source. (a : Named) × (entry_at entries.now.entries a ≡ Entry.Migration serial source)) }
+    ensures none { IfNone result ((a : Named) (source : ℕ) → entry_at entries.now.entries a ≢ Entry.Migration serial source) }
 {
-    for place in 0..ADDRESSES {
+    for place in 0..entries.size().addresses() {
         if let Entry::Migration {
             serial: under,
             source,
@@ -63,19 +67,4 @@ fn source_of(entries: &Entries, serial: Serial) -> Option<FrameNo>
         }
     }
     None
-}
-
-/// The address of a place in the list of entries.
-fn address_at(place: usize) -> Address
-    requires { place < 32768 }
-    ensures place { place_of result ≡ place }
-    ensures range { InRange result }
-{
-    let Some(space) = SpaceNo::new((place / 4096) as u32) else {
-        unreachable!();
-    };
-    let Some(vpage) = VPage::new((place % 4096) as u32) else {
-        unreachable!();
-    };
-    Address { space, vpage }
 }

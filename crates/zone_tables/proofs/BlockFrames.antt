@@ -128,6 +128,7 @@ module _ {W : ℕ} (z : Inside W) (v : ZoneState) (sound : IsSound z v) (view : 
     cleared = length-set z.cleared first false ∙ sound.cleared;
     frames = held_states;
     tables = sound.tables;
+    size = sound.size;
     entries = record { each = sound.entries.each };
     words = record { count = sound.words.count; sized = sound.words.sized; each = sound.words.each };
     notes = record { count = sound.notes.count; each = λ page note e used. (let fit = sound.notes.each page note e used in record { dirty = fit.dirty; pins = fit.pins; maps = fit.maps }) };
@@ -217,6 +218,7 @@ module _ {W : ℕ} (z : Inside W) (v : ZoneState) (sound : IsSound z v) (view : 
     cleared = sound.cleared;
     frames = freed_states;
     tables = sound.tables;
+    size = sound.size;
     entries = record { each = sound.entries.each };
     words = record { count = sound.words.count; sized = sound.words.sized; each = sound.words.each };
     notes = record { count = sound.notes.count; each = λ page note e used. (let fit = sound.notes.each page note e used in record { dirty = fit.dirty; pins = fit.pins; maps = fit.maps }) };

@@ -1,5 +1,5 @@
 -- One address names something else: the entries still stand for the zone.
-use Rattle.std.proofs.Common.{◌≡◌, ◌≢◌, true, false, List, ◌⊎◌, inl, inr, sym, ap, ◌∙◌, refl, ℕ}
+use Rattle.std.proofs.Common.{◌≡◌, ◌≢◌, true, false, List, ◌⊎◌, inl, inr, sym, ap, subst, ◌∙◌, refl, ℕ}
 use Rattle.std.specs.FinMap as map
 use Rattle.std.specs.Prelude.{nat_eq, ◌&&◌, Option, Some, None}
 use Rattle.std.proofs.lemmas.Bool.Decides.{eqb_tells}
@@ -7,19 +7,24 @@ use Rattle.frame_core.specs.Address.{InRange}
 use Rattle.frame_core.specs.declared.place.Address.{Address}
 use Rattle.frame_core.specs.History.{same_address, page_at}
 use Rattle.table_core.specs.declared.entry.Entry.{Entry}
-use Rattle.table_core.specs.Tables.{entry_at, ChangesOnly}
+use Rattle.table_core.specs.declared.size.Size.{Size}
+use Rattle.table_core.specs.Tables.{EntryTable, InTable, entry_at, ChangesOnly}
 use Rattle.state_core.specs.ZoneState.{ZoneState, placement_at}
-use Rattle.zone_tables.specs.Fits.{entry_for, EntriesFit}
+use Rattle.zone_tables.specs.Fits.{size_of_zone, entry_for, EntriesFit}
 use Rattle.std.specs.Option.{option_and_then}
 
-pub entries_changed : (v w : ZoneState) (old new : List Entry) (address : Address) (entry : Entry) → EntriesFit old v → ChangesOnly old new address entry → ((a : Address) → same_address a address ≡ true → entry ≡ entry_for (placement_at w a)) → ((a : Address) → same_address a address ≡ false → placement_at w a ≡ placement_at v a) → EntriesFit new w
+-- an address in range is in the tables of a zone
+pub in_tables : (entries : EntryTable) → entries.size ≡ size_of_zone → (a : Address) → InRange a → InTable entries.size.spaces entries.size.pages a
+in_tables entries size a range = subst (λ (s : Size). InTable s.spaces s.pages a) (sym size) (record { space = range.space; vpage = range.vpage })
+
+pub entries_changed : (v w : ZoneState) (old new : EntryTable) (address : Address) (entry : Entry) → EntriesFit old v → ChangesOnly old new address entry → ((a : Address) → same_address a address ≡ true → entry ≡ entry_for (placement_at w a)) → ((a : Address) → same_address a address ≡ false → placement_at w a ≡ placement_at v a) → EntriesFit new w
 entries_changed v w old new address entry fit changes here there = record { each = λ b range. by_place b range (eqb_tells b.space address.space) (eqb_tells b.vpage address.vpage) } where
   by_place : (b : Address) → InRange b → ((nat_eq b.space address.space ≡ true) × (b.space ≡ address.space)) ⊎ ((nat_eq b.space address.space ≡ false) × (b.space ≢ address.space)) → ((nat_eq b.vpage address.vpage ≡ true) × (b.vpage ≡ address.vpage)) ⊎ ((nat_eq b.vpage address.vpage ≡ false) × (b.vpage ≢ address.vpage)) → entry_at new b ≡ entry_for (placement_at w b)
   by_place b range (inl space) (inl vpage) = changes.changed b space.1 vpage.1 ∙ here b (λ i. space.0 i && vpage.0 i)
   by_place b range (inr space) other =
-      changes.other_spaces b range.vpage space.1 ∙ fit.each b range ∙ sym (ap entry_for (there b (ap (λ t. t && nat_eq b.vpage address.vpage) space.0)))
+      changes.other_spaces b space.1 ∙ fit.each b range ∙ sym (ap entry_for (there b (ap (λ t. t && nat_eq b.vpage address.vpage) space.0)))
   by_place b range (inl space) (inr vpage) =
-      changes.other_pages b range.vpage vpage.1 ∙ fit.each b range ∙ sym (ap entry_for (there b (λ i. space.0 i && vpage.0 i)))
+      changes.other_pages b vpage.1 ∙ fit.each b range ∙ sym (ap entry_for (there b (λ i. space.0 i && vpage.0 i)))
 
 -- an address that names the page that it named, which stays where it is, has the placement that it had
 pub placement_same : (v w : ZoneState) (a : Address) → page_at w.records a ≡ page_at v.records a → ((q : ℕ) → page_at v.records a ≡ Some q → map.get w.placement q ≡ map.get v.placement q) → placement_at w a ≡ placement_at v a

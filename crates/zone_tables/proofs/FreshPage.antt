@@ -17,7 +17,7 @@ use Rattle.frame_core.specs.History.{same_address, last, dirty, pins}
 use Rattle.zone_tables.specs.History.{History, told}
 use Rattle.table_core.specs.declared.entry.Entry.{Entry}
 use Rattle.table_core.specs.declared.entry.Entry.TheVariants.{Present}
-use Rattle.table_core.specs.Tables.{Tables, ChangesOnly}
+use Rattle.table_core.specs.Tables.{EntryTable, Tables, ChangesOnly}
 use Rattle.frame_core.specs.Page.{blank_words}
 use Rattle.frame_core.specs.Words.{words_of, with_words}
 use Rattle.zone_tables.specs.declared.note.PageNote.{PageNote}
@@ -94,7 +94,7 @@ module _ (v : ZoneState) (client : ℕ) (address : Address) (unmovable : Bool) (
   placement_here : (b : Address) → same_address b address ≡ true → placement_at next b ≡ Some (At frame)
   placement_here b e = ap (option_and_then (map.get next.placement)) (named_here v client address unmovable page frame can b e) ∙ at_page v client address unmovable page frame can
 
-  pub entries_placed : (old new : List Entry) → EntriesFit old v → ChangesOnly old new address (Present frame) → EntriesFit new next
+  pub entries_placed : (old new : EntryTable) → EntriesFit old v → ChangesOnly old new address (Present frame) → EntriesFit new next
   entries_placed old new fit changes = entries_changed v next old new address (Present frame) fit changes (λ b e. sym (ap entry_for (placement_here b e))) placement_there
 
   pub words_placed : (size : ℕ) → size ≡ v.page_size → (rows : List (List ℕ)) → WordsFit rows v → WordsFit (with_words rows frame (blank_words size)) next
@@ -156,6 +156,7 @@ pub record Placing {W : ℕ} (z : Inside W) (v : ZoneState) (client : ℕ) (addr
   pub can : CanPlace v address page frame
   pub tables_new : ChangesOnly z.tables.entries tables.entries address (Present frame)
   pub frames_same : tables.frames ≡ z.tables.frames
+  pub size_same : tables.entries.size ≡ z.tables.entries.size
   pub history_is : history ≡ told z.history (Map client address page)
 
 -- the fields of a zone after a fresh page was placed
@@ -185,6 +186,7 @@ module _ {W : ℕ} (z : Inside W) (v : ZoneState) (client : ℕ) (address : Addr
         orders = sound.orders;
         cleared = sound.cleared;
         tables = known.frames_same ∙ sound.tables;
+        size = known.size_same ∙ sound.size;
         frames = frames_placed v client address unmovable page frame can z.frames.states sound.frames;
         entries = entries_placed v client address unmovable page frame can z.tables.entries tables.entries sound.entries known.tables_new;
         words = words_placed v client address unmovable page frame can W (ap (λ (u : ZoneState). u.page_size) known.view) z.words sound.words;

@@ -1,5 +1,5 @@
 -- Which addresses are listed under a frame, by the pages that they name.
-use Rattle.std.proofs.Common.{◌≡◌, ◌≢◌, ℕ, Bool, true, false, List, inl, inr, refl, sym, ap, ◌∙◌, arith}
+use Rattle.std.proofs.Common.{◌≡◌, ◌≢◌, ◌<◌, ℕ, Bool, true, false, List, inl, inr, refl, sym, ap, ◌∙◌, arith}
 use Rattle.std.specs.Prelude.{Option, Some, None}
 use Rattle.std.specs.FinMap as map
 use Rattle.std.specs.Option.{option_and_then}
@@ -7,20 +7,22 @@ use Rattle.std.proofs.lemmas.Bool.{eq-eqb, or_left, or_right, false_from_ne_true
 use Rattle.std.proofs.lemmas.Bool.Decides.{eqb_tells}
 use Rattle.frame_core.proofs.Searches.{pairs_same_below, pairs_none, some_none}
 use Rattle.frame_core.specs.Address.{InRange}
+use Rattle.frame_core.specs.Below.{count_pairs}
 use Rattle.frame_core.specs.declared.place.Address.{Address}
 use Rattle.frame_core.proofs.OnTheWay.{out_below}
 use Rattle.frame_core.specs.History.{page_at, is_page, names, maps}
 use Rattle.frame_core.specs.Moves.{isolated}
 use Rattle.table_core.specs.declared.entry.Entry.{Entry}
+use Rattle.table_core.specs.declared.size.Size.{Size}
 use Rattle.table_core.specs.declared.entry.Entry.TheVariants.{Present, Migration}
-use Rattle.table_core.specs.Tables.{entry_at, is_listed, count_listed}
+use Rattle.table_core.specs.Tables.{EntryTable, entry_at, is_listed, count_listed}
 use Rattle.state_core.specs.declared.placement.Placement.{Placement}
 use Rattle.state_core.specs.declared.placement.Placement.TheVariants.{At, Moving}
 use Rattle.state_core.specs.Valid.{IsValidZone, is_under}
 use Rattle.state_core.specs.ZoneState.{ZoneState, frame_count, placement_at, takes_up, is_used}
 use Rattle.state_core.proofs.Facts.{page_named, not_none}
 use Rattle.state_core.proofs.Placed.{untrue}
-use Rattle.zone_tables.specs.Fits.{entry_for, EntriesFit}
+use Rattle.zone_tables.specs.Fits.{size_of_zone, entry_for, EntriesFit}
 use Rattle.zone_tables.proofs.Tables.{migration_is}
 
 -- a page whose entry is listed under a frame takes it up
@@ -31,7 +33,7 @@ takes_listed (Moving serial source target) frame e = elim (eqb_tells source fram
   | inr other ↦ absurd (untrue _ other.0 e)
 ]
 
-module _ (entries : List Entry) (v : ZoneState) (fit : EntriesFit entries v) (law : IsValidZone v) where
+module _ (entries : EntryTable) (v : ZoneState) (fit : EntriesFit entries v) (law : IsValidZone v) where
   pub record Names (address : Address) (frame : ℕ) : Type 0 where
     pub page : ℕ
     pub placement : Placement
@@ -63,10 +65,15 @@ module _ (entries : List Entry) (v : ZoneState) (fit : EntriesFit entries v) (la
       (let by = names_of a range frame e in
       untrue _ (some_none (λ page. takes_up (map.get v.placement page) frame) (frame_count v) unused by.page (law.pages.numbered by.page (not_none _ by.placement by.at))) by.takes))
 
-  pub count_none : (frame : ℕ) → is_used v frame ≡ false → count_listed entries frame ≡ 0
-  count_none frame unused =
-      pairs_same_below _ (λ space vpage. false) 8 4096 (λ space vpage h l. none_listed frame unused (record { space = space; vpage = vpage }) (record { space = h; vpage = l }))
-      ∙ pairs_none (λ space vpage. false) 8 4096 (λ i j. refl)
+  -- an address of the tables is in range
+  in_range : entries.size ≡ size_of_zone → (a : Address) → a.space < entries.size.spaces → a.vpage < entries.size.pages → InRange a
+  in_range size a h l = record { space = omega (arith, h, ap (λ (s : Size). s.spaces) size); vpage = omega (arith, l, ap (λ (s : Size). s.pages) size) }
+
+  pub count_none : entries.size ≡ size_of_zone → (frame : ℕ) → is_used v frame ≡ false → count_listed entries frame ≡ 0
+  count_none size frame unused =
+      pairs_same_below _ (λ space vpage. false) entries.size.spaces entries.size.pages
+      (λ space vpage h l. (let a : Address = record { space = space; vpage = vpage } in none_listed frame unused a (in_range size a h l)))
+      ∙ pairs_none (λ space vpage. false) entries.size.spaces entries.size.pages (λ i j. refl)
 
   -- exactly the addresses that name a page are listed under its frame
   pub listed_names : (page frame : ℕ) → map.get v.placement page ≡ Some (At frame) → (a : Address) → InRange a → is_listed (entry_at entries a) frame ≡ names v.records a page
@@ -83,10 +90,11 @@ module _ (entries : List Entry) (v : ZoneState) (fit : EntriesFit entries v) (la
       | inr other ↦ sym (ap (λ (p : Option ℕ). is_page p page) is ∙ other.0)
     ]
 
-  pub count_names : (page frame : ℕ) → map.get v.placement page ≡ Some (At frame) → count_listed entries frame ≡ maps v.records page
-  count_names page frame at =
-      pairs_same_below _ (λ space vpage. names v.records (record { space = space; vpage = vpage }) page) 8 4096
-      (λ space vpage h l. listed_names page frame at (record { space = space; vpage = vpage }) (record { space = h; vpage = l }))
+  pub count_names : entries.size ≡ size_of_zone → (page frame : ℕ) → map.get v.placement page ≡ Some (At frame) → count_listed entries frame ≡ maps v.records page
+  count_names size page frame at =
+      pairs_same_below _ (λ space vpage. names v.records (record { space = space; vpage = vpage }) page) entries.size.spaces entries.size.pages
+      (λ space vpage h l. (let a : Address = record { space = space; vpage = vpage } in listed_names page frame at a (in_range size a h l)))
+      ∙ ap (λ (s : Size). count_pairs (λ space vpage. names v.records (record { space = space; vpage = vpage }) page) s.spaces s.pages) size
 
   -- no entry has the serial that is given next
   pub fresh_serial : (a : Address) (source : ℕ) → InRange a → entry_at entries a ≢ Migration (isolated v.records) source

@@ -38,6 +38,7 @@ module _ {W : ℕ} (z : Inside W) (v : ZoneState) (sound : IsSound z v) (view : 
     orders = sound.orders;
     cleared = sound.cleared;
     tables = sound.tables;
+    size = sound.size;
     frames = record { count = sound.frames.count; of_page = sound.frames.of_page; of_block = sound.frames.of_block; of_none = sound.frames.of_none };
     entries = record { each = sound.entries.each };
     words = record { count = sound.words.count; sized = sound.words.sized; each = sound.words.each };
@@ -53,6 +54,7 @@ module _ {W : ℕ} (z : Inside W) (v : ZoneState) (sound : IsSound z v) (view : 
     orders = sound.orders;
     cleared = sound.cleared;
     tables = sound.tables;
+    size = sound.size;
     frames = record { count = sound.frames.count; of_page = sound.frames.of_page; of_block = sound.frames.of_block; of_none = sound.frames.of_none };
     entries = record { each = sound.entries.each };
     words = record { count = sound.words.count; sized = sound.words.sized; each = sound.words.each };

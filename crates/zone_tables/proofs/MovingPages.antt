@@ -13,10 +13,9 @@ use Rattle.state_core.specs.Valid.{IsValidZone}
 use Rattle.state_core.specs.ZoneState.{ZoneState, placement_at, takes_up}
 use Rattle.state_core.specs.declared.placement.Placement.{Placement}
 use Rattle.state_core.specs.declared.placement.Placement.TheVariants.{Moving}
-use Rattle.table_core.specs.declared.entry.Entry.{Entry}
 use Rattle.table_core.specs.declared.entry.Entry.TheVariants.{Migration}
-use Rattle.table_core.specs.Names.{IsIn, IsRising, AreJust}
-use Rattle.table_core.specs.Tables.{entry_at, place_of}
+use Rattle.table_core.specs.Names.{IsIn, IsRising, AreJust, order_of}
+use Rattle.table_core.specs.Tables.{EntryTable, entry_at}
 use Rattle.zone_tables.proofs.Tables.{migration_is, placement_seen}
 use Rattle.zone_tables.specs.Fits.{EntriesFit, entry_for}
 use Rattle.zone_tables.specs.MovingPages.{IsLeftByNone, IsLowestName}
@@ -37,7 +36,7 @@ has_name v valid page placement at none =
     ∙ pairs_none (λ i j. false) 8 4096 (λ i j. refl) in
     let some = (valid.agrees.in_use page (not_none (map.get v.placement page) placement at)).0 in omega (arith, few, some)
 
-module _ (v : ZoneState) (valid : IsValidZone v) (entries : List Entry) (fit : EntriesFit entries v) (page serial source target : ℕ) (at : map.get v.placement page ≡ Some (Moving serial source target)) where
+module _ (v : ZoneState) (valid : IsValidZone v) (entries : EntryTable) (fit : EntriesFit entries v) (page serial source target : ℕ) (at : map.get v.placement page ≡ Some (Moving serial source target)) where
   -- the addresses of a moving page have the entry of its move, and no other address has
   pub entered : (a : Address) → page_at v.records a ≡ Some page → InRange a × (entry_at entries a ≡ Migration serial source)
   entered a is =
@@ -60,10 +59,10 @@ module _ (v : ZoneState) (valid : IsValidZone v) (entries : List Entry) (fit : E
     some_found none = has_name v valid page (Moving serial source target) at (λ a is. not_empty found none a ((just.each a).1 (entered a is)))
 
     -- the first address of a rising list is the lowest
-    first_is_lowest : (list : List Address) (a other : Address) → slice_get list 0 ≡ Some a → IsRising list → IsIn list other → place_of a ≤ place_of other
+    first_is_lowest : (list : List Address) (a other : Address) → slice_get list 0 ≡ Some a → IsRising list → IsIn list other → order_of a ≤ order_of other
     first_is_lowest [] a other first rising inside = absurd inside
-    first_is_lowest (b ∷ rest) a other first rising (inl here) = let same : b ≡ a = cc in let at : place_of a ≡ place_of other = ap place_of (sym same ∙ here) in omega (arith, at)
-    first_is_lowest (b ∷ rest) a other first rising (inr later) = let same : b ≡ a = cc in let below = rising.0 other later in let at : place_of b ≡ place_of a = ap place_of same in omega (arith, below, at)
+    first_is_lowest (b ∷ rest) a other first rising (inl here) = let same : b ≡ a = cc in let at : order_of a ≡ order_of other = ap order_of (sym same ∙ here) in omega (arith, at)
+    first_is_lowest (b ∷ rest) a other first rising (inr later) = let same : b ≡ a = cc in let below = rising.0 other later in let at : order_of b ≡ order_of a = ap order_of same in omega (arith, below, at)
 
     first_within : (list : List Address) (a : Address) → slice_get list 0 ≡ Some a → IsIn list a
     first_within [] a first = cc

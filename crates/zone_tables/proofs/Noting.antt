@@ -43,6 +43,7 @@ pub record Noting {W : ℕ} (z : Inside W) (v : ZoneState) (page : ℕ) (entry :
   pub movable : MovableFit frames.movable (noted v entry)
   pub entries : EntriesFit tables.entries (noted v entry)
   pub frames_same : tables.frames ≡ z.tables.frames
+  pub size_same : tables.entries.size ≡ z.tables.entries.size
   pub history_is : history ≡ told z.history entry
 
 -- the fields of a zone after a note changed
@@ -77,6 +78,7 @@ module _ {W : ℕ} {z : Inside W} {v : ZoneState} {page : ℕ} {entry : Record} 
         orders = sound.orders;
         cleared = sound.cleared;
         tables = known.frames_same ∙ sound.tables;
+        size = known.size_same ∙ sound.size;
         frames = subst (λ (states : List FrameState). FramesFit states (noted v entry)) (sym known.states)
             (record { count = sound.frames.count; of_page = sound.frames.of_page; of_block = sound.frames.of_block; of_none = sound.frames.of_none });
         movable = known.movable;

@@ -19,7 +19,7 @@ use Rattle.state_core.specs.declared.placement.Placement.{Placement}
 use Rattle.state_core.specs.declared.placement.Placement.TheVariants.{At, Moving}
 use Rattle.state_core.specs.Opening.{opened_with, IsSize}
 use Rattle.frame_core.specs.Journal.{unrecorded_places}
-use Rattle.zone_tables.specs.Fits.{state_by}
+use Rattle.zone_tables.specs.Fits.{state_by, size_of_zone}
 use Rattle.zone_tables.specs.Sound.{state_of, IsSound}
 use Rattle.scan_core.specs.Frames.{Frames, all_free, true_at}
 use Rattle.zone_tables.specs.Contents.{words_held, contents_at}
@@ -40,6 +40,7 @@ pub record IsFresh {W : ℕ} (z : Inside W) (number blocks places : ℕ) : Type 
   pub frames : z.frames ≡ all_free blocks
   pub tables : IsBlank z.tables.entries
   pub tables_frames : z.tables.frames ≡ 512 * blocks
+  pub tables_size : z.tables.entries.size ≡ size_of_zone
   pub words : z.words ≡ replicate (512 * blocks) (blank_words W)
   pub notes : z.notes ≡ replicate (512 * blocks) unused_note
   pub handed_out : z.handed_out ≡ replicate (512 * blocks) None
@@ -86,6 +87,7 @@ opened_sound {W} z number blocks places fresh = record {
   orders = ap length fresh.handed_out ∙ length-replicate (512 * blocks) None;
   cleared = ap length fresh.cleared ∙ length-replicate (512 * blocks) false;
   tables = fresh.tables_frames;
+  size = fresh.tables_size;
   frames = record {
     count = ap (λ (fs : Frames). length fs.states) fresh.frames ∙ length-replicate (512 * blocks) Free;
     of_page = λ page frame state e. (let bad : None ≡ Some state = sym (ap (λ (o : Option Placement). state_by page o frame) (map.get-empty nat_cmp page)) ∙ e in cc);

@@ -54,6 +54,7 @@ module _ {W : ℕ} (z : Inside W) (v : ZoneState) (sound : IsSound z v) (view : 
         movable = said_so entry valid count is only.pins frames frames_are;
         entries = entries;
         frames_same = refl;
+        size_same = refl;
         history_is = history_is;
       }
 

@@ -13,7 +13,7 @@ use Rattle.frame_core.specs.declared.record.Record.{Record}
 use Rattle.frame_core.specs.History.{page_at}
 use Rattle.table_core.specs.declared.entry.Entry.{Entry}
 use Rattle.table_core.specs.declared.entry.Entry.TheVariants.{Absent}
-use Rattle.table_core.specs.Tables.{entry_at, Replaces}
+use Rattle.table_core.specs.Tables.{EntryTable, entry_at, Replaces}
 use Rattle.frame_core.specs.Words.{words_of}
 use Rattle.zone_tables.specs.declared.note.PageNote.{PageNote}
 use Rattle.zone_tables.specs.declared.zone.ZoneTables.TheInside.{Inside}
@@ -77,10 +77,10 @@ module _ (v : ZoneState) (page : ℕ) (old new : Placement) (can : CanSettle v p
       let is_page : q ≡ page = cc in
       ne is_page
 
-  entry_of : (entries : List Entry) → EntriesFit entries v → (a : Address) → InRange a → (q : Option ℕ) → page_at v.records a ≡ q → entry_at entries a ≡ entry_for (option_and_then (map.get v.placement) q)
+  entry_of : (entries : EntryTable) → EntriesFit entries v → (a : Address) → InRange a → (q : Option ℕ) → page_at v.records a ≡ q → entry_at entries a ≡ entry_for (option_and_then (map.get v.placement) q)
   entry_of entries fit a range q e = fit.each a range ∙ ap (λ (o : Option ℕ). entry_for (option_and_then (map.get v.placement) o)) e
 
-  pub entries_settled : (entries changed : List Entry) → EntriesFit entries v → Replaces entries changed (entry_for (Some old)) (entry_for (Some new)) → EntriesFit changed next
+  pub entries_settled : (entries changed : EntryTable) → EntriesFit entries v → Replaces entries changed (entry_for (Some old)) (entry_for (Some new)) → EntriesFit changed next
   entries_settled entries changed fit change = record { each = λ a range. by_name a range (page_at v.records a) refl ∙ sym (ap (λ (o : Option ℕ). entry_for (option_and_then (map.get next.placement) o)) (recorded.still.names a)) } where
     by_placement : (a : Address) → InRange a → (q : ℕ) → page_at v.records a ≡ Some q → q ≢ page → (p : Option Placement) → map.get v.placement q ≡ p → entry_at changed a ≡ entry_for (map.get next.placement q)
     by_placement a range q e ne None at = absurd (clash _ at (can.valid.agrees.named a q e).1)
@@ -121,6 +121,7 @@ pub record Settling {W : ℕ} (z changed : Inside W) (v : ZoneState) (page : ℕ
   pub history : changed.history ≡ told z.history entry
   -- what stayed as it was
   pub frames_same : changed.tables.frames ≡ z.tables.frames
+  pub size_same : changed.tables.entries.size ≡ z.tables.entries.size
   pub rest_same : record changed { frames = z.frames; tables = z.tables; words = z.words; notes = z.notes; moves = z.moves; fingers = z.fingers; history = z.history } ≡ z
   pub contents_same : held_contents changed ≡ held_contents z
 
@@ -183,6 +184,7 @@ module _ {W : ℕ} {z changed : Inside W} {v : ZoneState} {page : ℕ} {old new 
         orders = ap (λ (y : Inside W). length y.handed_out) known.rest_same ∙ sound.orders;
         cleared = ap (λ (y : Inside W). length y.cleared) known.rest_same ∙ sound.cleared;
         tables = known.frames_same ∙ sound.tables;
+        size = known.size_same ∙ sound.size;
         frames = frames_fit v after page (Some old) (Some new) gets z.frames.states changed.frames.states sound.frames known.frames;
         movable = movable_fit v after page (Some old) (Some new) gets z.frames.movable changed.frames.movable (can_move v page) sound.movable known.movable (sym (can_still page)) (λ q ne. can_still q);
         entries = record { each = entries.each };

@@ -21,8 +21,8 @@ use Rattle.zone_tables.proofs.Entries.{entries_changed}
 use Rattle.zone_tables.proofs.Noting.{Noting}
 use Rattle.zone_tables.proofs.Tables.{note_seen}
 
-pub sharing : {W : ℕ} (z : Inside W) (v : ZoneState) → IsSound z v → state_of z ≡ v → (client : ℕ) (address alias : Address) (page frame : ℕ) → CanShare v address alias page frame → (note : PageNote) (tables : Tables) (history : History) → slice_get z.notes page ≡ Some note → ChangesOnly z.tables.entries tables.entries alias (Present frame) → tables.frames ≡ z.tables.frames → history ≡ told z.history (Share client address alias) → Noting z v page (Share client address alias) note (record note { maps = note.maps + 1 }) z.frames tables history
-sharing z v sound view client address alias page frame can note tables history note_is changes frames_same history_is =
+pub sharing : {W : ℕ} (z : Inside W) (v : ZoneState) → IsSound z v → state_of z ≡ v → (client : ℕ) (address alias : Address) (page frame : ℕ) → CanShare v address alias page frame → (note : PageNote) (tables : Tables) (history : History) → slice_get z.notes page ≡ Some note → ChangesOnly z.tables.entries tables.entries alias (Present frame) → tables.frames ≡ z.tables.frames → tables.entries.size ≡ z.tables.entries.size → history ≡ told z.history (Share client address alias) → Noting z v page (Share client address alias) note (record note { maps = note.maps + 1 }) z.frames tables history
+sharing z v sound view client address alias page frame can note tables history note_is changes frames_same size_same history_is =
     let before = (note_seen view sound (not_none _ (At frame) can.at) note_is).fits in
     let next = shared v client address alias in
     let spare = can.spare in
@@ -42,5 +42,6 @@ sharing z v sound view client address alias page frame can note tables history n
           (λ a e. sym (ap entry_for (ap (option_and_then (map.get v.placement)) (named_here v client address alias page frame can a e) ∙ can.at)))
           (λ a e. ap (option_and_then (map.get v.placement)) (named_there v client address alias page frame can a e));
       frames_same = frames_same;
+      size_same = size_same;
       history_is = history_is;
     }

@@ -40,6 +40,7 @@ pub record Unmapping {W : ℕ} (z : Inside W) (v : ZoneState) (client : ℕ) (ad
   pub can : CanUnmap v address page frame
   pub changes : ChangesOnly z.tables.entries tables.entries address Absent
   pub frames_same : tables.frames ≡ z.tables.frames
+  pub size_same : tables.entries.size ≡ z.tables.entries.size
   pub history_is : history ≡ told z.history (Unmap client address)
 
 -- the fields of a zone after the last address of a page was taken
@@ -80,6 +81,7 @@ module _ {W : ℕ} (z : Inside W) (v : ZoneState) (client : ℕ) (address : Addr
             (λ a e. sym (ap entry_for (ap (option_and_then (map.get v.placement)) (named_here v client address page frame can a e))))
             (λ a e. ap (option_and_then (map.get v.placement)) (named_there v client address page frame can a e));
         frames_same = known.frames_same;
+        size_same = known.size_same;
         history_is = known.history_is;
       }
 
@@ -121,6 +123,7 @@ module _ {W : ℕ} (z : Inside W) (v : ZoneState) (client : ℕ) (address : Addr
           orders = sound.orders;
           cleared = sound.cleared;
           tables = known.frames_same ∙ sound.tables;
+          size = known.size_same ∙ sound.size;
           frames = frames_fit v gone page (Some (At frame)) None gets z.frames.states (slice_set z.frames.states frame Free) sound.frames (record {
             count = length-set z.frames.states frame Free;
             taken = λ g state e. cc;

@@ -11,7 +11,8 @@ use Rattle.frame_core.specs.History.{last, dirty, pins, maps}
 use Rattle.frame_core.specs.Moves.{isolated, moved, put_back}
 use Rattle.table_core.specs.declared.entry.Entry.{Entry}
 use Rattle.table_core.specs.declared.entry.Entry.TheVariants.{Absent, Present, Migration}
-use Rattle.table_core.specs.Tables.{entry_at}
+use Rattle.table_core.specs.declared.size.Size.{Size}
+use Rattle.table_core.specs.Tables.{EntryTable, entry_at}
 use Rattle.frame_core.specs.Words.{words_of}
 use Rattle.zone_tables.specs.Moves.{Moves}
 use Rattle.zone_tables.specs.declared.note.PageNote.{PageNote}
@@ -40,8 +41,12 @@ pub record FramesFit (frames : List FrameState) (v : ZoneState) : Type 0 where
   pub of_block : (frame : ℕ) → frame < frame_count v → is_held v frame ≡ true → slice_get frames frame ≡ Some Huge
   pub of_none : (frame : ℕ) → frame < frame_count v → is_free v frame ≡ true → slice_get frames frame ≡ Some Free
 
+-- the tables of a zone are for 8 spaces with 4096 virtual pages each
+abbrev pub size_of_zone : Size
+size_of_zone = record { spaces = 8; pages = 4096 }
+
 -- each address has the entry that the placement of its page asks for
-pub record EntriesFit (entries : List Entry) (v : ZoneState) : Type 0 where
+pub record EntriesFit (entries : EntryTable) (v : ZoneState) : Type 0 where
   pub each : (address : Address) → InRange address → entry_at entries address ≡ entry_for (placement_at v address)
 
 -- each word of a page in use is the value that was stored there last

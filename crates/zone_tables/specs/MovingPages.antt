@@ -6,13 +6,13 @@ use Rattle.frame_core.specs.History.{page_at}
 use Rattle.state_core.specs.Carrying.{flags_of}
 use Rattle.state_core.specs.ZoneState.{ZoneState}
 use Rattle.state_core.specs.declared.placement.Placement.TheVariants.{Moving}
-use Rattle.table_core.specs.Tables.{place_of}
+use Rattle.table_core.specs.Names.{order_of}
 use Rattle.zone_tables.specs.declared.moving.MovingPage.{MovingPage}
 
 -- an address names a page, and no lower one does
 pub record IsLowestName (z : ZoneState) (page : ℕ) (address : Address) : Type 0 where
   pub named : page_at z.records address ≡ Some page
-  pub lowest : (other : Address) → page_at z.records other ≡ Some page → place_of address ≤ place_of other
+  pub lowest : (other : Address) → page_at z.records other ≡ Some page → order_of address ≤ order_of other
 
 -- a page is moving out of this frame, and this is what is known of it
 pub record IsMovingFrom (z : ZoneState) (source : ℕ) (moving : MovingPage) : Type 0 where

@@ -4,7 +4,7 @@ use Rattle.zone_tables.specs.declared.zone.ZoneTables.TheInside.{Inside}
 use Rattle.state_core.specs.ZoneState.{ZoneState, frame_count}
 use Rattle.state_core.specs.Valid.{IsValidZone}
 use Rattle.zone_tables.specs.Contents.{contents_at}
-use Rattle.zone_tables.specs.Fits.{FramesFit, EntriesFit, WordsFit, NotesFit, MovesFit, MovableFit, SourcesFit}
+use Rattle.zone_tables.specs.Fits.{size_of_zone, FramesFit, EntriesFit, WordsFit, NotesFit, MovesFit, MovableFit, SourcesFit}
 use Rattle.zone_tables.specs.HandedOut.{order_of}
 use Rattle.zone_tables.specs.Notes.{placement_of, is_unmovable_of}
 use Rattle.scan_core.specs.Frames.{true_at}
@@ -37,6 +37,7 @@ pub record IsSound {W : ℕ} (z : Inside W) (v : ZoneState) : Type 0 where
   pub frames : FramesFit z.frames.states v
   pub movable : MovableFit z.frames.movable v
   pub tables : z.tables.frames ≡ frame_count v
+  pub size : z.tables.entries.size ≡ size_of_zone
   pub entries : EntriesFit z.tables.entries v
   pub words : WordsFit z.words v
   pub notes : NotesFit z.notes v

@@ -4,6 +4,7 @@ ghost use Rattle.frame_core.specs.Page.{blank_words};
 ghost use Rattle.scan_core.specs.Frames.{all_free};
 ghost use Rattle.table_core.specs.Tables.{IsBlank};
 ghost use Rattle.zone_tables.specs.Notes.{unused_note};
+ghost use Rattle.zone_tables.specs.Fits.{size_of_zone};
 ghost use Rattle.state_core.specs.Valid.{IsValidZone};
 ghost use Rattle.state_core.specs.Opening.{IsOpenable, IsSize, opened_unrecorded, opened_with};
 
@@ -89,6 +90,12 @@ impl<const W: usize> ZoneTables<W> {
     }
 }
 
+/// The address spaces of a zone.
+const SPACES: u32 = 8;
+
+/// The virtual pages of an address space.
+const PAGES: u32 = 4096;
+
 /// The frames, the tables of the addresses and the words of the pages.
 fn open_memory<const W: usize>(
     alloc: Global,
@@ -98,10 +105,11 @@ fn open_memory<const W: usize>(
     requires blocks { (0 < blocks) × (blocks ≤ 8) }
     ensures frames { IfOk result (λ memory. memory.0 ≡ all_free blocks) }
     ensures tables { IfOk result (λ memory. IsBlank memory.1.entries × (memory.1.frames ≡ 512 * blocks)) }
+    ensures size { IfOk result (λ memory. memory.1.entries.size ≡ size_of_zone) }
     ensures words { IfOk result (λ memory. memory.2 ≡ replicate (512 * blocks) (blank_words W)) }
 {
     let frames = Frames::open(alloc, blocks)?;
-    let tables = Tables::open(alloc, blocks)?;
+    let tables = Tables::open(alloc, blocks, SPACES, PAGES)?;
     let words = WordsOf::open(alloc, 512 * blocks)?;
     Ok((frames, tables, words))
 }

@@ -4,6 +4,6 @@ use Rattle.table_core.proofs.entries.list_under.Given as goal
 
 abbrev pub invariant-loop-name : goal.invariant-loop-name
 invariant-loop-name l = record {
-  count : length l.frames ≡ 32768;
-  under : Under l.fn.frames l.frames l.names l.frame l.name-index;
+  count : length l.frames ≡ length l.fn.frames;
+  under : Under l.size.pages l.fn.frames l.frames l.names l.frame l.name-index;
 }

@@ -9,5 +9,5 @@ use Rattle.table_core.proofs.entries.Entries.clear.Goals as goal
 pub returns : goal.returns
 returns c =
     let z = c.self.inside in
-    let entries = map-set (entry_by z.serials.items) z.frames.items c.args.place None ∙ ap (λ (t : Tables). slice_set t.entries c.args.place Absent) c.self.view_is in
-    λ i. record { entries = entries i; frames = (c.self.view_is i).frames }
+    let list = map-set (entry_by z.serials.items) z.frames.items c.args.place None ∙ ap (λ (t : Tables). slice_set t.entries.list c.args.place Absent) c.self.view_is in
+    λ i. record { entries = record { list = list i; size = (c.self.view_is i).entries.size }; frames = (c.self.view_is i).frames }

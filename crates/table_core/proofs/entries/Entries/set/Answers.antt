@@ -11,10 +11,10 @@ pub returns : goal.returns
 returns c =
     let serials = c.self.inside.serials.items in
     let frames = c.self.inside.frames.items in
-    let entries =
+    let list =
     ap (λ (k : ℕ). entries_of (slice_set serials k None) (slice_set frames c.args.place (Some c.args.frame))) c.get.ensures.value
-    ∙ entries_set serials frames c.args.frame (omega (arith, c.requires.within, ap (λ (t : Tables). t.frames) c.self.view_is))
+    ∙ entries_set c.self.inside.size serials frames c.self.invariant.count c.args.frame (omega (arith, c.requires.within, ap (λ (t : Tables). t.frames) c.self.view_is))
     (λ a serial e. c.requires.still a serial (sym (ap (λ (t : Tables). entry_at t.entries a) c.self.view_is) ∙ e)) c.args.place
-    ∙ ap (λ (t : Tables). slice_set t.entries c.args.place (Present c.args.frame)) c.self.view_is in
+    ∙ ap (λ (t : Tables). slice_set t.entries.list c.args.place (Present c.args.frame)) c.self.view_is in
     let count = length-set serials c.get.result None ∙ ap (λ (t : Tables). t.frames) c.self.view_is in
-    λ i. record { entries = entries i; frames = count i }
+    λ i. record { entries = record { list = list i; size = (c.self.view_is i).entries.size }; frames = count i }

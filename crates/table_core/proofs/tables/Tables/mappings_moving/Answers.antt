@@ -5,6 +5,7 @@ use Rattle.table_core.specs.Listed.{IsListOf}
 use Rattle.table_core.specs.Names.{AreJust}
 use Rattle.table_core.specs.Tables.{Tables, entry_at}
 use Rattle.table_core.proofs.Listing.{list_read, just_those}
+use Rattle.table_core.proofs.Places.{listed_inside}
 use Rattle.table_core.proofs.tables.Tables.mappings_moving.Goals as goal
 use Rattle.table_core.proofs.tables.Tables.mappings_moving.Goals.{After-as_slice-names}
 
@@ -16,6 +17,7 @@ list c =
 
 pub those_with-requires : goal.those_with-requires
 those_with-requires c = record {
+  inside = λ a h. listed_inside c.self.inside.entries.entries a c.args.source (((list c.before).just.each a).0 h).1;
   few = (list c.before).few;
   rising = (list c.before).just.rising;
 }

@@ -9,6 +9,6 @@ invariant_of-result c =
     let lists = c.in_ok-none_named.ensures.items in
     let count = ap length lists ∙ length-replicate (512 * c.args.blocks) [] in (
       subst (AreListed c.in_ok-open.field-0.entries) (sym lists)
-          (listed_none c.in_ok-open.field-0.entries (512 * c.args.blocks) c.in_ok-open.ensures.count c.in_ok-open.ensures.blank),
+          (listed_none c.in_ok-open.field-0.entries (512 * c.args.blocks) c.in_ok-open.ensures.blank),
       c.in_ok-open.ensures.frames ∙ sym count,
     )

@@ -8,14 +8,14 @@ use Rattle.table_core.proofs.tables.Tables.to_present.Goals as goal
 
 pub to_present-requires-clause-left : goal.to_present-requires-clause-left
 to_present-requires-clause-left c =
-    everywhere c.self.inside.entries.entries c.self.invariant.0.count
+    everywhere c.self.inside.entries.entries c.self.inside.lists.items c.self.invariant.0
     (λ entry. is_listed entry c.args.source ≡ true → entry ≡ Migration c.args.serial c.args.source) (λ e. cc)
     (λ b range e. (let same = ap (λ (t : Tables). entry_at t.entries b) c.self.view_is in
     same ∙ c.requires.left b range (ap (λ (entry : Entry). is_listed entry c.args.source) (sym same) ∙ e)))
 
 pub to_present-requires-clause-unnamed : goal.to_present-requires-clause-unnamed
 to_present-requires-clause-unnamed c =
-    λ apart. everywhere c.self.inside.entries.entries c.self.invariant.0.count (λ entry. is_listed entry c.args.frame ≡ false) refl
+    λ apart. everywhere c.self.inside.entries.entries c.self.inside.lists.items c.self.invariant.0 (λ entry. is_listed entry c.args.frame ≡ false) refl
     (λ b range. ap (λ (t : Tables). is_listed (entry_at t.entries b) c.args.frame) c.self.view_is ∙ c.requires.unnamed apart b range)
 
 pub invariant_of-self : goal.invariant_of-self
@@ -28,7 +28,7 @@ invariant_of-self c =
     (subst (λ (k : ℕ). SwappedAt z.lists.items c.swap.new.self.items c.get-2.result k) c.get-3.ensures.value c.swap.ensures.items) in
     let count : length c.swap.new.self.items ≡ length z.lists.items = c.swap.ensures.len in (
       listed_ended z.entries.entries c.to_present.new.self.entries z.lists.items c.swap.new.self.items c.args.serial c.args.source c.args.frame c.self.invariant.0
-          (c.to_present.ensures.count ∙ c.self.invariant.0.count) c.to_present.ensures.replaced
+          c.to_present.ensures.replaced
           (swapped_at z.lists.items c.swap.new.self.items c.args.source c.args.frame source_in frame_in count swapped)
           (λ a range e. (let same = ap (λ (t : Tables). entry_at t.entries a) c.self.view_is in same ∙ c.requires.left a range (ap (λ (entry : Entry). is_listed entry c.args.source) (sym same) ∙ e)))
           (λ ne a range. ap (λ (t : Tables). is_listed (entry_at t.entries a) c.args.frame) c.self.view_is ∙ c.requires.unnamed ne a range)

@@ -6,7 +6,10 @@ use Rattle.table_core.proofs.Walking.{few_have}
 use Rattle.table_core.proofs.tables.Tables.walk_mappings.Goals as goal
 
 pub walk-requires : goal.walk-requires
-walk-requires c = few_have c.self.inside.entries.entries c.self.inside.lists.items c.self.invariant.0 (Present c.args.frame) (λ e. cc)
+walk-requires c = record {
+  named = λ e. cc;
+  few = few_have c.self.inside.entries.entries c.self.inside.lists.items c.self.invariant.0 (Present c.args.frame) (λ e. cc);
+}
 
 pub returns : goal.returns
 returns c = subst (λ (t : Tables). AreJust c.walk.result.items (λ a. entry_at t.entries a ≡ Present c.args.frame)) c.self.view_is c.walk.ensures

@@ -7,7 +7,10 @@ use Rattle.table_core.proofs.Walking.{few_have, by_serial, none_by_serial}
 use Rattle.table_core.proofs.tables.Tables.walk_moving.Goals as goal
 
 pub walk-requires : goal.walk-requires
-walk-requires c = few_have c.self.inside.entries.entries c.self.inside.lists.items c.self.invariant.0 (Migration c.args.serial c.in-Some.source) (λ e. cc)
+walk-requires c = record {
+  named = λ e. cc;
+  few = few_have c.self.inside.entries.entries c.self.inside.lists.items c.self.invariant.0 (Migration c.args.serial c.in-Some.source) (λ e. cc);
+}
 
 pub returns-in-Some : goal.returns-in-Some
 returns-in-Some c =

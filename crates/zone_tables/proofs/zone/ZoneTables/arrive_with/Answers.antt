@@ -99,6 +99,7 @@ settling {g = g} c =
       swept = swept_if_moved v way.page way.serial way.source way.target law at;
       history = c.note.ensures;
       frames_same = c.to_present.ensures.frames;
+      size_same = c.to_present.ensures.size;
       rest_same = refl;
       contents_same = ap (λ (rows : List (List ℕ)). tabulated (contents_at g.row.W rows z.cleared z.handed_out) (length z.handed_out)) c.fill_target.ensures
           ∙ contents_kept z v sound c.self.view_is way.target (words_of z.words way.source) (target_unheld c.self.view_is c.self.invariant c.args.way.now.page c.requires.placed);

@@ -120,6 +120,7 @@ settling c =
       swept = swept_if_isolated v pair law is;
       history = c.note.ensures ∙ ap (λ (n : ℕ). told z.history (Isolate n pair.page)) serial;
       frames_same = c.to_migration.ensures.frames;
+      size_same = c.to_migration.ensures.size;
       rest_same = refl;
       contents_same = refl;
     }

@@ -83,6 +83,7 @@ settling c =
       swept = swept_if_put_back v way.page way.serial way.source way.target law at c.args.cause;
       history = c.note.ensures;
       frames_same = c.to_present.ensures.frames;
+      size_same = c.to_present.ensures.size;
       rest_same = refl;
       contents_same = refl;
     }

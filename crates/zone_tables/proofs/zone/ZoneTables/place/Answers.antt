@@ -6,6 +6,7 @@ use Rattle.state_core.proofs.Finding.{some_lowest, unused_is}
 use Rattle.state_core.proofs.Placed.{CanPlace}
 use Rattle.zone_tables.proofs.Facts.{is_sound, Becomes}
 use Rattle.zone_tables.proofs.FreshPage.{Placing, place_holds}
+use Rattle.zone_tables.proofs.Entries.{in_tables}
 use Rattle.zone_tables.proofs.ListedAddresses.{count_none, none_left}
 use Rattle.zone_tables.proofs.SearchesAndCounts.{free_seen}
 use Rattle.zone_tables.proofs.Tables.{placement_seen}
@@ -53,6 +54,7 @@ placing c =
       can = can c;
       tables_new = c.set.ensures.set;
       frames_same = c.set.ensures.frames;
+      size_same = c.set.ensures.size;
       history_is = c.note.ensures;
     }
 
@@ -73,6 +75,9 @@ returns-clause-step g c =
 pub returns-clause-valid : goal.returns-clause-valid
 returns-clause-valid g c = (invariant_of-self g c).valid
 
+pub set-requires-clause-inside : goal.set-requires-clause-inside
+set-requires-clause-inside g c = in_tables c.self.inside.tables.entries (is_sound c.self.view_is c.self.invariant).size c.args.address
+
 pub set-requires-clause-within : goal.set-requires-clause-within
 set-requires-clause-within g c =
     omega (arith, c.requires.within, (is_sound c.self.view_is c.self.invariant).tables)
@@ -80,7 +85,7 @@ set-requires-clause-within g c =
 pub set-requires-clause-room : goal.set-requires-clause-room
 set-requires-clause-room g c =
     let sound = is_sound c.self.view_is c.self.invariant in
-    omega (arith, count_none c.self.inside.tables.entries c.args.self.now sound.entries sound.valid c.args.frame (not-true _ (and_parts _ _ c.requires.free).0))
+    omega (arith, count_none c.self.inside.tables.entries c.args.self.now sound.entries sound.valid sound.size c.args.frame (not-true _ (and_parts _ _ c.requires.free).0))
 
 pub set-requires-clause-resting : goal.set-requires-clause-resting
 set-requires-clause-resting g c =

@@ -6,6 +6,7 @@ use Rattle.state_core.specs.declared.placement.Placement.TheVariants.{At}
 use Rattle.state_core.proofs.Facts.{frame_within, page_stands, spare}
 use Rattle.state_core.proofs.Sharing.{CanShare}
 use Rattle.zone_tables.proofs.Facts.{is_sound}
+use Rattle.zone_tables.proofs.Entries.{in_tables}
 use Rattle.zone_tables.proofs.ListedAddresses.{count_names, page_rests}
 use Rattle.zone_tables.proofs.Noting.{Noting, noting_holds}
 use Rattle.zone_tables.proofs.Shared.{sharing}
@@ -35,7 +36,7 @@ can c =
 known : {g : Over} (c : After-note g) → Noting c.self.inside c.args.self.now c.args.page (Share c.args.client c.args.address c.args.alias) c.get-note.result (record c.get-note.result { maps = c.get-note.result.maps + 1 }) c.self.inside.frames c.set.new.self c.note.new.self
 known c =
     sharing c.self.inside c.args.self.now (is_sound c.self.view_is c.self.invariant) c.self.view_is c.args.client c.args.address c.args.alias c.args.page c.args.frame (can c)
-    c.get-note.result c.set.new.self c.note.new.self c.get-note.ensures c.set.ensures.set c.set.ensures.frames c.note.ensures
+    c.get-note.result c.set.new.self c.note.new.self c.get-note.ensures c.set.ensures.set c.set.ensures.frames c.set.ensures.size c.note.ensures
 
 pub invariant_of-self : goal.invariant_of-self
 invariant_of-self g c = (noting_holds (known c) (c.revise.ensures ∙ ap (slice_set c.self.inside.notes c.args.page) c.with_address.ensures)).0
@@ -45,6 +46,9 @@ returns-clause-step g c = (noting_holds (known c) (c.revise.ensures ∙ ap (slic
 
 pub returns-clause-valid : goal.returns-clause-valid
 returns-clause-valid g c = (invariant_of-self g c).valid
+
+pub set-requires-clause-inside : goal.set-requires-clause-inside
+set-requires-clause-inside g c = in_tables c.self.inside.tables.entries (is_sound c.self.view_is c.self.invariant).size c.args.alias
 
 pub set-requires-clause-within : goal.set-requires-clause-within
 set-requires-clause-within g c =
@@ -56,7 +60,7 @@ pub set-requires-clause-room : goal.set-requires-clause-room
 set-requires-clause-room g c =
     let sound = is_sound c.self.view_is c.self.invariant in
     let at = page_stands c.args.self.now c.args.address (At c.args.frame) c.args.page c.requires.named c.requires.frame in
-    omega (arith, c.requires.few, ap (λ (o : Option ℕ). maps c.args.self.now.records (unwrap_or o 0)) c.requires.named, count_names c.self.inside.tables.entries c.args.self.now sound.entries sound.valid c.args.page c.args.frame at)
+    omega (arith, c.requires.few, ap (λ (o : Option ℕ). maps c.args.self.now.records (unwrap_or o 0)) c.requires.named, count_names c.self.inside.tables.entries c.args.self.now sound.entries sound.valid sound.size c.args.page c.args.frame at)
 
 pub revise-requires-clause-used : goal.revise-requires-clause-used
 revise-requires-clause-used g c = use_seen c.self.inside c.self.view_is c.args.page (named_in_use c.self.view_is c.self.invariant c.args.address c.args.page c.requires.named)

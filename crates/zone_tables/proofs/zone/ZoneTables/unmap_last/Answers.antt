@@ -25,6 +25,7 @@ unmapping c =
       can = record { valid = sound.valid; spare = spare c.args.self.now c.requires.room; named = c.requires.named; at = c.requires.here };
       changes = c.clear.ensures.cleared;
       frames_same = c.clear.ensures.frames;
+      size_same = c.clear.ensures.size;
       history_is = c.note.ensures;
     }
 

@@ -33,6 +33,7 @@ fresh c = record {
   frames = c.in_ok-frames.ensures.frames;
   tables = c.in_ok-frames.ensures.tables.0;
   tables_frames = c.in_ok-frames.ensures.tables.1;
+  tables_size = c.in_ok-frames.ensures.size;
   words = c.in_ok-frames.ensures.words;
   notes = c.in_ok-notes.ensures.notes;
   handed_out = c.in_ok-handed_out.ensures.handed_out;
