@@ -1,13 +1,12 @@
-//! Measures rounds, clients beside rounds, the hand-over of pages, and calls of zones whose journals are unrecorded, each beside
-//! the same work done otherwise. The first word says which: `rounds`, `clients`, `hands` or `calls`. With no further word it prints
-//! what they did, which is the same in every run; with a number it prints how long they take. `rounds alone N` and `rounds filled
-//! N` do a part of the work N times, to be counted from outside. `calls unrecorded N` makes N stores and as many loads in a zone
-//! whose journal is unrecorded, and `calls` alone a thousand of each. Without any word it prints what all four did.
+//! Measures rounds, clients beside rounds, and calls of zones whose journals are unrecorded, each beside the same work done otherwise.
+//! The first word says which: `rounds`, `clients` or `calls`. With no further word it prints what they did, which is the same in every
+//! run; with a number it prints how long they take. `rounds alone N` and `rounds filled N` do a part of the work N times, to be counted
+//! from outside. `calls unrecorded N` makes N stores and as many loads in a zone whose journal is unrecorded, and `calls` alone a
+//! thousand of each. Without any word it prints what all three did.
 #![tactic(auto)]
 
 mod calls;
 mod clients;
-mod hands;
 mod opening;
 mod rounds;
 mod settings;
@@ -44,16 +43,10 @@ fn show_all<R: Threads + Wait + Print + Clock + Sync>(rt: &R, alloc: Global) -> 
 enum Subject {
     Rounds,
     Clients,
-    Hands,
     Calls,
 }
 
-const SUBJECTS: [Subject; 4] = [
-    Subject::Rounds,
-    Subject::Clients,
-    Subject::Hands,
-    Subject::Calls,
-];
+const SUBJECTS: [Subject; 3] = [Subject::Rounds, Subject::Clients, Subject::Calls];
 
 impl Subject {
     /// The subject that a word names.
@@ -61,7 +54,6 @@ impl Subject {
         match word {
             "rounds" => Ok(Subject::Rounds),
             "clients" => Ok(Subject::Clients),
-            "hands" => Ok(Subject::Hands),
             "calls" => Ok(Subject::Calls),
             _ => Err(usage()),
         }
@@ -92,7 +84,6 @@ fn show_doings<R: Threads + Wait + Print + Clock + Sync>(
     match subject {
         Subject::Rounds => rounds::show_moves(rt, alloc),
         Subject::Clients => clients::show_settled(rt, alloc),
-        Subject::Hands => hands::show_loads(rt, alloc),
         Subject::Calls => calls::show_calls(rt, alloc, 1000),
     }
 }
@@ -107,7 +98,6 @@ fn show_times<R: Threads + Wait + Print + Clock + Sync>(
     let shown = match subject {
         Subject::Rounds => rounds::show_times(rt, alloc, times),
         Subject::Clients => clients::show_times(rt, alloc, times),
-        Subject::Hands => hands::show_times(rt, alloc, times),
         Subject::Calls => calls::show_times(rt, alloc, times),
     };
     Ok(shown?)
@@ -134,5 +124,5 @@ fn number_in(word: &str) -> Result<u32> {
 
 /// What is told where no such thing can be shown.
 fn usage() -> Error {
-    anyhow!("wanted: rounds, clients, hands or calls, and then a number")
+    anyhow!("wanted: rounds, clients or calls, and then a number")
 }

@@ -1,6 +1,6 @@
 ghost use Rattle.std.specs.Prelude.{◌<◌, ◌≤◌};
 
-/// How many threads take or copy pages, and for how many pages there is room on their way to them.
+/// How many threads copy pages, and for how many pages there is room on their way to them.
 #[derive(Clone, Copy)]
 pub struct Setting {
     /// 1 to 4.
