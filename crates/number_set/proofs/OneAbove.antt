@@ -148,3 +148,33 @@ pub written : (v : Vec ℕ) (lent back : List ℕ) → lent ≡ v.items → leng
 written v lent back is long P holds =
     let same : (with_items v back).items ≡ back = with_items_is v back (long ∙ ap length is ∙ sym v.ok.0) in
     subst (P v.items) (sym same) (subst (λ words. P words back) is holds)
+
+-- many numbers were put in or taken out: those that pass p, in the words that pass q
+module _ (words new : List ℕ) (p : ℕ → Bool) where
+  pub many_put : ((n : ℕ) → has_number new n ≡ (p n || has_number words n)) → (s : set.FinSet nat_cmp) → numbers_of words ≡ s → (n : ℕ) → set.contains (numbers_of new) n ≡ (p n || set.contains s n)
+  many_put put s view n = member new n ∙ put n ∙ ap (λ b. p n || b) (ap (λ f. f n) (list_members words s view))
+
+  pub many_cut : ((n : ℕ) → has_number new n ≡ (not (p n) && has_number words n)) → (s : set.FinSet nat_cmp) → numbers_of words ≡ s → (n : ℕ) → set.contains (numbers_of new) n ≡ (not (p n) && set.contains s n)
+  many_cut cut s view n = member new n ∙ cut n ∙ ap (λ b. not (p n) && b) (ap (λ f. f n) (list_members words s view))
+
+module _ (words new : List ℕ) (q : ℕ → Bool) (above : set.FinSet nat_cmp) (each : Summarizes above words) where
+  pub all_put_above : ((word : ℕ) → is_filled new word ≡ (q word || is_filled words word)) → (after : set.FinSet nat_cmp) → ((word : ℕ) → set.contains after word ≡ (q word || set.contains above word)) → Summarizes after new
+  all_put_above filled after put i = put i ∙ ap (λ b. q i || b) (each i) ∙ sym (filled i)
+
+  pub all_cut_above : ((word : ℕ) → is_filled new word ≡ (not (q word) && is_filled words word)) → (after : set.FinSet nat_cmp) → ((word : ℕ) → set.contains after word ≡ (not (q word) && set.contains above word)) → Summarizes after new
+  all_cut_above filled after cut i = cut i ∙ ap (λ b. not (q i) && b) (each i) ∙ sym (filled i)
+
+  -- the level above is told of the words, or needs not be
+  module _ (told : Bool) (filled : (word : ℕ) → is_filled new word ≡ ((told && q word) || is_filled words word)) where
+    pub many_put_above : told ≡ true → (after : set.FinSet nat_cmp) → ((word : ℕ) → set.contains after word ≡ (q word || set.contains above word)) → Summarizes after new
+    many_put_above is = all_put_above (λ i. filled i ∙ ap (λ b. (b && q i) || is_filled words i) is)
+
+    pub many_kept_above : told ≡ false → Summarizes above new
+    many_kept_above is i = each i ∙ ap (λ b. (b && q i) || is_filled words i) (sym is) ∙ sym (filled i)
+
+  module _ (told : Bool) (filled : (word : ℕ) → is_filled new word ≡ (not (told && q word) && is_filled words word)) where
+    pub many_cut_above : told ≡ true → (after : set.FinSet nat_cmp) → ((word : ℕ) → set.contains after word ≡ (not (q word) && set.contains above word)) → Summarizes after new
+    many_cut_above is = all_cut_above (λ i. filled i ∙ ap (λ b. not (b && q i) && is_filled words i) is)
+
+    pub many_left_above : told ≡ false → Summarizes above new
+    many_left_above is i = each i ∙ ap (λ b. not (b && q i) && is_filled words i) (sym is) ∙ sym (filled i)

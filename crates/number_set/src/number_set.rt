@@ -1,9 +1,10 @@
 //! Sets of numbers below a bound that is chosen when a set is opened.
 
-ghost use Rattle.std.specs.Prelude.{◌≡◌, ℕ, ◌^◌, ◌<◌, ◌≤◌, MatchOption, IfOk, IfSome};
+ghost use Rattle.std.specs.Prelude.{◌≡◌, ◌↔◌, ℕ, ◌+◌, ◌%◌, ◌^◌, ◌<◌, ◌≤◌, ◌&&◌, ◌||◌, not, nat_lt, true, IsTrue, MatchOption, IfOk, IfSome};
 ghost use Rattle.std.specs.FinSet as set;
 ghost use Rattle.number_set.specs.Finds.{IsFirst, IsFrom, IsLast, IsNext, IsPrevious, NoneAbove, NoneAtAll, NoneBelow, NoneFrom};
 ghost use Rattle.number_set.specs.Numbers.{room_for};
+ghost use Rattle.number_set.specs.Runs.{in_run};
 
 use crate::upper_levels::UpperLevels;
 use crate::words;
@@ -55,6 +56,19 @@ impl<const L: usize> NumberSet<L> {
         })
     }
 
+    /// The set of all numbers below a bound, or an error where there is no memory for it. No other call takes memory.
+    pub fn filled(alloc: Global, bound: u32) -> Result<Self, AllocError>
+        requires levels { (2 ≤ L) × (L ≤ 4) }
+        requires bound { bound ≤ 64 ^ L }
+        ensures all { IfOk result (λ s. (number : ℕ) → set.contains s.members number ≡ nat_lt number bound) }
+        ensures bound { IfOk result (λ s. s.bound ≡ room_for L bound) }
+        ensures enough { IfOk result (λ s. bound ≤ s.bound) }
+    {
+        let mut set = Self::open(alloc, bound)?;
+        set.insert_below(bound);
+        Ok(set)
+    }
+
     /// Whether a number is a member.
     #[inline]
     pub fn contains(&self, number: u32) -> bool
@@ -95,6 +109,56 @@ impl<const L: usize> NumberSet<L> {
         if words::remove(&mut self.words, number) {
             self.above.remove(number / 64);
         }
+    }
+
+    /// Puts in the 2^order numbers from `first` upwards. `first` is a multiple of 2^order, and order is 9 at most.
+    #[inline]
+    pub fn insert_run(&mut self, first: u32, order: u32)
+        requires order { order ≤ 9 }
+        requires aligned { first % 2 ^ order ≡ 0 }
+        requires within { first + 2 ^ order ≤ self.old.bound }
+        ensures run { (number : ℕ) → set.contains self.new.members number ≡ (in_run first (2 ^ order) number || set.contains self.old.members number) }
+        ensures bound { self.new.bound ≡ self.old.bound }
+    {
+        if L != 4 {
+            self.above.insert_run(first, order);
+            return;
+        }
+        if words::insert_run(&mut self.words, first, order) {
+            self.above.insert_run(first / 64, order.saturating_sub(6));
+        }
+    }
+
+    /// Takes them out.
+    #[inline]
+    pub fn remove_run(&mut self, first: u32, order: u32)
+        requires order { order ≤ 9 }
+        requires aligned { first % 2 ^ order ≡ 0 }
+        requires within { first + 2 ^ order ≤ self.old.bound }
+        ensures run { (number : ℕ) → set.contains self.new.members number ≡ (not (in_run first (2 ^ order) number) && set.contains self.old.members number) }
+        ensures bound { self.new.bound ≡ self.old.bound }
+    {
+        if L != 4 {
+            self.above.remove_run(first, order);
+            return;
+        }
+        if words::remove_run(&mut self.words, first, order) {
+            self.above.remove_run(first / 64, order.saturating_sub(6));
+        }
+    }
+
+    /// Whether they are all members.
+    #[inline]
+    pub fn has_run(&self, first: u32, order: u32) -> bool
+        requires order { order ≤ 9 }
+        requires aligned { first % 2 ^ order ≡ 0 }
+        requires within { first + 2 ^ order ≤ self.now.bound }
+        ensures { IsTrue result ↔ ((number : ℕ) → in_run first (2 ^ order) number ≡ true → set.contains self.now.members number ≡ true) }
+    {
+        if L != 4 {
+            return self.above.has_run(first, order);
+        }
+        words::has_run(&self.words, first, order)
     }
 
     /// The lowest number of the set, if it has one.
@@ -176,5 +240,19 @@ impl<const L: usize> NumberSet<L> {
             return Some(number);
         }
         self.after(number)
+    }
+
+    /// Puts in all numbers below a bound.
+    fn insert_below(&mut self, bound: u32)
+        requires { bound ≤ self.old.bound }
+        ensures numbers { (number : ℕ) → set.contains self.new.members number ≡ (nat_lt number bound || set.contains self.old.members number) }
+        ensures bound { self.new.bound ≡ self.old.bound }
+    {
+        if L != 4 {
+            self.above.insert_below(bound);
+            return;
+        }
+        words::insert_below(&mut self.words, bound);
+        self.above.insert_below((bound + 63) / 64);
     }
 }
