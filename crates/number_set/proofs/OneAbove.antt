@@ -1,6 +1,6 @@
 -- A level of a set, and the set above it: what was put in and taken out, and what searches find.
 use Rattle.std.proofs.Common.{◌≡◌, ℕ, zero, suc, ◌/◌, ◌%◌, Bool, true, false, not, List, length, replicate, inl, inr, refl, sym, ap, ◌∙◌, subst, slice_index, eq-eqb, arith}
-use Rattle.std.specs.Prelude.{nat_eq, nat_lt, ◌&&◌, ◌||◌}
+use Rattle.std.specs.Prelude.{◌↔◌, nat_eq, nat_lt, ◌&&◌, ◌||◌, IsTrue}
 use Rattle.std.specs.Ordering.{nat_cmp}
 use Rattle.std.specs.FinSet as set
 use Rattle.std.specs.Global.{Vec}
@@ -12,6 +12,7 @@ use Rattle.number_set.specs.Bits.{has_bit, has_number, is_filled}
 use Rattle.number_set.specs.Finds.{IsFirst, IsLast, IsNext, IsPrevious, NoneAtAll, NoneAbove, NoneBelow, IsFirstIn, IsLastIn, NoneAboveIn, NoneBelowIn}
 use Rattle.number_set.specs.Levels.{Summarizes}
 use Rattle.number_set.specs.Numbers.{numbers_of}
+use Rattle.number_set.specs.Runs.{in_run}
 use Rattle.number_set.proofs.Gathering.{member, list_members, member_insert, member_remove, same_members}
 use Rattle.number_set.proofs.Masking.{clash, has_bit_zero}
 use Rattle.number_set.proofs.Numbering.{no_number}
@@ -156,6 +157,10 @@ module _ (words new : List ℕ) (p : ℕ → Bool) where
 
   pub many_cut : ((n : ℕ) → has_number new n ≡ (not (p n) && has_number words n)) → (s : set.FinSet nat_cmp) → numbers_of words ≡ s → (n : ℕ) → set.contains (numbers_of new) n ≡ (not (p n) && set.contains s n)
   many_cut cut s view n = member new n ∙ cut n ∙ ap (λ b. not (p n) && b) (ap (λ f. f n) (list_members words s view))
+
+-- whether a run is there
+pub run_members : (words : List ℕ) (s : set.FinSet nat_cmp) (has : Bool) (first count : ℕ) → numbers_of words ≡ s → (IsTrue has ↔ ((n : ℕ) → in_run first count n ≡ true → has_number words n ≡ true)) → IsTrue has ↔ ((n : ℕ) → in_run first count n ≡ true → set.contains s n ≡ true)
+run_members words s has first count view = subst (λ p. IsTrue has ↔ ((n : ℕ) → in_run first count n ≡ true → p n ≡ true)) (list_members words s view)
 
 module _ (words new : List ℕ) (q : ℕ → Bool) (above : set.FinSet nat_cmp) (each : Summarizes above words) where
   pub all_put_above : ((word : ℕ) → is_filled new word ≡ (q word || is_filled words word)) → (after : set.FinSet nat_cmp) → ((word : ℕ) → set.contains after word ≡ (q word || set.contains above word)) → Summarizes after new
