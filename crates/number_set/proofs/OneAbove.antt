@@ -162,6 +162,13 @@ module _ (words new : List ℕ) (p : ℕ → Bool) where
 pub run_members : (words : List ℕ) (s : set.FinSet nat_cmp) (has : Bool) (first count : ℕ) → numbers_of words ≡ s → (IsTrue has ↔ ((n : ℕ) → in_run first count n ≡ true → has_number words n ≡ true)) → IsTrue has ↔ ((n : ℕ) → in_run first count n ≡ true → set.contains s n ≡ true)
 run_members words s has first count view = subst (λ p. IsTrue has ↔ ((n : ℕ) → in_run first count n ≡ true → p n ≡ true)) (list_members words s view)
 
+-- an empty set that got all numbers below a bound
+pub all_below : (s t : set.FinSet nat_cmp) (bound : ℕ) → s ≡ set.empty → ((n : ℕ) → set.contains t n ≡ (nat_lt n bound || set.contains s n)) → (n : ℕ) → set.contains t n ≡ nat_lt n bound
+all_below s t bound none put n = put n ∙ ap (λ b. nat_lt n bound || b) (ap (λ u. set.contains u n) none ∙ set.contains-empty nat_cmp n) ∙ or_false (nat_lt n bound) where
+  or_false : (b : Bool) → (b || false) ≡ b
+  or_false true = refl
+  or_false false = refl
+
 module _ (words new : List ℕ) (q : ℕ → Bool) (above : set.FinSet nat_cmp) (each : Summarizes above words) where
   pub all_put_above : ((word : ℕ) → is_filled new word ≡ (q word || is_filled words word)) → (after : set.FinSet nat_cmp) → ((word : ℕ) → set.contains after word ≡ (q word || set.contains above word)) → Summarizes after new
   all_put_above filled after put i = put i ∙ ap (λ b. q i || b) (each i) ∙ sym (filled i)
