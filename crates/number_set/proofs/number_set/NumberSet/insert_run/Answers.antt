@@ -10,7 +10,7 @@ use Rattle.number_set.proofs.Running.{told_aligned, told_within}
 use Rattle.number_set.proofs.number_set.NumberSet.insert_run.Goals as goal
 
 pub insert_run-requires-then-insert_run : goal.insert_run-requires-then-insert_run
-insert_run-requires-then-insert_run g c = (lit< tt, omega (arith, c.requires.order, c.saturating_sub.ensures), told_aligned c.args.first c.args.order c.saturating_sub.result c.requires.order c.requires.aligned c.saturating_sub.ensures, omega (arith, told_within c.args.first c.args.order (length c.self.inside.words.items) c.saturating_sub.result c.requires.order c.requires.aligned c.saturating_sub.ensures (omega (arith, c.requires.within, bound_of (in_fourth _ c.self.inside.above c.self.inside.words.items c.args.self.now c.if-this-ne4.false c.self.view_is))), (c.self.invariant c.if-this-ne4.false).0))
+insert_run-requires-then-insert_run g c = (lit< tt, (omega (arith, c.requires.order, c.saturating_sub.ensures), (told_aligned c.args.first c.args.order c.saturating_sub.result c.requires.order c.requires.aligned c.saturating_sub.ensures, omega (arith, told_within c.args.first c.args.order (length c.self.inside.words.items) c.saturating_sub.result c.requires.order c.requires.aligned c.saturating_sub.ensures (omega (arith, c.requires.within, bound_of (in_fourth _ c.self.inside.above c.self.inside.words.items c.args.self.now c.if-this-ne4.false c.self.view_is))), (c.self.invariant c.if-this-ne4.false).0))))
 
 pub invariant_of-self-then-insert_run : goal.invariant_of-self-then-insert_run
 invariant_of-self-then-insert_run g c four =
