@@ -340,11 +340,11 @@ module _ (words : List ℕ) (first order : ℕ) (p : Parts first order) (more : 
       let word = first / 64 + k in
       let below : k < 2 ^ (order - 6) = omega (arith, low, run_long) in
       let is : slice_index run k ≡ 18446744073709551615 = run_at k low ∙ full_word (slice_index words word) (fits word (omega (arith, below, within))) (λ i less.
-          let n = 64 * word + i in
-          let here : n / 64 ≡ word = omega arith in
-          let rest : n % 64 ≡ i = omega arith in
-          let inside : in_run (first / 64) (2 ^ (order - 6)) (n / 64) ≡ true = λ j. le-leb (first / 64) (n / 64) (omega (arith, here)) j && lt-ltb (n / 64) (first / 64 + 2 ^ (order - 6)) (omega (arith, here, below)) j in
-          sym (λ j. has_bit (slice_index words (here j)) (rest j)) ∙ all n (sym (whole_words first order n p more) ∙ inside)) in
+      let n = 64 * word + i in
+      let here : n / 64 ≡ word = omega arith in
+      let rest : n % 64 ≡ i = omega arith in
+      let inside : in_run (first / 64) (2 ^ (order - 6)) (n / 64) ≡ true = λ j. le-leb (first / 64) (n / 64) (omega (arith, here)) j && lt-ltb (n / 64) (first / 64 + 2 ^ (order - 6)) (omega (arith, here, below)) j in
+      sym (λ j. has_bit (slice_index words (here j)) (rest j)) ∙ all n (sym (whole_words first order n p more) ∙ inside)) in
       ap (λ b. nat_eq b 18446744073709551615) (get_or_default run k d 0 low ∙ is))
 
 -- the words of a run are within the level above, which is told of them

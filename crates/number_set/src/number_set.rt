@@ -12,7 +12,8 @@ use std::alloc::{AllocError, Global};
 use std::marker::Model;
 
 /// A set of numbers below a bound, in `L` levels of words: 2, 3 or 4. The bound is 4,096 with two levels, and at most
-/// 262,144 with three and 16,777,216 with four. Each call looks at two words of each level at most.
+/// 262,144 with three and 16,777,216 with four. Each call for a number looks at two words of each level at most, and each call
+/// for a run at its words, which are eight at most, and at one word of each level above.
 #[derive(Drop)]
 pub struct NumberSet<const L: usize> {
     words: Vec<u64>,
@@ -34,8 +35,8 @@ impl<const L: usize> Model for NumberSet<L> {
 }
 
 impl<const L: usize> NumberSet<L> {
-    /// An empty set with room for the numbers below a bound, or an error where there is no memory for it. No other call takes
-    /// memory. With two levels it takes none either: their words lie in the set itself.
+    /// An empty set with room for the numbers below a bound, or an error where there is no memory for it. Only this call and
+    /// `filled` take memory. With two levels they take none either: their words lie in the set itself.
     pub fn open(alloc: Global, bound: u32) -> Result<Self, AllocError>
         requires levels { (2 ≤ L) × (L ≤ 4) }
         requires bound { bound ≤ 64 ^ L }
@@ -56,7 +57,7 @@ impl<const L: usize> NumberSet<L> {
         })
     }
 
-    /// The set of all numbers below a bound, or an error where there is no memory for it. No other call takes memory.
+    /// The set of all numbers below a bound, or an error where there is no memory for it. It is filled word by word.
     pub fn filled(alloc: Global, bound: u32) -> Result<Self, AllocError>
         requires levels { (2 ≤ L) × (L ≤ 4) }
         requires bound { bound ≤ 64 ^ L }

@@ -54,8 +54,8 @@ pub(crate) fn remove(words: &mut [u64], number: u32) -> bool
     left == 0
 }
 
-/// Puts in the 2^order numbers from `first` upwards. `first` is a multiple of 2^order. The answer is false where their words
-/// all had a number before.
+/// Puts in the 2^order numbers from `first` upwards. `first` is a multiple of 2^order. The answer is false only where their
+/// word had a number before.
 #[inline(always)]
 pub(crate) fn insert_run(words: &mut [u64], first: u32, order: u32) -> bool
     requires order { order ≤ 9 }

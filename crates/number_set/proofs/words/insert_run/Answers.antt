@@ -1,4 +1,4 @@
-use Rattle.std.proofs.Common.{◌-◌, ◌/◌, ◌%◌, ◌^◌, ◌≤◌, refl, ap, ◌∙◌, slice_index, arith}
+use Rattle.std.proofs.Common.{◌-◌, ◌/◌, ◌%◌, ◌≤◌, refl, ap, ◌∙◌, slice_index, arith}
 use Rattle.std.specs.Prelude.{if◌then◌else◌}
 use Rattle.number_set.specs.Runs.{in_run}
 use Rattle.std.proofs.lemmas.Nat.{pow_pos}

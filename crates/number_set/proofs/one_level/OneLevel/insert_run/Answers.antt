@@ -1,4 +1,4 @@
-use Rattle.std.proofs.Common.{◌^◌, ap, ◌∙◌, arith}
+use Rattle.std.proofs.Common.{ap, ◌∙◌, arith}
 use Rattle.std.proofs.lemmas.Nat.{or_lt}
 use Rattle.std.specs.Prelude.{◌||◌}
 use Rattle.std.specs.FinSet as set

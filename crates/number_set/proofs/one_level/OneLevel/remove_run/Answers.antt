@@ -1,4 +1,4 @@
-use Rattle.std.proofs.Common.{◌^◌, not, ap, ◌∙◌, arith}
+use Rattle.std.proofs.Common.{not, ap, ◌∙◌, arith}
 use Rattle.std.specs.Prelude.{◌&&◌}
 use Rattle.std.specs.FinSet as set
 use Rattle.number_set.specs.Runs.{in_run}
