@@ -130,7 +130,7 @@ impl<const L: usize> NumberSet<L> {
         }
     }
 
-    /// Takes them out.
+    /// Takes out the 2^order numbers from `first` upwards. `first` is a multiple of 2^order, and order is 9 at most.
     #[inline]
     pub fn remove_run(&mut self, first: u32, order: u32)
         requires order { order ≤ 9 }
@@ -148,7 +148,7 @@ impl<const L: usize> NumberSet<L> {
         }
     }
 
-    /// Whether they are all members.
+    /// Whether the 2^order numbers from `first` upwards are all members. `first` is a multiple of 2^order, and order is 9 at most.
     #[inline]
     pub fn has_run(&self, first: u32, order: u32) -> bool
         requires order { order ≤ 9 }
