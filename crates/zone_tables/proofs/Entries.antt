@@ -1,5 +1,5 @@
 -- One address names something else: the entries still stand for the zone.
-use Rattle.std.proofs.Common.{◌≡◌, ◌≢◌, true, false, List, ◌⊎◌, inl, inr, sym, ap, subst, ◌∙◌, refl, ℕ}
+use Rattle.std.proofs.Common.{◌≡◌, ◌≢◌, true, false, ◌⊎◌, inl, inr, sym, ap, subst, ◌∙◌, refl, ℕ}
 use Rattle.std.specs.FinMap as map
 use Rattle.std.specs.Prelude.{nat_eq, ◌&&◌, Option, Some, None}
 use Rattle.std.proofs.lemmas.Bool.Decides.{eqb_tells}

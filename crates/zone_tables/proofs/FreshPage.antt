@@ -15,7 +15,6 @@ use Rattle.frame_core.proofs.Maps.{no_test}
 use Rattle.frame_core.specs.declared.record.Record.TheVariants.{Map}
 use Rattle.frame_core.specs.History.{same_address, last, dirty, pins}
 use Rattle.zone_tables.specs.History.{History, told}
-use Rattle.table_core.specs.declared.entry.Entry.{Entry}
 use Rattle.table_core.specs.declared.entry.Entry.TheVariants.{Present}
 use Rattle.table_core.specs.Tables.{EntryTable, Tables, ChangesOnly}
 use Rattle.frame_core.specs.Page.{blank_words}
