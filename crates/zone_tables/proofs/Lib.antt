@@ -3,6 +3,7 @@ pub mod BlockOrders
 pub mod BlockWords
 pub mod Copies
 pub mod Entries
+pub mod Evacuation
 pub mod Facts
 pub mod FreshPage
 pub mod HeldWords
