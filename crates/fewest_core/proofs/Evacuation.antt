@@ -1,5 +1,5 @@
 -- A move outside of a round leaves the zone valid.
-use Rattle.std.proofs.Common.{◌≡◌, ◌≢◌, ℕ, ◌+◌, ◌-◌, ◌<◌, ◌≤◌, true, false, List, ◌∷◌, length, inl, inr, refl, sym, ap, subst, ◌∙◌, arith, Option, Some, None, IsSomeAnd, IsTrue, nat_eq, ◌↔◌}
+use Rattle.std.proofs.Common.{◌≡◌, ◌≢◌, ℕ, true, List, ◌∷◌, length, inl, inr, refl, sym, ap, subst, ◌∙◌, arith, Option, Some, None, IsSomeAnd, nat_eq}
 use Rattle.std.specs.FinMap as map
 use Rattle.std.specs.Cmp.{nat_cmp_total}
 use Rattle.std.specs.Ordering.{nat_cmp}
@@ -9,13 +9,12 @@ use Rattle.frame_core.proofs.OnTheWay.{ended_out, length_without, not_moving, ou
 use Rattle.frame_core.specs.declared.record.Record.{Record}
 use Rattle.frame_core.specs.declared.record.Record.TheVariants.{Isolate, Moved}
 use Rattle.frame_core.specs.History.{pins}
-use Rattle.frame_core.specs.Moves.{isolated, out, is_out, page_of, CanIsolate, EndsWith, IsWellEnded}
+use Rattle.frame_core.specs.Moves.{isolated, out, is_out, page_of, IsWellEnded}
 use Rattle.state_core.specs.declared.placement.Placement.{Placement}
 use Rattle.state_core.specs.declared.placement.Placement.TheVariants.{At}
 use Rattle.state_core.specs.Isolating.{isolate_refusal}
-use Rattle.state_core.specs.Pairs.{is_marked}
 use Rattle.state_core.specs.Valid.{IsValidZone, is_under}
-use Rattle.state_core.specs.ZoneState.{ZoneState, frame_count, is_free}
+use Rattle.state_core.specs.ZoneState.{ZoneState, is_free}
 use Rattle.state_core.proofs.Entries.{get_insert_same, get_insert_other}
 use Rattle.state_core.proofs.Facts.{not_none, room_and_serial}
 use Rattle.state_core.proofs.Moving.{CanSettle, some_same}
