@@ -26,6 +26,7 @@ pub mod Rounds
 pub mod Scanning
 pub mod SearchesAndCounts
 pub mod Shared
+pub mod Shut
 pub mod Tables
 pub mod Tabulating
 pub mod Unmapped
