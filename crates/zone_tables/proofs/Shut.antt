@@ -1,8 +1,8 @@
 -- Which frames are handed out or immovable, by their states.
-use Rattle.std.proofs.Common.{◌≡◌, ◌≢◌, ℕ, ◌<◌, Bool, true, false, not, ◌&&◌, ◌||◌, cond, List, ◌⊎◌, inl, inr, refl, sym, ap, ◌∙◌}
+use Rattle.std.proofs.Common.{◌≡◌, ◌≢◌, ℕ, ◌<◌, Bool, true, false, not, ◌&&◌, ◌||◌, cond, ◌⊎◌, inl, inr, refl, sym, ap, ◌∙◌}
 use Rattle.std.specs.Prelude.{Option, Some, None, IsSome, nat_eq, slice_get}
 use Rattle.std.specs.FinMap as map
-use Rattle.std.proofs.lemmas.Bool.{and_from, and_parts, and_right, cases_Bool, eq-eqb, not-true, or_from, or_left, or_right}
+use Rattle.std.proofs.lemmas.Bool.{and_from, and_parts, and_right, cases_Bool, not-true, or_from, or_left, or_right}
 use Rattle.frame_core.proofs.Searches.{none_some, some_at}
 use Rattle.frame_core.specs.declared.state.FrameState.{FrameState}
 use Rattle.frame_core.specs.declared.state.FrameState.TheVariants.{Free, Holds, Huge, Source, Target}
@@ -10,7 +10,7 @@ use Rattle.scan_core.specs.Frames.{is_free_state}
 use Rattle.state_core.specs.declared.placement.Placement.{Placement}
 use Rattle.state_core.specs.declared.placement.Placement.TheVariants.{At, Moving}
 use Rattle.state_core.specs.Pairs.{can_move}
-use Rattle.state_core.specs.ZoneState.{ZoneState, frame_count, is_held, is_used, takes_up}
+use Rattle.state_core.specs.ZoneState.{ZoneState, frame_count, is_held, takes_up}
 use Rattle.state_core.proofs.Facts.{not_none}
 use Rattle.state_core.proofs.Holding.{at_takes}
 use Rattle.fewest_core.specs.FewestMoves.{has_to_stay, is_immovable, is_moving}
