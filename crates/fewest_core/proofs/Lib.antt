@@ -1,8 +1,6 @@
 pub mod Choices
 pub mod Costs
 pub mod Counts
-pub mod Emptying
-pub mod Evacuated
 pub mod Evacuation
 pub mod Moves
 pub mod Placements

@@ -1,5 +1,5 @@
 -- An evacuation that isn't refused: what is known before it, and what is true after it.
-use Rattle.std.proofs.Common.{◌≡◌, ℕ, ◌+◌, ◌-◌, ◌*◌, ◌/◌, ◌^◌, ◌<◌, ◌≤◌, Bool, true, false, not, ◌&&◌, cond, length, refl, sym, ap, ◌∙◌, arith}
+use Rattle.std.proofs.Common.{◌≡◌, ℕ, ◌+◌, ◌-◌, ◌*◌, ◌/◌, ◌^◌, ◌<◌, ◌≤◌, Bool, true, false, not, ◌&&◌, cond, length, refl, sym, ap, subst, ◌∙◌, arith}
 use Rattle.std.specs.Prelude.{Option, Some, None, nat_eq, nat_le}
 use Rattle.std.proofs.lemmas.Bool.{and_parts, and_from, eq-eqb, eqb-true, leb-true, or_parts}
 use Rattle.frame_core.proofs.Searches.{count_from_all}
@@ -10,10 +10,10 @@ use Rattle.state_core.specs.declared.error.ZoneError.{ZoneError}
 use Rattle.state_core.specs.HandingOut.{has_block, is_run}
 use Rattle.state_core.specs.Valid.{IsValidZone}
 use Rattle.state_core.specs.ZoneState.{ZoneState, frame_count, is_free, is_held, is_used}
-use Rattle.fewest_core.specs.Evacuation.{can_empty, evacuate_refusal, has_room_for_moves, spare_frames}
+use Rattle.fewest_core.specs.Evacuation.{can_empty, emptied, evacuate_refusal, evacuated, has_room_for_moves, spare_frames, IsCarriedOut}
 use Rattle.fewest_core.specs.FewestMoves.{cost, is_open, is_shut}
 use Rattle.fewest_core.proofs.Counts.{none_counted}
-use Rattle.fewest_core.proofs.Emptying.{HasEnough, IsEmptying, emptying_begins}
+use Rattle.zone_core.proofs.Emptying.{HasEnough, IsEmptying, IsPartEmptied, emptying_begins}
 
 three_tests : (a b c : Bool) (x y w : ZoneError) → cond (not a) (Some x) (cond (not b) (Some y) (cond (not c) (Some w) None)) ≡ None → (a ≡ true) × (b ≡ true) × (c ≡ true)
 three_tests true true true x y w e = (refl, refl, refl)
@@ -34,7 +34,7 @@ cost_is z first order has = ap (λ (k : ℕ). count_from (is_used z) k (2 ^ orde
 pub open_is : (z : ZoneState) (first order : ℕ) → has_block z order first ≡ true → is_open z (2 ^ order) (first / 2 ^ order) ≡ nat_eq (count_from (is_shut z) first (2 ^ order)) 0
 open_is z first order has = ap (λ (k : ℕ). nat_eq (count_from (is_shut z) k (2 ^ order)) 0) (aligned z first order has)
 
-module _ (z : ZoneState) (first order : ℕ) (law : IsValidZone z) (accepted : evacuate_refusal z first order ≡ None) where
+module _ (z : ZoneState) (first order : ℕ) (accepted : evacuate_refusal z first order ≡ None) where
   abbrev size : ℕ
   size = 2 ^ order
 
@@ -59,10 +59,22 @@ module _ (z : ZoneState) (first order : ℕ) (law : IsValidZone z) (accepted : e
         serials = omega (arith, costs_it, leb-true (isolated z.records + cost z size (first / size)) (2 ^ 32 - 1) room.1);
       }
 
-  pub begins : IsEmptying first size z z 0
-  begins = emptying_begins first size z law (λ frame low high. none_counted (is_shut z) first size frame (eqb-true _ 0 (sym (open_is z first order tests.0) ∙ can_parts.0)) low high)
+  pub begins : IsValidZone z → IsPartEmptied first size z z 0
+  begins law = record { same = refl; emptying = emptying_begins first size z (λ frame low high. none_counted (is_shut z) first size frame (eqb-true _ 0 (sym (open_is z first order tests.0) ∙ can_parts.0)) low high); valid = law }
 
-  module _ (new : ZoneState) (is : IsEmptying first size z new size) where
+  module _ (new : ZoneState) (n : ℕ) (part : IsPartEmptied first size z new n) (all : n ≡ size) where
+    is : IsEmptying first size z new size
+    is = subst (IsEmptying first size z new) all part.emptying
+
+    pub zone_is : new ≡ evacuated z first size
+    zone_is = part.same ∙ ap (emptied first size z) all
+
+    pub carried_out : IsCarriedOut first size z new
+    carried_out = is.carried
+
+    pub identity_is : (new.number ≡ z.number) × (new.blocks ≡ z.blocks)
+    identity_is = (is.number, is.blocks)
+
     pub moved_all : moved new.records ≡ moved z.records + cost z size (first / size)
     moved_all = omega (arith, is.moved, costs_it)
 

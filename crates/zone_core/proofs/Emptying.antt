@@ -1,8 +1,8 @@
 -- A run of frames is emptied, one frame after the other.
-use Rattle.std.proofs.Common.{◌≡◌, ◌≢◌, ℕ, zero, suc, ◌+◌, ◌-◌, ◌*◌, ◌^◌, ◌<◌, ◌≤◌, Bool, true, false, not, ◌&&◌, ◌||◌, cond, length, inl, inr, refl, sym, ap, ◌∙◌, arith}
-use Rattle.std.specs.Prelude.{Option, Some, None, is_some, nat_le}
+use Rattle.std.proofs.Common.{◌≡◌, ◌≢◌, ℕ, zero, suc, ◌+◌, ◌-◌, ◌*◌, ◌^◌, ◌<◌, ◌≤◌, Bool, true, false, not, ◌&&◌, ◌||◌, cond, length, inl, inr, refl, sym, subst, ap, ◌∙◌, arith}
+use Rattle.std.specs.Prelude.{Option, Some, None, is_some, nat_le, nat_eq}
 use Rattle.std.specs.FinMap as map
-use Rattle.std.proofs.lemmas.Bool.{and_parts, and_from, both_ways, cases_Bool, eq-eqb, false_from_ne_true, le-leb, leb-true, lt-ltb, ltb-true, not-true, not-false, or_parts}
+use Rattle.std.proofs.lemmas.Bool.{and_parts, and_from, both_ways, cases_Bool, eq-eqb, false_from_ne_true, le-leb, leb-true, lt-ltb, ltb-true, ne_eqb, not-true, not-false, or_parts}
 use Rattle.std.proofs.lemmas.Bool.Decides.{eqb_tells}
 use Rattle.frame_core.proofs.Searches.{some_none, some_one}
 use Rattle.frame_core.specs.Below.{one_if, count_below, count_from, highest}
@@ -16,10 +16,11 @@ use Rattle.state_core.specs.ZoneState.{ZoneState, frame_count, is_held, is_used,
 use Rattle.state_core.specs.declared.error.ZoneError.TheVariants.{JournalFull}
 use Rattle.state_core.proofs.Holding.{holder_at, holder_found}
 use Rattle.state_core.proofs.Packing.{count_mono}
-use Rattle.fewest_core.specs.Evacuation.{highest_spare, is_in_run, is_spare, moved_away, spare_frames, IsCarriedOut}
+use Rattle.state_core.proofs.Runs.{count_from_none}
+use Rattle.fewest_core.specs.Evacuation.{emptied, highest_spare, is_in_run, is_spare, moved_away, moved_out, spare_frames, IsCarriedOut}
 use Rattle.fewest_core.specs.FewestMoves.{Move, IsMove, has_to_stay, is_immovable, is_moving, is_shut}
-use Rattle.fewest_core.proofs.Counts.{count_but_one}
-use Rattle.fewest_core.proofs.Evacuation.{as_many_out, valid_moved_away}
+use Rattle.fewest_core.proofs.Counts.{count_but_one, none_counted}
+use Rattle.fewest_core.proofs.Evacuation.{as_many_out}
 use Rattle.fewest_core.proofs.Moves.{others_same, shut_once, stays_used, used_at}
 use Rattle.fewest_core.proofs.Reached.{own_if_valid, rests_at, source_unused, stays_vacant, used_before}
 
@@ -93,7 +94,6 @@ module _ (z : ZoneState) (law : IsValidZone z) (frame : ℕ) where
 
 -- between two frames of a run that is emptied
 pub record IsEmptying (first size : ℕ) (old z : ZoneState) (n : ℕ) : Type 0 where
-  pub valid : IsValidZone z
   pub number : z.number ≡ old.number
   pub blocks : z.blocks ≡ old.blocks
   -- no frame of the run is shut; the first n frames are empty, and the others hold what they held
@@ -118,17 +118,19 @@ count_from-suc : (p : ℕ → Bool) (first n : ℕ) → count_from p first (suc 
 unfolding count_from
 count_from-suc p first n = refl
 
-count_from-zero : (p : ℕ → Bool) (first : ℕ) → count_from p first 0 ≡ 0
+pub count_from-zero : (p : ℕ → Bool) (first : ℕ) → count_from p first 0 ≡ 0
 unfolding count_from
 count_from-zero p first = refl
+
+pub count_from-next : (p : ℕ → Bool) (first n : ℕ) → count_from p first (n + 1) ≡ one_if (p (first + n)) + count_from p first n
+count_from-next p first n = let next : n + 1 ≡ suc n = omega arith in ap (count_from p first) next ∙ count_from-suc p first n
 
 count_from-mono : (p : ℕ → Bool) (first n m : ℕ) → n ≤ m → count_from p first n ≤ count_from p first m
 unfolding count_from
 count_from-mono p first n m h = count_mono (λ k. p (first + k)) n m h
 
-pub emptying_begins : (first size : ℕ) (z : ZoneState) → IsValidZone z → ((frame : ℕ) → first ≤ frame → frame < first + size → is_shut z frame ≡ false) → IsEmptying first size z z 0
-emptying_begins first size z law open_run = record {
-  valid = law;
+pub emptying_begins : (first size : ℕ) (z : ZoneState) → ((frame : ℕ) → first ≤ frame → frame < first + size → is_shut z frame ≡ false) → IsEmptying first size z z 0
+emptying_begins first size z open_run = record {
   number = refl;
   blocks = refl;
   unshut = open_run;
@@ -142,7 +144,7 @@ emptying_begins first size z law open_run = record {
   carried = record { flags = λ page. refl; words = λ page. refl; names = λ address. refl; others = λ page off. refl };
 }
 
-module _ (first size : ℕ) (old z : ZoneState) (n : ℕ) (is : IsEmptying first size old z n) (within : n < size) where
+module _ (first size : ℕ) (old z : ZoneState) (n : ℕ) (is : IsEmptying first size old z n) (within : n < size) (law : IsValidZone z) where
   abbrev frame : ℕ
   frame = first + n
 
@@ -155,10 +157,9 @@ module _ (first size : ℕ) (old z : ZoneState) (n : ℕ) (is : IsEmptying first
   -- the frame holds no page
   pub stays_emptying : holder z frame ≡ None → IsEmptying first size old z (suc n)
   stays_emptying none =
-      let unused = unused_if z is.valid frame unshut_here none in
+      let unused = unused_if z law frame unshut_here none in
       let same : count_from (is_used old) first (suc n) ≡ count_from (is_used old) first n = omega (arith, count_from-suc (is_used old) first n, ap one_if (sym used_same ∙ unused)) in
       record {
-        valid = is.valid;
         number = is.number;
         blocks = is.blocks;
         unshut = is.unshut;
@@ -177,7 +178,7 @@ module _ (first size : ℕ) (old z : ZoneState) (n : ℕ) (is : IsEmptying first
 
   module _ (enough : HasEnough first size old) (page : ℕ) (holds : holder z frame ≡ Some page) where
     used_here : is_used old frame ≡ true
-    used_here = sym used_same ∙ holder_used z is.valid frame page holds
+    used_here = sym used_same ∙ holder_used z law frame page holds
 
     one_more : count_from (is_used old) first (suc n) ≡ 1 + count_from (is_used old) first n
     one_more = omega (arith, count_from-suc (is_used old) first n, ap one_if used_here)
@@ -206,7 +207,7 @@ module _ (first size : ℕ) (old z : ZoneState) (n : ℕ) (is : IsEmptying first
       outside = let both = and_parts (not (is_in_run first size target)) (is_free_unmarked z target) found_is.1 in (not-true _ both.0, both.1)
 
       pub may_move_here : IsMove z m
-      may_move_here = may_go z is.valid frame unshut_here page target holds found_is.0 outside.1
+      may_move_here = may_go z law frame unshut_here page target holds found_is.0 outside.1
 
       not_target : (g : ℕ) → first ≤ g → g < first + size → g ≢ target
       not_target g low high same = both_ways _ outside.0 (ap (is_in_run first size) (sym same) ∙ in_run first size g low high)
@@ -236,17 +237,16 @@ module _ (first size : ℕ) (old z : ZoneState) (n : ℕ) (is : IsEmptying first
 
       pub goes_on_emptying : IsEmptying first size old next (suc n)
       goes_on_emptying = record {
-        valid = valid_moved_away z m is.valid may_move_here accepted_here;
         number = is.number;
         blocks = is.blocks;
         unshut = λ g low high. shut_once z m may_move_here g ∙ is.unshut g low high;
         empty = λ g low high. elim (eqb_tells g frame) [
-          | inl at ↦ ap (is_used next) at.1 ∙ source_unused z m may_move_here (own_if_valid z is.valid)
+          | inl at ↦ ap (is_used next) at.1 ∙ source_unused z m may_move_here (own_if_valid z law)
           | inr other ↦ unused_after g (not_target g low (omega (arith, high, within))) (is.empty g low (omega (arith, high, other.1)))
         ];
         rest = λ g low high. (let later : g ≢ frame = omega (arith, low) in used_kept g (not_target g (omega (arith, low)) high) later ∙ is.rest g (omega (arith, low)) high);
         spare = omega (arith, is.spare, fewer_spare, one_more);
-        out_same = as_many_out z m is.valid may_move_here ∙ is.out_same;
+        out_same = as_many_out z m law may_move_here ∙ is.out_same;
         room = omega (arith, is.room, is.out_same, enough.room, not_all, one_more);
         serials = omega (arith, is.serials, one_more);
         moved = omega (arith, is.moved, one_more);
@@ -257,3 +257,39 @@ module _ (first size : ℕ) (old z : ZoneState) (n : ℕ) (is : IsEmptying first
           others = others_stay;
         };
       }
+
+-- the zone between two frames of a run that is emptied
+pub record IsPartEmptied (first size : ℕ) (old z : ZoneState) (n : ℕ) : Type 0 where
+  pub same : z ≡ emptied first size old n
+  pub emptying : IsEmptying first size old z n
+  pub valid : IsValidZone z
+
+module _ (first size : ℕ) (old z : ZoneState) (n : ℕ) (is : IsPartEmptied first size old z n) (within : n < size) where
+  one_more_frame : suc n ≡ n + 1
+  one_more_frame = omega arith
+
+  -- what emptying the next frame leaves
+  left_by : moved_out z (holder z (first + n)) (first + n) (highest_spare first size z) ≡ emptied first size old (suc n)
+  left_by = ap (λ (u : ZoneState). moved_out u (holder u (first + n)) (first + n) (highest_spare first size u)) is.same
+
+  pub part_stays : holder z (first + n) ≡ None → IsPartEmptied first size old z (n + 1)
+  part_stays none = subst (IsPartEmptied first size old z) one_more_frame (record {
+    same = sym (ap (λ (o : Option ℕ). moved_out z o (first + n) (highest_spare first size z)) none) ∙ left_by;
+    emptying = stays_emptying first size old z n is.emptying within is.valid none;
+    valid = is.valid;
+  })
+
+  pub part_goes : HasEnough first size old → (page target : ℕ) → holder z (first + n) ≡ Some page → highest_spare first size z ≡ Some target → (next : ZoneState) → next ≡ moved_away z (record { page = page; source = first + n; target = target }) → IsValidZone next → IsPartEmptied first size old next (n + 1)
+  part_goes enough page target holds found next step law = subst (IsPartEmptied first size old next) one_more_frame (record {
+    same = step ∙ sym (λ i. moved_out z (holds i) (first + n) (found i)) ∙ left_by;
+    emptying = subst (λ (u : ZoneState). IsEmptying first size old u (suc n)) (sym step) (goes_on_emptying first size old z n is.emptying within is.valid enough page holds target found);
+    valid = law;
+  })
+
+-- a run isn't open where a frame of it is shut
+pub shut_closes : (z : ZoneState) (first size frame : ℕ) → first ≤ frame → frame < first + size → is_shut z frame ≡ true → nat_eq (count_from (is_shut z) first size) 0 ≡ false
+shut_closes z first size frame low high shut = ne_eqb (count_from (is_shut z) first size) 0 (λ none. both_ways _ (none_counted (is_shut z) first size frame none low high) shut)
+
+-- and is where none is
+pub unshut_opens : (z : ZoneState) (first size : ℕ) → ((frame : ℕ) → first ≤ frame → frame < first + size → is_shut z frame ≡ false) → nat_eq (count_from (is_shut z) first size) 0 ≡ true
+unshut_opens z first size unshut = eq-eqb (count_from (is_shut z) first size) 0 (count_from_none (is_shut z) first size (λ k h. unshut (first + k) (omega arith) (omega (arith, h))))
