@@ -1,6 +1,7 @@
 pub mod Choices
 pub mod Costs
 pub mod Counts
+pub mod Evacuation
 pub mod Moves
 pub mod Placements
 pub mod Reached

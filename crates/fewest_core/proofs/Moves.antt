@@ -71,7 +71,7 @@ pub free_unused : (z : ZoneState) (frame : ℕ) → is_free_unmarked z frame ≡
 free_unused z frame free = not-true _ (and_parts (not (is_used z frame)) (not (is_held z frame)) (and_parts (not (is_marked z frame)) (is_free z frame) free).1).0
 
 -- a frame that no page takes up isn't immovable
-unused_movable : (z : ZoneState) (frame : ℕ) → is_used z frame ≡ false → is_immovable z frame ≡ false
+pub unused_movable : (z : ZoneState) (frame : ℕ) → is_used z frame ≡ false → is_immovable z frame ≡ false
 unused_movable z frame unused = none_some (λ page. has_to_stay z page && takes_up (map.get z.placement page) frame) (frame_count z) (λ page h. and_right (has_to_stay z page) (takes_up (map.get z.placement page) frame)
     (some_none (λ q. takes_up (map.get z.placement q) frame) (frame_count z) unused page h))
 

@@ -19,19 +19,19 @@ use Rattle.fewest_core.proofs.Counts.{taken, taken_within, taken_strict, count_w
 use Rattle.fewest_core.proofs.Moves.{page_there, others_same, shut_once, free_unused, is_empty, fewest, used_at, target_not_source}
 
 -- each page is in the zone, and a frame is of one page at most
-record HasOwnFrames (z : ZoneState) : Type 0 where
-  numbered : (page frame : ℕ) → takes_up (map.get z.placement page) frame ≡ true → page < frame_count z
-  apart : (p q frame : ℕ) → takes_up (map.get z.placement p) frame ≡ true → takes_up (map.get z.placement q) frame ≡ true → p ≡ q
+pub record HasOwnFrames (z : ZoneState) : Type 0 where
+  pub numbered : (page frame : ℕ) → takes_up (map.get z.placement page) frame ≡ true → page < frame_count z
+  pub apart : (p q frame : ℕ) → takes_up (map.get z.placement p) frame ≡ true → takes_up (map.get z.placement q) frame ≡ true → p ≡ q
 
 in_use : (o : Option Placement) (frame : ℕ) → takes_up o frame ≡ true → IsSome o
 in_use None frame takes = cc
 in_use (Some p) frame takes = refl
 
-own_if_valid : (z : ZoneState) → IsValidZone z → HasOwnFrames z
+pub own_if_valid : (z : ZoneState) → IsValidZone z → HasOwnFrames z
 own_if_valid z law = record { numbered = λ page frame takes. law.pages.numbered page (in_use (map.get z.placement page) frame takes); apart = law.pages.apart }
 
 -- a page that takes up a frame and need not stay is in this frame
-rests_at : (o : Option Placement) (frame : ℕ) → is_moving o ≡ false → takes_up o frame ≡ true → o ≡ Some (At frame)
+pub rests_at : (o : Option Placement) (frame : ℕ) → is_moving o ≡ false → takes_up o frame ≡ true → o ≡ Some (At frame)
 rests_at None frame rests takes = cc
 rests_at (Some (At f)) frame rests takes = ap (λ (k : ℕ). Some (At k)) (sym (eqb-true frame f takes))
 rests_at (Some (Moving serial source target)) frame rests takes = cc
@@ -44,7 +44,7 @@ module _ (z : ZoneState) (m : Move) (is : IsMove z m) where
   as_before q frame ne takes = ap (λ (o : Option Placement). takes_up o frame) (sym (others_same z m q ne)) ∙ takes
 
   -- a frame that is used after a move and isn't its target was used before
-  used_before : (frame : ℕ) → frame ≢ m.target → is_used (after_move z m) frame ≡ true → is_used z frame ≡ true
+  pub used_before : (frame : ℕ) → frame ≢ m.target → is_used (after_move z m) frame ≡ true → is_used z frame ≡ true
   used_before frame ne used = by_page (some_one (λ page. takes_up (map.get (after_move z m).placement page) frame) (frame_count z) used) where
     by_page : (q : ℕ) × (q < frame_count z) × (takes_up (map.get (after_move z m).placement q) frame ≡ true) → is_used z frame ≡ true
     by_page w = elim (eqb_tells w.0 m.page) [
@@ -52,7 +52,7 @@ module _ (z : ZoneState) (m : Move) (is : IsMove z m) where
       | inr other ↦ some_at (λ page. takes_up (map.get z.placement page) frame) (frame_count z) w.0 w.1 (as_before w.0 frame other.1 w.2)
     ]
 
-  stays_vacant : (frame : ℕ) → frame ≢ m.target → is_free_unmarked z frame ≡ true → is_free_unmarked (after_move z m) frame ≡ true
+  pub stays_vacant : (frame : ℕ) → frame ≢ m.target → is_free_unmarked z frame ≡ true → is_free_unmarked (after_move z m) frame ≡ true
   stays_vacant frame ne free =
       let parts = and_parts (not (is_marked z frame)) (is_free z frame) free in
       let inner = and_parts (not (is_used z frame)) (not (is_held z frame)) parts.1 in
@@ -92,7 +92,7 @@ module _ (z : ZoneState) (m : Move) (is : IsMove z m) where
       ];
     }
 
-    source_unused : is_used (after_move z m) m.source ≡ false
+    pub source_unused : is_used (after_move z m) m.source ≡ false
     source_unused = none_some (λ page. takes_up (map.get (after_move z m).placement page) m.source) (frame_count z) (λ page h. elim (cases_Bool (takes_up (map.get (after_move z m).placement page) m.source)) [
       | inl takes ↦ absurd (elim (eqb_tells page m.page) [
         | inl same ↦ target_not_source z m is (sym (target_alone m.source (ap (λ (k : ℕ). takes_up (map.get (after_move z m).placement k) m.source) (sym same.1) ∙ takes)))

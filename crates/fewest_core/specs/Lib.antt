@@ -1,2 +1,3 @@
+pub mod Evacuation
 pub mod Example
 pub mod FewestMoves

@@ -2,7 +2,10 @@ pub mod Alone
 pub mod ByHand
 pub mod Calls
 pub mod Coming
+pub mod Emptying
 pub mod Ending
+mod Evacuated
+mod Evacuating
 mod InTurn
 mod MadeAs
 pub mod Moves

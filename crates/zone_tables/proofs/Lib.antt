@@ -3,6 +3,7 @@ pub mod BlockOrders
 pub mod BlockWords
 pub mod Copies
 pub mod Entries
+pub mod Evacuation
 pub mod Facts
 pub mod FreshPage
 pub mod HeldWords
@@ -25,6 +26,7 @@ pub mod Rounds
 pub mod Scanning
 pub mod SearchesAndCounts
 pub mod Shared
+pub mod Shut
 pub mod Tables
 pub mod Tabulating
 pub mod Unmapped

@@ -100,7 +100,7 @@ module _ {W : ℕ} {z : Inside W} {v : ZoneState} (view : state_of z ≡ v) (inv
   sound : IsSound z v
   sound = is_sound view invariant
 
-  two_frames : source ≢ target
+  pub two_frames : source ≢ target
   two_frames = frames_apart v page serial source target sound.valid at
 
   source_in : source < frame_count v
@@ -124,6 +124,9 @@ module _ {W : ℕ} {z : Inside W} {v : ZoneState} (view : state_of z ≡ v) (inv
 
   pub target_listed : target < z.tables.frames
   target_listed = omega (arith, target_inside, sound.tables)
+
+  pub source_row : source < length z.words
+  source_row = omega (arith, source_in, sound.words.count)
 
   pub target_row : target < length z.words
   target_row = omega (arith, target_inside, sound.words.count)

@@ -37,7 +37,7 @@ use Rattle.zone_tables.proofs.SearchesAndCounts.{get_placements}
 use Rattle.state_core.proofs.Placed.{clash}
 use Rattle.zone_tables.proofs.NotedPages.{unmovable_kept, placements_put}
 use Rattle.zone_tables.proofs.Placement.{GetsPlace, LeavesOthers, FramesPlaced, MovablePlaced, WordsPlaced, SourcesPlaced, frames_fit, movable_fit, words_fit, notes_fit, sources_fit}
-use Rattle.state_core.proofs.Settled.{CanSettle, IsRecorded, at_page, at_other, not_old, valid_settled}
+use Rattle.state_core.proofs.Settled.{CanSettle, IsRecorded, IsStill, at_page, at_other, not_old, valid_settled}
 
 -- how the states of frames change with the place of a page in use, and what is noted of whether it may be taken
 abbrev pub FramesSettled : List FrameState → List FrameState → ℕ → Placement → Placement → Type 0
@@ -53,7 +53,15 @@ pub record WordsSettled (size : ℕ) (rows settled : List (List ℕ)) (old new :
   pub kept : (frame : ℕ) → takes_up (Some new) frame ≡ false → words_of settled frame ≡ words_of rows frame
   pub sized : (frame : ℕ) → takes_up (Some new) frame ≡ true → length (words_of settled frame) ≡ size
 
-module _ (v : ZoneState) (page : ℕ) (old new : Placement) (can : CanSettle v page old new) (entry : Record) (recorded : IsRecorded v entry page new) where
+-- of the addresses in range, each entry that was `from` is `to` now, and no other changed
+pub record ReplacesInRange (old new : EntryTable) (from to : Entry) : Type 0 where
+  pub there : (a : Address) → InRange a → entry_at old a ≡ from → entry_at new a ≡ to
+  pub elsewhere : (a : Address) → InRange a → entry_at old a ≢ from → entry_at new a ≡ entry_at old a
+
+pub in_range : {old new : EntryTable} {from to : Entry} → Replaces old new from to → ReplacesInRange old new from to
+in_range change = record { there = λ a range. change.there a; elsewhere = λ a range. change.elsewhere a }
+
+module _ (v : ZoneState) (page : ℕ) (old new : Placement) (can : CanSettle v page old new) (entry : Record) (still : IsStill v.records entry) where
   abbrev next : ZoneState
   next = relocated v entry page new
 
@@ -79,21 +87,21 @@ module _ (v : ZoneState) (page : ℕ) (old new : Placement) (can : CanSettle v p
   entry_of : (entries : EntryTable) → EntriesFit entries v → (a : Address) → InRange a → (q : Option ℕ) → page_at v.records a ≡ q → entry_at entries a ≡ entry_for (option_and_then (map.get v.placement) q)
   entry_of entries fit a range q e = fit.each a range ∙ ap (λ (o : Option ℕ). entry_for (option_and_then (map.get v.placement) o)) e
 
-  pub entries_settled : (entries changed : EntryTable) → EntriesFit entries v → Replaces entries changed (entry_for (Some old)) (entry_for (Some new)) → EntriesFit changed next
-  entries_settled entries changed fit change = record { each = λ a range. by_name a range (page_at v.records a) refl ∙ sym (ap (λ (o : Option ℕ). entry_for (option_and_then (map.get next.placement) o)) (recorded.still.names a)) } where
+  pub entries_settled : (entries changed : EntryTable) → EntriesFit entries v → ReplacesInRange entries changed (entry_for (Some old)) (entry_for (Some new)) → EntriesFit changed next
+  entries_settled entries changed fit change = record { each = λ a range. by_name a range (page_at v.records a) refl ∙ sym (ap (λ (o : Option ℕ). entry_for (option_and_then (map.get next.placement) o)) (still.names a)) } where
     by_placement : (a : Address) → InRange a → (q : ℕ) → page_at v.records a ≡ Some q → q ≢ page → (p : Option Placement) → map.get v.placement q ≡ p → entry_at changed a ≡ entry_for (map.get next.placement q)
     by_placement a range q e ne None at = absurd (clash _ at (can.valid.agrees.named a q e).1)
     by_placement a range q e ne (Some p) at =
         let before : entry_at entries a ≡ entry_for (Some p) = entry_of entries fit a range (Some q) e ∙ ap entry_for at in
-        change.elsewhere a (λ is. other_entry q p ne at old refl (sym before ∙ is)) ∙ before ∙ sym (ap entry_for (at_other v page old new can entry q ne ∙ at))
+        change.elsewhere a range (λ is. other_entry q p ne at old refl (sym before ∙ is)) ∙ before ∙ sym (ap entry_for (at_other v page old new can entry q ne ∙ at))
 
     by_name : (a : Address) → InRange a → (q : Option ℕ) → page_at v.records a ≡ q → entry_at changed a ≡ entry_for (option_and_then (map.get next.placement) (page_at v.records a))
     by_name a range None e =
         let before : entry_at entries a ≡ Absent = entry_of entries fit a range None e in
-        change.elsewhere a (λ is. some_entry old (sym before ∙ is)) ∙ before ∙ sym (ap (λ (o : Option ℕ). entry_for (option_and_then (map.get next.placement) o)) e)
+        change.elsewhere a range (λ is. some_entry old (sym before ∙ is)) ∙ before ∙ sym (ap (λ (o : Option ℕ). entry_for (option_and_then (map.get next.placement) o)) e)
     by_name a range (Some q) e = elim (eqb_tells q page) [
       | inl same ↦
-          change.there a (entry_of entries fit a range (Some q) e ∙ ap (λ (p : ℕ). entry_for (map.get v.placement p)) same.1 ∙ ap entry_for can.at)
+          change.there a range (entry_of entries fit a range (Some q) e ∙ ap (λ (p : ℕ). entry_for (map.get v.placement p)) same.1 ∙ ap entry_for can.at)
           ∙ sym (ap (λ (o : Option ℕ). entry_for (option_and_then (map.get next.placement) o)) e ∙ ap (λ (p : ℕ). entry_for (map.get next.placement p)) same.1 ∙ ap entry_for (at_page v page old new can entry))
       | inr other ↦ by_placement a range q e other.1 (map.get v.placement q) refl ∙ sym (ap (λ (o : Option ℕ). entry_for (option_and_then (map.get next.placement) o)) e)
     ]
@@ -177,7 +185,7 @@ module _ {W : ℕ} {z changed : Inside W} {v : ZoneState} {page : ℕ} {old new 
   pub settle_sound : IsSound changed after
   settle_sound =
       let sound = known.sound in
-      let entries = entries_settled v page old new known.can entry known.recorded z.tables.entries changed.tables.entries sound.entries known.tables in
+      let entries = entries_settled v page old new known.can entry known.recorded.still z.tables.entries changed.tables.entries sound.entries (in_range known.tables) in
       record {
         valid = gets.after;
         orders = ap (λ (y : Inside W). length y.handed_out) known.rest_same ∙ sound.orders;

@@ -1,6 +1,6 @@
 //! How the move of a page ends.
 
-ghost use Rattle.std.specs.Prelude.{◌≡◌, ◌<◌, ◌≤◌, ◌+◌, ◌↔◌, length, nat_lt, nat_eq, not, true, IsTrue, IsSome, IfSome, Some, IfOk};
+ghost use Rattle.std.specs.Prelude.{◌≡◌, ◌≢◌, ◌<◌, ◌≤◌, ◌+◌, ◌↔◌, length, nat_lt, nat_eq, not, true, IsTrue, IsSome, IfSome, Some, IfOk};
 ghost use Rattle.std.specs.FinMap as map;
 ghost use Rattle.frame_core.specs.History.{pins};
 ghost use Rattle.frame_core.specs.Moves.{out, isolated, moved, put_back};
@@ -178,8 +178,9 @@ impl<const W: usize> ZoneTables<W> {
 /// Gives the target of a moving page the words of its copy, if it has one, and else those of its source.
 #[inline(always)]
 fn fill_target<const W: usize>(words: &mut WordsOf<W>, way: &Move, copy: Option<&PageOf<W>>)
-    requires upward { way.now.source < way.now.target }
-    requires within { way.now.target < length words.old }
+    requires apart { way.now.source ≢ way.now.target }
+    requires source { way.now.source < length words.old }
+    requires target { way.now.target < length words.old }
     requires same { IfSome copy (λ page. page.now.words ≡ words_of words.old way.now.source) }
     ensures { words.new ≡ with_words words.old way.now.target (words_of words.old way.now.source) }
 {

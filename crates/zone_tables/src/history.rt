@@ -110,6 +110,14 @@ impl History {
         });
         self.quiet = calm;
     }
+
+    /// Notes that the latest round has ended, if there was one.
+    pub fn end_round(&mut self)
+        ensures { self.new ≡ record self.old { round = None } }
+    {
+        self.round = None;
+        self.quiet = false;
+    }
 }
 
 /// Whether the call of this record leaves a quiet round quiet.

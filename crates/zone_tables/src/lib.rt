@@ -10,6 +10,7 @@ mod bulk;
 mod cleared;
 mod contents;
 mod ending;
+mod evacuating;
 mod handed_out;
 mod handing_out;
 mod history;

@@ -1,5 +1,5 @@
 use Rattle.std.proofs.Common.{◌≡◌, ◌∙◌, ◌+◌, ◌∷◌, ℕ, List, refl, ap, subst, sym, arith}
-use Rattle.std.specs.Prelude.{◌<◌, Some, IfSome, is_some, length, slice_set}
+use Rattle.std.specs.Prelude.{Some, IfSome, is_some, length, slice_set}
 use Rattle.frame_core.specs.declared.state.FrameState.TheVariants.{Free, Holds}
 use Rattle.frame_core.specs.declared.record.Record.TheVariants.{Moved}
 use Rattle.frame_core.specs.Words.{words_of}
@@ -19,7 +19,7 @@ use Rattle.zone_tables.specs.Tabulated.{tabulated}
 use Rattle.state_core.specs.ZoneState.{ZoneState}
 use Rattle.state_core.proofs.Facts.{not_none}
 use Rattle.state_core.proofs.Settled.{can_move_on, moved_recorded, frames_apart, source_within, target_in, swept_if_moved}
-use Rattle.zone_tables.proofs.MoveEnds.{moved_frames, moved_words, kept_movable, left_settled, target_still, source_on_way, source_left, source_listed, target_left, target_listed, target_row, target_unheld, moved_settled, some_on_the_way, ending_room}
+use Rattle.zone_tables.proofs.MoveEnds.{moved_frames, moved_words, kept_movable, left_settled, target_still, source_on_way, source_left, source_listed, target_left, target_listed, source_row, target_row, target_unheld, two_frames, moved_settled, some_on_the_way, ending_room}
 use Rattle.zone_tables.proofs.Placement.{SourcesPlaced}
 use Rattle.zone_tables.proofs.Relocation.{Settling, FramesSettled, MovableSettled, WordsSettled, settle_invariant, settle_view}
 use Rattle.zone_tables.proofs.zone.ZoneTables.arrive_with.Given.{Over}
@@ -39,11 +39,12 @@ pub fill_target-requires : goal.fill_target-requires
 fill_target-requires g c =
     let sound = is_sound c.self.view_is c.self.invariant in
     let way = c.args.way.now in
-    let upward : way.source < way.target = sound.valid.pages.upward way.page way.serial way.source way.target c.requires.placed in
-    let within : way.target < length c.self.inside.words = target_row c.self.view_is c.self.invariant way.page c.requires.placed in
+    let apart = two_frames c.self.view_is c.self.invariant way.page c.requires.placed in
+    let source = source_row c.self.view_is c.self.invariant way.page c.requires.placed in
+    let target = target_row c.self.view_is c.self.invariant way.page c.requires.placed in
     let seen : words_of c.self.inside.words way.source ≡ words_now c.args.self.now way.page = words_seen c.self.inside.words c.args.self.now sound.words sound.valid way.page (Moving way.serial way.source way.target) c.requires.placed in
     let same = subst (λ (words : List ℕ). IfSome c.args.copy (λ page. page.now.words ≡ words)) (sym seen) c.requires.words in
-    (omega arith, (omega arith, (upward, (within, same))))
+    (omega arith, (omega arith, (apart, (source, (target, same)))))
 
 pub place-requires : goal.place-requires
 place-requires g c = ap is_some (placement_seen c.self.inside c.args.self.now c.self.view_is c.args.way.now.page ∙ c.requires.placed)

@@ -1,0 +1,89 @@
+-- An evacuation that isn't refused: what is known before it, and what is true after it.
+use Rattle.std.proofs.Common.{◌≡◌, ℕ, ◌+◌, ◌-◌, ◌*◌, ◌/◌, ◌^◌, ◌<◌, ◌≤◌, Bool, true, false, not, ◌&&◌, cond, length, refl, sym, ap, subst, ◌∙◌, arith}
+use Rattle.std.specs.Prelude.{Option, Some, None, nat_eq, nat_le}
+use Rattle.std.proofs.lemmas.Bool.{and_parts, and_from, eq-eqb, eqb-true, leb-true, or_parts}
+use Rattle.frame_core.proofs.Searches.{count_from_all}
+use Rattle.frame_core.specs.Below.{count_from}
+use Rattle.frame_core.specs.Moves.{isolated, moved, out}
+use Rattle.frame_core.specs.Order.{is_aligned}
+use Rattle.state_core.specs.declared.error.ZoneError.{ZoneError}
+use Rattle.state_core.specs.HandingOut.{has_block, is_run}
+use Rattle.state_core.specs.Valid.{IsValidZone}
+use Rattle.state_core.specs.ZoneState.{ZoneState, frame_count, is_free, is_held, is_used}
+use Rattle.fewest_core.specs.Evacuation.{can_empty, emptied, evacuate_refusal, evacuated, has_room_for_moves, spare_frames, IsCarriedOut}
+use Rattle.fewest_core.specs.FewestMoves.{cost, is_open, is_shut}
+use Rattle.fewest_core.proofs.Counts.{none_counted}
+use Rattle.zone_core.proofs.Emptying.{HasEnough, IsEmptying, IsPartEmptied, emptying_begins}
+
+three_tests : (a b c : Bool) (x y w : ZoneError) → cond (not a) (Some x) (cond (not b) (Some y) (cond (not c) (Some w) None)) ≡ None → (a ≡ true) × (b ≡ true) × (c ≡ true)
+three_tests true true true x y w e = (refl, refl, refl)
+three_tests true true false x y w e = cc
+three_tests true false c x y w e = cc
+three_tests false b c x y w e = cc
+
+-- a run of a block begins at a multiple of its size
+pub aligned : (z : ZoneState) (first order : ℕ) → has_block z order first ≡ true → 2 ^ order * (first / 2 ^ order) ≡ first
+aligned z first order has = omega (arith, eqb-true (first / 2 ^ order * 2 ^ order) first (and_parts (is_aligned order first) _ has).0)
+
+pub block_within : (z : ZoneState) (first order : ℕ) → has_block z order first ≡ true → first + 2 ^ order ≤ frame_count z
+block_within z first order has = leb-true (first + 2 ^ order) (frame_count z) (and_parts (is_aligned order first) _ has).1
+
+pub cost_is : (z : ZoneState) (first order : ℕ) → has_block z order first ≡ true → cost z (2 ^ order) (first / 2 ^ order) ≡ count_from (is_used z) first (2 ^ order)
+cost_is z first order has = ap (λ (k : ℕ). count_from (is_used z) k (2 ^ order)) (aligned z first order has)
+
+pub open_is : (z : ZoneState) (first order : ℕ) → has_block z order first ≡ true → is_open z (2 ^ order) (first / 2 ^ order) ≡ nat_eq (count_from (is_shut z) first (2 ^ order)) 0
+open_is z first order has = ap (λ (k : ℕ). nat_eq (count_from (is_shut z) k (2 ^ order)) 0) (aligned z first order has)
+
+module _ (z : ZoneState) (first order : ℕ) (accepted : evacuate_refusal z first order ≡ None) where
+  abbrev size : ℕ
+  size = 2 ^ order
+
+  tests : (has_block z order first ≡ true) × (can_empty z first size ≡ true) × (has_room_for_moves z (cost z size (first / size)) ≡ true)
+  tests = three_tests (has_block z order first) (can_empty z first size) (has_room_for_moves z (cost z size (first / size))) _ _ _ accepted
+
+  pub has_it : has_block z order first ≡ true
+  has_it = tests.0
+
+  pub costs_it : cost z size (first / size) ≡ count_from (is_used z) first size
+  costs_it = cost_is z first order tests.0
+
+  can_parts : (is_open z size (first / size) ≡ true) × (nat_le (cost z size (first / size)) (spare_frames first size z) ≡ true)
+  can_parts = and_parts (is_open z size (first / size)) _ tests.1
+
+  pub enough : HasEnough first size z
+  enough =
+      let room = and_parts (nat_le (length (out z.records) + 2 * cost z size (first / size)) z.room) _ tests.2 in
+      record {
+        spare = omega (arith, costs_it, leb-true (cost z size (first / size)) (spare_frames first size z) can_parts.1);
+        room = omega (arith, costs_it, leb-true (length (out z.records) + 2 * cost z size (first / size)) z.room room.0);
+        serials = omega (arith, costs_it, leb-true (isolated z.records + cost z size (first / size)) (2 ^ 32 - 1) room.1);
+      }
+
+  pub begins : IsValidZone z → IsPartEmptied first size z z 0
+  begins law = record { same = refl; emptying = emptying_begins first size z (λ frame low high. none_counted (is_shut z) first size frame (eqb-true _ 0 (sym (open_is z first order tests.0) ∙ can_parts.0)) low high); valid = law }
+
+  module _ (new : ZoneState) (n : ℕ) (part : IsPartEmptied first size z new n) (all : n ≡ size) where
+    is : IsEmptying first size z new size
+    is = subst (IsEmptying first size z new) all part.emptying
+
+    pub zone_is : new ≡ evacuated z first size
+    zone_is = part.same ∙ ap (emptied first size z) all
+
+    pub carried_out : IsCarriedOut first size z new
+    carried_out = is.carried
+
+    pub identity_is : (new.number ≡ z.number) × (new.blocks ≡ z.blocks)
+    identity_is = (is.number, is.blocks)
+
+    pub moved_all : moved new.records ≡ moved z.records + cost z size (first / size)
+    moved_all = omega (arith, is.moved, costs_it)
+
+    freed : (frame : ℕ) → first ≤ frame → frame < first + size → is_free new frame ≡ true
+    freed frame low high =
+        let unheld = (or_parts (is_held new frame) _ (or_parts _ _ (is.unshut frame low high)).1).0 in
+        and_from (not (is_used new frame)) (not (is_held new frame)) (ap not (is.empty frame low high)) (ap not unheld)
+
+    pub run_free : is_run new order first ≡ true
+    run_free = and_from (has_block new order first) _
+        (ap (λ (blocks : ℕ). is_aligned order first && nat_le (first + size) (512 * blocks)) is.blocks ∙ tests.0)
+        (eq-eqb (count_from (is_free new) first size) size (count_from_all (is_free new) first size freed))

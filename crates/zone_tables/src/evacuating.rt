@@ -1,0 +1,81 @@
+//! Moving pages outside of a round: what an evacuation asks of frames and of the journal, and the move of one page.
+
+ghost use Rattle.std.specs.Prelude.{◌≡◌, ◌<◌, ◌||◌, None};
+ghost use Rattle.fewest_core.specs.Evacuation.{has_room_for_moves, moved_away};
+ghost use Rattle.fewest_core.specs.FewestMoves.{IsMove, is_immovable, is_shut};
+ghost use Rattle.state_core.specs.Isolating.{isolate_refusal};
+ghost use Rattle.state_core.specs.Pairs.{is_free_unmarked, is_marked};
+ghost use Rattle.state_core.specs.Valid.{IsValidZone};
+ghost use Rattle.state_core.specs.ZoneState.{frame_count, is_held};
+
+use crate::zone::ZoneTables;
+use frame_core::{FrameNo, FrameState, PageNo, Record};
+use state_core::Placement;
+
+impl<const W: usize> ZoneTables<W> {
+    /// Whether a frame is shut: it is in a marked pageblock, handed out, or of a page that has to stay.
+    pub fn is_shut(&self, frame: FrameNo) -> bool
+        requires { frame < frame_count self.now }
+        ensures { result ≡ is_shut self.now frame }
+    {
+        self.has_mark(frame) || self.is_fixed(frame)
+    }
+
+    /// Whether a frame is free, in an unmarked pageblock.
+    pub fn is_vacant(&self, frame: FrameNo) -> bool
+        requires { frame < frame_count self.now }
+        ensures { result ≡ is_free_unmarked self.now frame }
+    {
+        !self.has_mark(frame) && self.is_free(frame)
+    }
+
+    /// Whether a frame is in a marked pageblock.
+    fn has_mark(&self, frame: FrameNo) -> bool
+        ensures { result ≡ is_marked self.now frame }
+    {
+        self.marked[frame.get() as usize / 512]
+    }
+
+    /// Whether a frame is handed out, or of a page that has to stay.
+    fn is_fixed(&self, frame: FrameNo) -> bool
+        requires { frame < frame_count self.now }
+        ensures { result ≡ (is_held self.now frame || is_immovable self.now frame) }
+    {
+        match self.frames.state(frame) {
+            FrameState::Free => false,
+            FrameState::Holds(_) => !self.frames.movable(frame),
+            FrameState::Source(_) | FrameState::Target(_) | FrameState::Huge => true,
+        }
+    }
+
+    /// Whether the journal has room for so many isolations and their ends, and so many serials are left.
+    pub fn has_room_for_moves(&self, count: u32) -> bool
+        ensures { result ≡ has_room_for_moves self.now count }
+    {
+        let count = u64::from(count);
+        let places = u64::from(self.moves.out()) + 2 * count;
+        let serials = u64::from(self.moves.isolated()) + count;
+        places <= self.history.room() && serials <= u64::from(u32::MAX)
+    }
+
+    /// Moves a page that rests in a frame to a free one at once: it is isolated under the next serial, its words are copied, and
+    /// its move ends. The latest round ends with it, since frames change on both sides of its fingers.
+    pub fn move_page(&mut self, page: PageNo, source: FrameNo, target: FrameNo)
+        requires may_move { IsMove self.old (record { page = page; source = source; target = target }) }
+        requires accepted { isolate_refusal self.old ≡ None }
+        ensures step { self.new ≡ moved_away self.old (record { page = page; source = source; target = target }) }
+        ensures valid { IsValidZone self.new }
+    {
+        let serial = self.moves.isolate(page, source);
+        self.moves.arrive();
+        self.frames.empty(source);
+        self.frames.fill(target, page, true);
+        self.tables.to_migration(source, serial);
+        self.tables.to_present(serial, source, target);
+        self.words.copy(source, target);
+        self.notes.place(page, Placement::At(target));
+        self.history.note(Record::Isolate { serial, page });
+        self.history.note(Record::Moved { serial });
+        self.history.end_round();
+    }
+}
