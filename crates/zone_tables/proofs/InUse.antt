@@ -2,7 +2,7 @@
 use Rattle.std.proofs.Common.{◌≡◌, ◌≢◌, ℕ, ◌+◌, ◌-◌, ◌<◌, Bool, true, false, not, List, length, inl, inr, refl, sym, ap, ◌∙◌, arith}
 use Rattle.std.specs.Prelude.{Option, Some, None, is_some, is_none, nat_eq, nat_lt, slice_set, ◌&&◌, if◌then◌else◌}
 use Rattle.std.specs.FinSet as set
-use Rattle.std.specs.Ordering.{nat_cmp}
+use Rattle.number_set.specs.Numbers.{Numbers}
 use Rattle.std.specs.Option.{option_and_then}
 use Rattle.frame_core.specs.FixedVec.{with_item}
 use Rattle.std.proofs.lemmas.Bool.{lt-ltb, and_right}
@@ -60,19 +60,20 @@ module _ (notes : List PageNote) (page : ℕ) (note : PageNote) (within : page <
 
 module _ (z : Inside) (counted : IsCounted z) (page : ℕ) (note : PageNote) (within : page < length z.notes.items) where
   -- the numbers that aren't in use, after one was put among them or taken out
-  unused_then : (unused : set.FinSet nat_cmp) (number : ℕ) (is : Bool) → number ≡ page → is ≡ is_some note.placement → ((q : ℕ) → set.contains unused q ≡ (if nat_eq q number then not is else set.contains z.unused q))
-      → (q : ℕ) → set.contains unused q ≡ (nat_lt q (length (slice_set z.notes.items page note)) && is_none (placement_of (slice_set z.notes.items page note) q))
-  unused_then unused number is at used put q = put q ∙ ap (λ k. if nat_eq q k then not is else set.contains z.unused q) at ∙ elim (eqb_tells q page) [
-    | inl here ↦ (ap (λ b. if b then not is else set.contains z.unused q) here.0 ∙ ap not used ∙ sym (ap is_none (placement_here z.notes.items page note within q here.1))
+  unused_then : (unused : Numbers) (number : ℕ) (is : Bool) → number ≡ page → is ≡ is_some note.placement → ((q : ℕ) → set.contains unused.members q ≡ (if nat_eq q number then not is else set.contains z.unused.members q))
+      → (q : ℕ) → set.contains unused.members q ≡ (nat_lt q (length (slice_set z.notes.items page note)) && is_none (placement_of (slice_set z.notes.items page note) q))
+  unused_then unused number is at used put q = put q ∙ ap (λ k. if nat_eq q k then not is else set.contains z.unused.members q) at ∙ elim (eqb_tells q page) [
+    | inl here ↦ (ap (λ b. if b then not is else set.contains z.unused.members q) here.0 ∙ ap not used ∙ sym (ap is_none (placement_here z.notes.items page note within q here.1))
         ∙ sym (ap (λ b. b && is_none (placement_of (slice_set z.notes.items page note) q)) (lt-ltb q (length (slice_set z.notes.items page note)) (omega (arith, here.1, within, length-set z.notes.items page note)))))
-    | inr away ↦ (ap (λ b. if b then not is else set.contains z.unused q) away.0 ∙ counted.unused q
+    | inr away ↦ (ap (λ b. if b then not is else set.contains z.unused.members q) away.0 ∙ counted.unused q
         ∙ (λ i. nat_lt q (sym (length-set z.notes.items page note) i) && is_none (sym (placement_there z.notes.items page note within q away.1) i)))
   ]
 
-  module _ (unused : set.FinSet nat_cmp) (number : ℕ) (is : Bool) (at : number ≡ page) (used : is ≡ is_some note.placement) (put : (q : ℕ) → set.contains unused q ≡ (if nat_eq q number then not is else set.contains z.unused q)) where
+  module _ (unused : Numbers) (same_room : unused.bound ≡ z.unused.bound) (number : ℕ) (is : Bool) (at : number ≡ page) (used : is ≡ is_some note.placement) (put : (q : ℕ) → set.contains unused.members q ≡ (if nat_eq q number then not is else set.contains z.unused.members q)) where
     pub gained_counted : is_in_use z.notes.items page ≡ false → is ≡ true → IsCounted (record z { notes = with_item z.notes page note; in_use = z.in_use + 1; unused = unused })
     gained_counted was so = record {
       few = omega (arith, counted.few, length-set z.notes.items page note);
+      room = omega (arith, counted.room, same_room, length-set z.notes.items page note);
       in_use = omega (arith, counted.in_use, gained z.notes.items page note within was (sym used ∙ so));
       unused = unused_then unused number is at used put;
     }
@@ -80,6 +81,7 @@ module _ (z : Inside) (counted : IsCounted z) (page : ℕ) (note : PageNote) (wi
     pub lost_counted : is_in_use z.notes.items page ≡ true → is ≡ false → IsCounted (record z { notes = with_item z.notes page note; in_use = z.in_use - 1; unused = unused })
     lost_counted was so = record {
       few = omega (arith, counted.few, length-set z.notes.items page note);
+      room = omega (arith, counted.room, same_room, length-set z.notes.items page note);
       in_use = omega (arith, counted.in_use, lost z.notes.items page note within was (sym used ∙ so));
       unused = unused_then unused number is at used put;
     }
@@ -87,6 +89,7 @@ module _ (z : Inside) (counted : IsCounted z) (page : ℕ) (note : PageNote) (wi
     pub kept_counted : is_in_use z.notes.items page ≡ is → IsCounted (record z { notes = with_item z.notes page note; unused = unused })
     kept_counted same = record {
       few = omega (arith, counted.few, length-set z.notes.items page note);
+      room = omega (arith, counted.room, same_room, length-set z.notes.items page note);
       in_use = counted.in_use ∙ sym (kept z.notes.items page note within (same ∙ used));
       unused = unused_then unused number is at used put;
     }
@@ -94,12 +97,12 @@ module _ (z : Inside) (counted : IsCounted z) (page : ℕ) (note : PageNote) (wi
 -- a page in use gets another placement
 pub placed_counted : (z : Inside) → IsCounted z → (page : ℕ) (note : PageNote) → is_in_use z.notes.items page ≡ true → is_some note.placement ≡ true → IsCounted (record z { notes = with_item z.notes page note })
 placed_counted z counted page note used placed =
-    kept_counted z counted page note (in_use_within z.notes.items page used) z.unused page true refl (sym placed) unused used where
-      absent : set.contains z.unused page ≡ false
+    kept_counted z counted page note (in_use_within z.notes.items page used) z.unused refl page true refl (sym placed) unused used where
+      absent : set.contains z.unused.members page ≡ false
       absent = counted.unused page ∙ and_right (nat_lt page (length z.notes.items)) _ (some_not_none (placement_of z.notes.items page) used)
 
-      unused : (q : ℕ) → set.contains z.unused q ≡ (if nat_eq q page then false else set.contains z.unused q)
+      unused : (q : ℕ) → set.contains z.unused.members q ≡ (if nat_eq q page then false else set.contains z.unused.members q)
       unused q = elim (eqb_tells q page) [
-        | inl here ↦ (ap (set.contains z.unused) here.1 ∙ absent ∙ sym (ap (λ b. if b then false else set.contains z.unused q) here.0))
-        | inr away ↦ sym (ap (λ b. if b then false else set.contains z.unused q) away.0)
+        | inl here ↦ (ap (set.contains z.unused.members) here.1 ∙ absent ∙ sym (ap (λ b. if b then false else set.contains z.unused.members q) here.0))
+        | inr away ↦ sym (ap (λ b. if b then false else set.contains z.unused.members q) away.0)
       ]

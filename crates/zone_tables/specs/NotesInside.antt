@@ -5,8 +5,9 @@ use Rattle.frame_core.specs.Below.{count_below}
 use Rattle.zone_tables.specs.Notes.{placement_of, is_in_use}
 use Rattle.zone_tables.specs.declared.notes.Notes.TheInside.{Inside}
 
--- the numbers in use are counted, and the set has the others
+-- the numbers in use are counted, and the set has room for all and has the others
 pub record IsCounted (z : Inside) : Type 0 where
   pub few : length z.notes.items ≤ 4096
   pub in_use : z.in_use ≡ count_below (is_in_use z.notes.items) (length z.notes.items)
-  pub unused : (page : ℕ) → set.contains z.unused page ≡ (nat_lt page (length z.notes.items) && is_none (placement_of z.notes.items page))
+  pub room : length z.notes.items ≤ z.unused.bound
+  pub unused : (page : ℕ) → set.contains z.unused.members page ≡ (nat_lt page (length z.notes.items) && is_none (placement_of z.notes.items page))

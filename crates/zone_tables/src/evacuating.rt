@@ -4,12 +4,12 @@ ghost use Rattle.std.specs.Prelude.{◌≡◌, ◌<◌, ◌||◌, None};
 ghost use Rattle.fewest_core.specs.Evacuation.{has_room_for_moves, moved_away};
 ghost use Rattle.fewest_core.specs.FewestMoves.{IsMove, is_immovable, is_shut};
 ghost use Rattle.state_core.specs.Isolating.{isolate_refusal};
-ghost use Rattle.state_core.specs.Pairs.{is_free_unmarked, is_marked};
+ghost use Rattle.state_core.specs.Pairs.{is_free_unmarked};
 ghost use Rattle.state_core.specs.Valid.{IsValidZone};
 ghost use Rattle.state_core.specs.ZoneState.{frame_count, is_held};
 
 use crate::zone::ZoneTables;
-use frame_core::{FrameNo, FrameState, PageNo, Record};
+use frame_core::{FrameNo, FrameState, PageNo, Record, block_of};
 use state_core::Placement;
 
 impl<const W: usize> ZoneTables<W> {
@@ -18,7 +18,7 @@ impl<const W: usize> ZoneTables<W> {
         requires { frame < frame_count self.now }
         ensures { result ≡ is_shut self.now frame }
     {
-        self.has_mark(frame) || self.is_fixed(frame)
+        self.is_marked(block_of(frame)) || self.is_fixed(frame)
     }
 
     /// Whether a frame is free, in an unmarked pageblock.
@@ -26,14 +26,7 @@ impl<const W: usize> ZoneTables<W> {
         requires { frame < frame_count self.now }
         ensures { result ≡ is_free_unmarked self.now frame }
     {
-        !self.has_mark(frame) && self.is_free(frame)
-    }
-
-    /// Whether a frame is in a marked pageblock.
-    fn has_mark(&self, frame: FrameNo) -> bool
-        ensures { result ≡ is_marked self.now frame }
-    {
-        self.marked[frame.get() as usize / 512]
+        !self.is_marked(block_of(frame)) && self.is_free(frame)
     }
 
     /// Whether a frame is handed out, or of a page that has to stay.

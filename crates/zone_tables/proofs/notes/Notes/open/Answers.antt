@@ -15,6 +15,7 @@ invariant_of-result c =
     record {
       few = omega (arith, count, c.requires);
       in_use = sym (count_none (is_in_use c.in_ok-notes.notes.items) _ (λ page h. ap (λ (notes : List PageNote). is_in_use notes page) items ∙ ap is_some (no_placement c.args.count page)));
-      unused = λ page. c.numbers_below.ensures page ∙ sym (and_true (nat_lt page c.args.count))
+      room = omega (arith, count, c.in_ok-unused.ensures.enough);
+      unused = λ page. c.in_ok-unused.ensures.all page ∙ sym (and_true (nat_lt page c.args.count))
           ∙ (λ i. nat_lt page (sym count i) && sym (ap is_none (ap (λ (notes : List PageNote). placement_of notes page) items ∙ no_placement c.args.count page)) i);
     }
