@@ -1,4 +1,3 @@
-pub mod Absent
 pub mod Counting
 pub mod Found
 pub mod FrameSets
