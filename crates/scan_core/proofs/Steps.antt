@@ -1,12 +1,12 @@
 -- The fields of the frames stay sound through each change.
-use Rattle.std.proofs.Common.{◌≡◌, ℕ, ◌+◌, ◌-◌, ◌*◌, ◌/◌, ◌%◌, ◌^◌, ◌<◌, ◌≤◌, Bool, true, false, not, List, length, length-set, inl, inr, refl, sym, ap, ◌∙◌, eq-eqb, replicate, slice_index, subst, arith}
+use Rattle.std.proofs.Common.{◌≡◌, ℕ, ◌+◌, ◌-◌, ◌*◌, ◌/◌, ◌%◌, ◌^◌, ◌<◌, ◌≤◌, Bool, true, false, not, List, length, length-set, inl, inr, refl, sym, ap, ◌∙◌, eq-eqb, replicate, slice_index, get_or, subst, arith}
 use Rattle.std.specs.Prelude.{Option, Some, None, unwrap_or, nat_eq, nat_le, nat_lt, slice_get, slice_set, if◌then◌else◌, ◌&&◌, ◌||◌}
 use Rattle.std.specs.FinSet as set
 use Rattle.std.specs.Ordering.{nat_cmp}
 use Rattle.std.proofs.lemmas.Bool.{leb-true, ne_eqb, lt-ltb, le-ltb}
 use Rattle.std.proofs.lemmas.Bool.Decides.{eqb_tells, leb_tells}
 use Rattle.std.proofs.lemmas.List.{length-replicate}
-use Rattle.std.proofs.lemmas.Option.{slice_get_past}
+use Rattle.std.proofs.lemmas.Option.{slice_get_past, slice_get-get_or}
 use Rattle.frame_core.specs.FixedVec.{FixedVec}
 use Rattle.frame_core.specs.declared.state.FrameState.{FrameState}
 use Rattle.frame_core.specs.declared.state.FrameState.TheVariants.{Free, Holds, Source, Target, Huge}
@@ -23,7 +23,8 @@ use Rattle.scan_core.specs.declared.frames.Frames.TheInside.{Inside}
 use Rattle.scan_core.proofs.FrameSets.{all_pass, insert_if, none_counted, remove_if, keep_if, takes_run}
 use Rattle.scan_core.proofs.Masking.{clash}
 use Rattle.scan_core.proofs.Numbering.{member_insert, member_remove}
-use Rattle.scan_core.proofs.RunCounts.{Adds, each_fewer, each_more, length_recounted, recount}
+use Rattle.scan_core.proofs.Orders.{one_block, some_frames}
+use Rattle.scan_core.proofs.RunCounts.{Adds, counted_less, counted_most, counted_some, each_fewer, each_more, length_recounted, recount, room_fewer, room_more}
 use Rattle.scan_core.proofs.Seeing.{length_seen, length_with_run, same_items, seen_get, seen_put, seen_held, seen_released, seen_none_held, seen_state, with_run_get, skipped, taken}
 use Rattle.scan_core.proofs.Spanning.{both}
 
@@ -267,3 +268,255 @@ some_state : (f : Option FrameState → Bool) (o : Option FrameState) → f None
 some_state f None none is = absurd (clash (f None) is none)
 some_state f (Some x) none is = (x, refl)
 
+
+way_not_source : (o : Option FrameState) (movable : Bool) → is_way_state o ≡ true → is_source_state o movable ≡ false
+way_not_source (Some (Holds page)) m e = cc
+way_not_source None m e = refl
+way_not_source _ m e = refl
+
+page_of : (o : Option FrameState) → is_holding_state o ≡ true → (page : ℕ) × (o ≡ Some (Holds page))
+page_of (Some (Holds page)) e = (page, refl)
+page_of _ e = cc
+
+module _ {L : ℕ} {now : Frames} (z : Inside L) (sound : IsSound z) (view : frames_of z ≡ now) (frame : ℕ) where
+  abbrev was : Option FrameState
+  was = slice_get (seen z.held.members z.kept.items) frame
+
+  abbrev flag : Bool
+  flag = true_at z.movable.items frame
+
+  pub seen_test : (f : Option FrameState → Bool) → f (slice_get now.states frame) ≡ true → f was ≡ true
+  seen_test f is = ap (λ (frames : Frames). f (slice_get frames.states frame)) view ∙ is
+
+  pub is_within : (f : Option FrameState → Bool) → f None ≡ false → f (slice_get now.states frame) ≡ true → frame < length z.kept.items
+  is_within f none is = known_within z sound f frame none (seen_test f is)
+
+  -- a frame of the zone is one that the sets have room for
+  module _ (within : frame < length z.kept.items) where
+    pub in_free : frame < z.free.bound
+    in_free = omega (arith, within, sound.free_room)
+
+    pub in_sources : frame < z.candidates.sources.bound
+    in_sources = omega (arith, within, sound.sources_room)
+
+    pub in_block : frame / 512 < length z.candidates.stuck
+    in_block = frame_block z sound frame within
+
+    pub stuck_most : slice_index z.candidates.stuck (frame / 512) ≤ 512
+    stuck_most = counted_most z.candidates.stuck _ (frame / 512) sound.stuck in_block
+
+    pub stuck_less : stuck_at (seen z.held.members z.kept.items) z.movable.items frame ≡ false → slice_index z.candidates.stuck (frame / 512) < 512
+    stuck_less fails = counted_less z.candidates.stuck _ frame sound.stuck in_block fails
+
+    pub stuck_some : stuck_at (seen z.held.members z.kept.items) z.movable.items frame ≡ true → 0 < slice_index z.candidates.stuck (frame / 512)
+    stuck_some passes = counted_some z.candidates.stuck _ frame sound.stuck in_block passes
+
+  -- a free frame is a member of the free ones alone
+  pub free_is_free : free_at now.states frame ≡ true → set.contains z.free.members frame ≡ true
+  free_is_free free = sound.free frame ∙ seen_test is_free_state free
+
+  pub free_isnt_source : free_at now.states frame ≡ true → set.contains z.candidates.sources.members frame ≡ false
+  free_isnt_source free = sound.sources frame ∙ free_not_source was flag (seen_test is_free_state free)
+
+  pub free_isnt_stuck : free_at now.states frame ≡ true → stuck_at (seen z.held.members z.kept.items) z.movable.items frame ≡ false
+  free_isnt_stuck free = free_not_stuck was flag (seen_test is_free_state free)
+
+  -- a page's frame isn't free: it is a source, or stuck
+  pub page_isnt_free : holds_at now.states frame ≡ true → set.contains z.free.members frame ≡ false
+  page_isnt_free page = sound.free frame ∙ (page_only was (seen_test is_holding_state page)).1
+
+  pub page_is_source : holds_at now.states frame ≡ true → set.contains z.candidates.sources.members frame ≡ flag
+  page_is_source page = sound.sources frame ∙ ap (λ b. b && flag) (seen_test is_holding_state page)
+
+  pub page_is_stuck : holds_at now.states frame ≡ true → stuck_at (seen z.held.members z.kept.items) z.movable.items frame ≡ not flag
+  page_is_stuck page = stuck_if_page was flag (seen_test is_holding_state page)
+
+  -- the source or the target of a moving page is none of these
+  pub way_isnt_free : way_at now.states frame ≡ true → set.contains z.free.members frame ≡ false
+  way_isnt_free way = sound.free frame ∙ (way_only was flag (seen_test is_way_state way)).1
+
+  pub way_isnt_source : way_at now.states frame ≡ true → set.contains z.candidates.sources.members frame ≡ false
+  way_isnt_source way = sound.sources frame ∙ way_not_source was flag (seen_test is_way_state way)
+
+  pub way_isnt_stuck : way_at now.states frame ≡ true → stuck_at (seen z.held.members z.kept.items) z.movable.items frame ≡ false
+  way_isnt_stuck way = (way_only was flag (seen_test is_way_state way)).2
+
+  -- a frame that is handed out is stuck and not free
+  pub huge_isnt_free : huge_at now.states frame ≡ true → set.contains z.free.members frame ≡ false
+  huge_isnt_free huge = sound.free frame ∙ huge_not_free was (seen_test is_huge_state huge)
+
+  flag_read : frame < length z.kept.items → slice_get z.movable.items frame ≡ Some flag
+  flag_read within =
+      let read = slice_get-get_or z.movable.items frame false (frame_flag z sound frame within) in
+      read ∙ ap Some (sym (ap (λ o. unwrap_or o false) read))
+
+  -- the flag that the list has is the flag that was read
+  pub flag_is : (index : ℕ) (read : Bool) → index ≡ frame → frame < length z.kept.items → read ≡ get_or z.movable.items index read → read ≡ flag
+  flag_is index read at within is = is ∙ ap (λ k. get_or z.movable.items k read) at ∙ sym (ap (λ o. unwrap_or o false) (slice_get-get_or z.movable.items frame read (frame_flag z sound frame within)))
+
+  free_inserted : (free : Numbers) → free ≡ record z.free { members = set.insert z.free.members frame } → (n : ℕ) → set.contains free.members n ≡ (if nat_eq n frame then true else set.contains z.free.members n)
+  free_inserted free now n = ap (λ (s : Numbers). set.contains s.members n) now ∙ member_insert z.free.members frame n ∙ insert_if (nat_eq n frame) (set.contains z.free.members n) true refl
+
+  free_removed : (free : Numbers) → free ≡ record z.free { members = set.remove z.free.members frame } → (n : ℕ) → set.contains free.members n ≡ (if nat_eq n frame then false else set.contains z.free.members n)
+  free_removed free now n = ap (λ (s : Numbers). set.contains s.members n) now ∙ member_remove z.free.members frame n ∙ remove_if (nat_eq n frame) (set.contains z.free.members n) false refl
+
+  -- the fields are sound after a frame was given a state, and the states are seen with it
+  abbrev pub IsPut : FixedVec FrameState → FixedVec Bool → Numbers → Numbers → List ℕ → FrameState → Type 0
+  IsPut kept movable free sources stuck state = IsSound (record z { kept = kept; movable = movable; free = free; candidates = record { sources = sources; stuck = stuck } }) × (seen z.held.members kept.items ≡ slice_set now.states frame state)
+
+  module _ (index : ℕ) (at : index ≡ frame) where
+    put : (kept : FixedVec FrameState) (movable : FixedVec Bool) (free sources : Numbers) (stuck : List ℕ) (state : FrameState) (said was_stuck : Bool) → huge_at (seen z.held.members z.kept.items) frame ≡ false → is_huge_state (Some state) ≡ false → frame < length z.kept.items → kept.items ≡ slice_set z.kept.items index state → movable.items ≡ slice_set z.movable.items index said → ((n : ℕ) → set.contains free.members n ≡ (if nat_eq n frame then is_free_state (Some state) else set.contains z.free.members n)) → free.bound ≡ z.free.bound → ((n : ℕ) → set.contains sources.members n ≡ (if nat_eq n frame then is_source_state (Some state) said else set.contains z.candidates.sources.members n)) → sources.bound ≡ z.candidates.sources.bound → stuck_at (seen z.held.members z.kept.items) z.movable.items frame ≡ was_stuck → stuck ≡ recounted was_stuck (is_stuck_state (Some state) said) z.candidates.stuck (frame / 512) → IsPut kept movable free sources stuck state
+    put kept movable free sources stuck state said was_stuck known not_huge within items flags free_put free_same sources_put sources_same was_is recounts =
+        let done = sound_put z sound kept movable free sources stuck frame index state said was_stuck known not_huge within at items flags free_put free_same sources_put sources_same was_is recounts in
+        (done.0, done.1 ∙ ap (λ (frames : Frames). slice_set frames.states frame state) view)
+
+    flag_stays : frame < length z.kept.items → z.movable.items ≡ slice_set z.movable.items index flag
+    flag_stays within = set_same z.movable.items frame flag (frame_flag z sound frame within) (flag_read within) ∙ ap (λ k. slice_set z.movable.items k flag) (sym at)
+
+    -- a page is put into a free frame
+    pub sound_filled : (kept : FixedVec FrameState) (movable : FixedVec Bool) (free sources : Numbers) (stuck : List ℕ) (page : ℕ) (said : Bool) → free_at now.states frame ≡ true → kept.items ≡ slice_set z.kept.items index (Holds page) → movable.items ≡ slice_set z.movable.items index said → free ≡ record z.free { members = set.remove z.free.members frame } → ((n : ℕ) → set.contains sources.members n ≡ (if nat_eq n frame then said else set.contains z.candidates.sources.members n)) → sources.bound ≡ z.candidates.sources.bound → stuck ≡ recounted false (not said) z.candidates.stuck (frame / 512) → IsPut kept movable free sources stuck (Holds page)
+    sound_filled kept movable free sources stuck page said is_free items flags removed sources_put sources_same recounts =
+        put kept movable free sources stuck (Holds page) said false (free_not_huge was (seen_test is_free_state is_free)) refl (is_within is_free_state refl is_free) items flags (free_removed free removed) (ap (λ (s : Numbers). s.bound) removed) sources_put sources_same (free_isnt_stuck is_free) recounts
+
+    -- a page's move ends in one of its two frames
+    pub sound_settled : (kept : FixedVec FrameState) (movable : FixedVec Bool) (sources : Numbers) (stuck : List ℕ) (page : ℕ) (said : Bool) → way_at now.states frame ≡ true → kept.items ≡ slice_set z.kept.items index (Holds page) → movable.items ≡ slice_set z.movable.items index said → ((n : ℕ) → set.contains sources.members n ≡ (if nat_eq n frame then said else set.contains z.candidates.sources.members n)) → sources.bound ≡ z.candidates.sources.bound → stuck ≡ recounted false (not said) z.candidates.stuck (frame / 512) → IsPut kept movable z.free sources stuck (Holds page)
+    sound_settled kept movable sources stuck page said way items flags sources_put sources_same recounts =
+        put kept movable z.free sources stuck (Holds page) said false (way_only was flag (seen_test is_way_state way)).0 refl (is_within is_way_state refl way) items flags (λ n. keep_if n frame (set.contains z.free.members) false (way_isnt_free way)) refl sources_put sources_same (way_isnt_stuck way) recounts
+
+    -- the page of a frame goes out of use, and the frame is free
+    pub sound_emptied : (kept : FixedVec FrameState) (free sources : Numbers) (stuck : List ℕ) (read : Bool) → holds_at now.states frame ≡ true → kept.items ≡ slice_set z.kept.items index Free → free ≡ record z.free { members = set.insert z.free.members frame } → read ≡ flag → ((n : ℕ) → set.contains sources.members n ≡ (if nat_eq n frame then false else set.contains z.candidates.sources.members n)) → sources.bound ≡ z.candidates.sources.bound → stuck ≡ recounted (not read) false z.candidates.stuck (frame / 512) → IsPut kept z.movable free sources stuck Free
+    sound_emptied kept free sources stuck read page items inserted is_flag sources_put sources_same recounts =
+        put kept z.movable free sources stuck Free flag (not read) (page_only was (seen_test is_holding_state page)).0 refl (is_within is_holding_state refl page) items (flag_stays (is_within is_holding_state refl page)) (free_inserted free inserted) (ap (λ (s : Numbers). s.bound) inserted) sources_put sources_same (page_is_stuck page ∙ ap not (sym is_flag)) recounts
+
+    -- a frame with a movable page becomes a source
+    pub sound_to_source : (kept : FixedVec FrameState) (sources : Numbers) (serial : ℕ) → holds_at now.states frame ≡ true → true_at now.movable frame ≡ true → kept.items ≡ slice_set z.kept.items index (Source serial) → sources ≡ record z.candidates.sources { members = set.remove z.candidates.sources.members frame } → IsPut kept z.movable z.free sources z.candidates.stuck (Source serial)
+    sound_to_source kept sources serial page can_move items removed =
+        let within = is_within is_holding_state refl page in
+        let is_movable = ap (λ (frames : Frames). true_at frames.movable frame) view ∙ can_move in
+        put kept z.movable z.free sources z.candidates.stuck (Source serial) flag false (page_only was (seen_test is_holding_state page)).0 refl within items (flag_stays within)
+        (λ n. keep_if n frame (set.contains z.free.members) false (page_isnt_free page)) refl
+        (λ n. ap (λ (s : Numbers). set.contains s.members n) removed ∙ member_remove z.candidates.sources.members frame n ∙ remove_if (nat_eq n frame) (set.contains z.candidates.sources.members n) false refl)
+        (ap (λ (s : Numbers). s.bound) removed) (page_is_stuck page ∙ ap not is_movable) refl
+
+    -- a free frame becomes a target
+    pub sound_to_target : (kept : FixedVec FrameState) (free : Numbers) (serial : ℕ) → free_at now.states frame ≡ true → kept.items ≡ slice_set z.kept.items index (Target serial) → free ≡ record z.free { members = set.remove z.free.members frame } → IsPut kept z.movable free z.candidates.sources z.candidates.stuck (Target serial)
+    sound_to_target kept free serial is_free items removed =
+        let within = is_within is_free_state refl is_free in
+        put kept z.movable free z.candidates.sources z.candidates.stuck (Target serial) flag false (free_not_huge was (seen_test is_free_state is_free)) refl within items (flag_stays within)
+        (free_removed free removed) (ap (λ (s : Numbers). s.bound) removed)
+        (λ n. keep_if n frame (set.contains z.candidates.sources.members) false (free_isnt_source is_free)) refl (free_isnt_stuck is_free) refl
+
+    -- the other frame of a page whose move ends is free
+    pub sound_left : (kept : FixedVec FrameState) (free : Numbers) → way_at now.states frame ≡ true → kept.items ≡ slice_set z.kept.items index Free → free ≡ record z.free { members = set.insert z.free.members frame } → IsPut kept z.movable free z.candidates.sources z.candidates.stuck Free
+    sound_left kept free way items inserted =
+        let within = is_within is_way_state refl way in
+        put kept z.movable free z.candidates.sources z.candidates.stuck Free flag false (way_only was flag (seen_test is_way_state way)).0 refl within items (flag_stays within)
+        (free_inserted free inserted) (ap (λ (s : Numbers). s.bound) inserted)
+        (λ n. keep_if n frame (set.contains z.candidates.sources.members) false (way_isnt_source way)) refl (way_isnt_stuck way) refl
+
+    -- it is noted of a page that stays in its frame whether it may be taken from it
+    pub sound_said : (movable : FixedVec Bool) (sources : Numbers) (stuck : List ℕ) (said : Bool) → holds_at now.states frame ≡ true → movable.items ≡ slice_set z.movable.items index said → ((n : ℕ) → set.contains sources.members n ≡ (if nat_eq n frame then said else set.contains z.candidates.sources.members n)) → sources.bound ≡ z.candidates.sources.bound → stuck ≡ recounted (not flag) (not said) z.candidates.stuck (frame / 512) → IsSound (record z { movable = movable; candidates = record { sources = sources; stuck = stuck } })
+    sound_said movable sources stuck said page flags sources_put sources_same recounts =
+        let within = is_within is_holding_state refl page in
+        let is = page_of was (seen_test is_holding_state page) in
+        let unheld = not_held z sound frame (page_only was (seen_test is_holding_state page)).0 in
+        let kept_is : slice_get z.kept.items frame ≡ Some (Holds is.0) = ap (λ b. seen_state b (slice_get z.kept.items frame)) (sym unheld) ∙ sym (seen_get (set.contains z.held.members) z.kept.items frame) ∙ is.1 in
+        let stays = set_same z.kept.items frame (Holds is.0) within kept_is ∙ ap (λ k. slice_set z.kept.items k (Holds is.0)) (sym at) in
+        (put z.kept movable z.free sources stuck (Holds is.0) said (not flag) (page_only was (seen_test is_holding_state page)).0 refl within stays flags
+        (λ n. keep_if n frame (set.contains z.free.members) false (page_isnt_free page)) refl sources_put sources_same (page_is_stuck page) recounts).0
+
+    -- what is said of the page was known
+    pub sound_known : (movable : FixedVec Bool) (said : Bool) → holds_at now.states frame ≡ true → movable.items ≡ slice_set z.movable.items index said → said ≡ flag → IsSound (record z { movable = movable })
+    sound_known movable said page flags known =
+        sound_said movable z.candidates.sources z.candidates.stuck said page flags (λ n. keep_if n frame (set.contains z.candidates.sources.members) said (page_is_source page ∙ sym known)) refl (unchanged (not flag) ∙ ap (λ b. recounted (not flag) (not b) z.candidates.stuck (frame / 512)) (sym known))
+      where
+        unchanged : (b : Bool) → z.candidates.stuck ≡ recounted b b z.candidates.stuck (frame / 512)
+        unchanged true = refl
+        unchanged false = refl
+
+-- the frames of a block are handed out or taken back
+module _ {L : ℕ} {now : Frames} (z : Inside L) (sound : IsSound z) (view : frames_of z ≡ now) (first order : ℕ) (low : 3 ≤ order) (high : order ≤ 9) where
+  pub block_within : has_block now.states order first ≡ true → first + 2 ^ order ≤ length z.kept.items
+  block_within here =
+      let parts = both (is_aligned order first) (nat_le (first + 2 ^ order) (length now.states)) here in
+      omega (arith, leb-true (first + 2 ^ order) (length now.states) parts.1, ap (λ (frames : Frames). length frames.states) view, seen_length z sound)
+
+  pub block_aligned : has_block now.states order first ≡ true → is_aligned order first ≡ true
+  block_aligned here = (both (is_aligned order first) (nat_le (first + 2 ^ order) (length now.states)) here).0
+
+  pub run_block : is_run now.states order first ≡ true → has_block now.states order first ≡ true
+  run_block run = (both (has_block now.states order first) (all_from (free_at now.states) first (2 ^ order)) run).0
+
+  pub run_free : is_run now.states order first ≡ true → (n : ℕ) → in_run first (2 ^ order) n ≡ true → free_at now.states n ≡ true
+  run_free run = all_pass (free_at now.states) first (2 ^ order) (both (has_block now.states order first) (all_from (free_at now.states) first (2 ^ order)) run).1
+
+  pub run_counted : has_block now.states order first ≡ true → first / 512 < length z.candidates.stuck
+  run_counted here = frame_block z sound first (omega (arith, block_within here, some_frames order low high))
+
+  -- a block of which no frame is stuck leaves room for its frames in its pageblock's count
+  pub run_room : is_run now.states order first ≡ true → slice_index z.candidates.stuck (first / 512) + 2 ^ order ≤ 512
+  run_room run =
+      let states = seen z.held.members z.kept.items in
+      room_more (stuck_at states z.movable.items) (λ n. in_run first (2 ^ order) n || stuck_at states z.movable.items n) first (2 ^ order) (one_block order low high first (block_aligned (run_block run)))
+      (record { none = λ n inside. free_isnt_stuck z sound view n (run_free run n inside); each = λ n. refl }) z.candidates.stuck (run_counted (run_block run)) sound.stuck
+
+  -- the count of a pageblock has the frames of a block of it that is handed out
+  pub run_stuck : has_block now.states order first ≡ true → all_from (huge_at now.states) first (2 ^ order) ≡ true → 2 ^ order ≤ slice_index z.candidates.stuck (first / 512)
+  run_stuck here huge =
+      let states = seen z.held.members z.kept.items in
+      room_fewer (λ n. not (in_run first (2 ^ order) n) && stuck_at states z.movable.items n) (stuck_at states z.movable.items) first (2 ^ order) (one_block order low high first (block_aligned here))
+      (takes_run (stuck_at states z.movable.items) (λ n. not (in_run first (2 ^ order) n) && stuck_at states z.movable.items n) first (2 ^ order)
+      (λ n inside. huge_stuck (slice_get states n) (true_at z.movable.items n) (seen_test z sound view n is_huge_state (all_pass (huge_at now.states) first (2 ^ order) huge n inside))) (λ n. refl))
+      z.candidates.stuck (run_counted here) sound.stuck
+
+  pub block_held : (held free : Numbers) (stuck : List ℕ) → is_run now.states order first ≡ true → ((n : ℕ) → set.contains held.members n ≡ (in_run first (2 ^ order) n || set.contains z.held.members n)) → held.bound ≡ z.held.bound → ((n : ℕ) → set.contains free.members n ≡ (not (in_run first (2 ^ order) n) && set.contains z.free.members n)) → free.bound ≡ z.free.bound → stuck ≡ with_more z.candidates.stuck (first / 512) (2 ^ order) → IsSound (record z { held = held; free = free; candidates = record z.candidates { stuck = stuck } }) × (seen held.members z.kept.items ≡ with_run now.states first (2 ^ order) Huge)
+  block_held held free stuck run held_each held_same free_each free_same recounts =
+      let next = sound_held z sound held free stuck first (2 ^ order) (block_within (run_block run)) (one_block order low high first (block_aligned (run_block run))) (some_frames order low high) (λ n inside. seen_test z sound view n is_free_state (run_free run n inside)) held_each held_same free_each free_same recounts in
+      (next.0, next.1 ∙ ap (λ (frames : Frames). with_run frames.states first (2 ^ order) Huge) view)
+
+  pub block_released : (held free : Numbers) (stuck : List ℕ) → has_block now.states order first ≡ true → all_from (huge_at now.states) first (2 ^ order) ≡ true → ((n : ℕ) → set.contains held.members n ≡ (not (in_run first (2 ^ order) n) && set.contains z.held.members n)) → held.bound ≡ z.held.bound → ((n : ℕ) → set.contains free.members n ≡ (in_run first (2 ^ order) n || set.contains z.free.members n)) → free.bound ≡ z.free.bound → stuck ≡ with_fewer z.candidates.stuck (first / 512) (2 ^ order) → IsSound (record z { held = held; free = free; candidates = record z.candidates { stuck = stuck } }) × (seen held.members z.kept.items ≡ with_run now.states first (2 ^ order) Free)
+  block_released held free stuck here huge held_each held_same free_each free_same recounts =
+      let next = sound_released z sound held free stuck first (2 ^ order) (block_within here) (one_block order low high first (block_aligned here)) (some_frames order low high) (λ n inside. seen_test z sound view n is_huge_state (all_pass (huge_at now.states) first (2 ^ order) huge n inside)) held_each held_same free_each free_same recounts in
+      (next.0, next.1 ∙ ap (λ (frames : Frames). with_run frames.states first (2 ^ order) Free) view)
+
+-- the frames of a zone in which all are free
+pub sound_free : {L : ℕ} (z : Inside L) (blocks : ℕ) → 0 < blocks → blocks ≤ 8 → 512 * blocks ≤ 64 ^ L → z.kept.items ≡ replicate (512 * blocks) Free → z.movable.items ≡ replicate (512 * blocks) false → z.held.members ≡ set.empty → 512 * blocks ≤ z.held.bound → ((n : ℕ) → set.contains z.free.members n ≡ nat_lt n (512 * blocks)) → z.free.bound ≡ 512 * blocks → z.candidates.sources.members ≡ set.empty → 512 * blocks ≤ z.candidates.sources.bound → z.candidates.stuck ≡ replicate blocks 0 → IsSound z × (seen z.held.members z.kept.items ≡ replicate (512 * blocks) Free)
+sound_free z blocks some few levels kept movable held held_room free free_room sources sources_room stuck =
+    let count : length z.kept.items ≡ 512 * blocks = ap length kept ∙ length-replicate (512 * blocks) Free in
+    let movable_count : length z.movable.items ≡ 512 * blocks = ap length movable ∙ length-replicate (512 * blocks) false in
+    let stuck_count : length z.candidates.stuck ≡ blocks = ap length stuck ∙ length-replicate blocks 0 in
+    let none = λ (n : ℕ). ap (λ s. set.contains s n) held ∙ set.contains-empty nat_cmp n in
+    let view = seen_none_held (set.contains z.held.members) z.kept.items none in
+    let each = λ (f : Option FrameState → Bool) (n : ℕ). ap (λ (xs : List FrameState). f (slice_get xs n)) (view ∙ kept) in (
+      record {
+        whole = omega arith;
+        some = omega arith;
+        levels = omega (arith, count, levels);
+        few = omega arith;
+        movable = omega arith;
+        never_huge = λ n. ap (λ (xs : List FrameState). huge_at xs n) kept ∙ no_free is_huge_state blocks n refl refl;
+        held = λ n e. absurd (clash (set.contains z.held.members n) e (none n));
+        held_room = omega (arith, count, held_room);
+        free = λ n. free n ∙ sym (each is_free_state n ∙ all_free blocks n);
+        free_room = free_room ∙ sym count;
+        sources = λ n. ap (λ s. set.contains s n) sources ∙ set.contains-empty nat_cmp n
+            ∙ sym (each (λ o. is_source_state o (true_at z.movable.items n)) n ∙ no_free (λ o. is_source_state o (true_at z.movable.items n)) blocks n refl refl);
+        sources_room = omega (arith, count, sources_room);
+        stuck = none_counted (stuck_at (seen z.held.members z.kept.items) z.movable.items) blocks z.candidates.stuck
+            (λ n. each (λ o. is_stuck_state o (true_at z.movable.items n)) n ∙ no_free (λ o. is_stuck_state o (true_at z.movable.items n)) blocks n refl refl) stuck;
+        stuck_blocks = omega (arith, stuck_count, count);
+      },
+      view ∙ kept,
+    )
+  where
+    no_free : (f : Option FrameState → Bool) (blocks n : ℕ) → f (Some Free) ≡ false → f None ≡ false → f (slice_get (replicate (512 * blocks) Free) n) ≡ false
+    no_free f blocks n free none = elim (leb_tells (512 * blocks) n) [
+      | inl past ↦ (ap f (slice_get_past (replicate (512 * blocks) Free) n (omega (arith, past.1, length-replicate (512 * blocks) Free))) ∙ none)
+      | inr under ↦ (ap f (slice_get_replicate (512 * blocks) n Free under.1) ∙ free)
+    ]
+
+    all_free : (blocks n : ℕ) → is_free_state (slice_get (replicate (512 * blocks) Free) n) ≡ nat_lt n (512 * blocks)
+    all_free blocks n = elim (leb_tells (512 * blocks) n) [
+      | inl past ↦ (ap is_free_state (slice_get_past (replicate (512 * blocks) Free) n (omega (arith, past.1, length-replicate (512 * blocks) Free))) ∙ sym (le-ltb n (512 * blocks) past.1))
+      | inr under ↦ (ap is_free_state (slice_get_replicate (512 * blocks) n Free under.1) ∙ sym (lt-ltb n (512 * blocks) under.1))
+    ]
