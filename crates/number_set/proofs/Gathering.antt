@@ -90,3 +90,19 @@ no_bits = same_members (gathered (has_bit 0) 64) set.empty (λ n. gathered_all (
 -- a word without bits has no number
 pub no_members : (word : ℕ) (s : set.FinSet nat_cmp) → gathered (has_bit word) 64 ≡ s → word ≡ 0 → (n : ℕ) → set.contains s n ≡ false
 no_members word s view none n = ap (λ t. set.contains t n) (sym view ∙ ap (λ w. gathered (has_bit w) 64) none ∙ no_bits) ∙ set.contains-empty nat_cmp n
+
+-- the numbers of one word after it got the bits of a mask, and after it lost them
+module _ (word mask : ℕ) (s : set.FinSet nat_cmp) (view : gathered (has_bit word) 64 ≡ s) (fits : word < 2 ^ 64) (low : mask < 2 ^ 64) where
+  pub mask_in : (n : ℕ) → set.contains (gathered (has_bit (bit_or word mask)) 64) n ≡ (has_bit mask n || set.contains s n)
+  mask_in n =
+      let bits = bit_or word mask in
+      gathered_all (has_bit bits) 64 (λ k far. has_bit_past bits k (or_lt 64 word mask fits low) far) n ∙ has_bit_added word mask n ∙ (λ i. has_bit mask n || word_members word s view fits i n)
+
+  pub mask_out : (n : ℕ) → set.contains (gathered (has_bit (bit_and word (2 ^ 64 - 1 - mask))) 64) n ≡ (not (has_bit mask n) && set.contains s n)
+  mask_out n =
+      let bits = bit_and word (2 ^ 64 - 1 - mask) in
+      let below : bits < 2 ^ 64 = omega (arith, and_le_l word (2 ^ 64 - 1 - mask)) in
+      gathered_all (has_bit bits) 64 (λ k far. has_bit_past bits k below far) n ∙ elim (leb_tells 64 n) [
+        | inl far ↦ has_bit_past bits n below far.1 ∙ sym (ap (λ b. not b && set.contains s n) (has_bit_past mask n low far.1) ∙ sym (ap (λ p. p n) (word_members word s view fits)) ∙ has_bit_past word n fits far.1)
+        | inr near ↦ has_bit_removed word mask n low near.1 ∙ (λ i. not (has_bit mask n) && word_members word s view fits i n)
+      ]

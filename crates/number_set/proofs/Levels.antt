@@ -1,14 +1,16 @@
 -- The numbers of a set, by its levels.
-use Rattle.std.proofs.Common.{◌≡◌, ◌≢◌, ℕ, ◌+◌, ◌*◌, ◌/◌, ◌^◌, ◌≤◌, Bool, true, false, List, length, replicate, inl, inr, refl, sym, ap, ◌∙◌, subst, eq-eqb, arith}
-use Rattle.std.specs.Prelude.{nat_eq, if◌then◌else◌}
+use Rattle.std.proofs.Common.{◌≡◌, ◌≢◌, ℕ, ◌+◌, ◌*◌, ◌/◌, ◌^◌, ◌≤◌, Bool, true, false, not, List, length, replicate, inl, inr, refl, sym, ap, ◌∙◌, subst, eq-eqb, arith}
+use Rattle.std.specs.Prelude.{◌↔◌, nat_eq, ◌&&◌, ◌||◌, IsTrue, if◌then◌else◌}
 use Rattle.std.specs.Ordering.{nat_cmp}
 use Rattle.std.specs.FinSet as set
 use Rattle.std.proofs.lemmas.Bool.{ne_eqb}
 use Rattle.std.proofs.lemmas.Bool.Decides.{eqb_tells}
 use Rattle.number_set.specs.Levels.{upper_numbers, level_numbers}
 use Rattle.std.proofs.lemmas.List.{length-replicate}
-use Rattle.number_set.specs.Numbers.{Numbers, numbers_in, room_for}
-use Rattle.number_set.proofs.OneAbove.{empty_words}
+use Rattle.number_set.specs.Numbers.{Numbers, numbers_in, numbers_of, room_for}
+use Rattle.number_set.specs.Bits.{has_number}
+use Rattle.number_set.specs.Runs.{in_run}
+use Rattle.number_set.proofs.OneAbove.{empty_words, many_cut, many_put, run_members}
 
 pub members_of : {s t : Numbers} → s ≡ t → s.members ≡ t.members
 members_of same = ap (λ (s : Numbers). s.members) same
@@ -57,3 +59,33 @@ upper_bound levels n bound second third is count = elim (eqb_tells levels 2) [
 pub set_bound : (levels bound : ℕ) (upper : Numbers) (fourth : List ℕ) → fourth ≡ replicate ((bound + 63) / 64) 0 → levels ≡ 4 → (level_numbers levels upper fourth).bound ≡ room_for levels bound
 set_bound levels bound upper fourth is four =
     bound_of (of_fourth levels upper fourth four) ∙ ap (λ k. 64 * k) (ap length is ∙ length-replicate ((bound + 63) / 64) 0) ∙ sym (ap (λ b. if b then 4096 else 64 * ((bound + 63) / 64)) (ap (λ l. nat_eq l 2) four))
+
+-- many numbers were put in or taken out, or a run was asked for, in the third level
+module _ (levels : ℕ) (above : set.FinSet nat_cmp) (words : List ℕ) (s : Numbers) (is : levels ≢ 2) (view : upper_numbers levels above words ≡ s) where
+  seen : numbers_of words ≡ s.members
+  seen = members_of (in_third levels above words s is view)
+
+  module _ (after : set.FinSet nat_cmp) (new : List ℕ) (p : ℕ → Bool) where
+    pub third_put : ((n : ℕ) → has_number new n ≡ (p n || has_number words n)) → (n : ℕ) → set.contains (upper_numbers levels after new).members n ≡ (p n || set.contains s.members n)
+    third_put put n = ap (λ t. set.contains t n) (members_of (of_third levels after new is)) ∙ many_put words new p put s.members seen n
+
+    pub third_cut : ((n : ℕ) → has_number new n ≡ (not (p n) && has_number words n)) → (n : ℕ) → set.contains (upper_numbers levels after new).members n ≡ (not (p n) && set.contains s.members n)
+    third_cut cut n = ap (λ t. set.contains t n) (members_of (of_third levels after new is)) ∙ many_cut words new p cut s.members seen n
+
+  pub third_has : (lent : List ℕ) (has : Bool) (first count : ℕ) → lent ≡ words → (IsTrue has ↔ ((n : ℕ) → in_run first count n ≡ true → has_number lent n ≡ true)) → IsTrue has ↔ ((n : ℕ) → in_run first count n ≡ true → set.contains s.members n ≡ true)
+  third_has lent has first count same told = run_members words s.members has first count seen (subst (λ ws. IsTrue has ↔ ((n : ℕ) → in_run first count n ≡ true → has_number ws n ≡ true)) same told)
+
+-- many numbers were put in or taken out, or a run was asked for, in the fourth level
+module _ (levels : ℕ) (above : Numbers) (words : List ℕ) (s : Numbers) (is : levels ≡ 4) (view : level_numbers levels above words ≡ s) where
+  known : numbers_of words ≡ s.members
+  known = members_of (in_fourth levels above words s is view)
+
+  module _ (after : Numbers) (new : List ℕ) (p : ℕ → Bool) where
+    pub fourth_put : ((n : ℕ) → has_number new n ≡ (p n || has_number words n)) → (n : ℕ) → set.contains (level_numbers levels after new).members n ≡ (p n || set.contains s.members n)
+    fourth_put put n = ap (λ t. set.contains t n) (members_of (of_fourth levels after new is)) ∙ many_put words new p put s.members known n
+
+    pub fourth_cut : ((n : ℕ) → has_number new n ≡ (not (p n) && has_number words n)) → (n : ℕ) → set.contains (level_numbers levels after new).members n ≡ (not (p n) && set.contains s.members n)
+    fourth_cut cut n = ap (λ t. set.contains t n) (members_of (of_fourth levels after new is)) ∙ many_cut words new p cut s.members known n
+
+  pub fourth_has : (lent : List ℕ) (has : Bool) (first count : ℕ) → lent ≡ words → (IsTrue has ↔ ((n : ℕ) → in_run first count n ≡ true → has_number lent n ≡ true)) → IsTrue has ↔ ((n : ℕ) → in_run first count n ≡ true → set.contains s.members n ≡ true)
+  fourth_has lent has first count same told = run_members words s.members has first count known (subst (λ ws. IsTrue has ↔ ((n : ℕ) → in_run first count n ≡ true → has_number ws n ≡ true)) same told)

@@ -3,3 +3,4 @@ pub mod Levels
 pub mod Masking
 pub mod Numbering
 pub mod OneAbove
+pub mod Running

@@ -1,6 +1,6 @@
 -- A level of a set, and the set above it: what was put in and taken out, and what searches find.
 use Rattle.std.proofs.Common.{◌≡◌, ℕ, zero, suc, ◌/◌, ◌%◌, Bool, true, false, not, List, length, replicate, inl, inr, refl, sym, ap, ◌∙◌, subst, slice_index, eq-eqb, arith}
-use Rattle.std.specs.Prelude.{nat_eq, nat_lt, ◌&&◌, ◌||◌}
+use Rattle.std.specs.Prelude.{◌↔◌, nat_eq, nat_lt, ◌&&◌, ◌||◌, IsTrue}
 use Rattle.std.specs.Ordering.{nat_cmp}
 use Rattle.std.specs.FinSet as set
 use Rattle.std.specs.Global.{Vec}
@@ -12,6 +12,7 @@ use Rattle.number_set.specs.Bits.{has_bit, has_number, is_filled}
 use Rattle.number_set.specs.Finds.{IsFirst, IsLast, IsNext, IsPrevious, NoneAtAll, NoneAbove, NoneBelow, IsFirstIn, IsLastIn, NoneAboveIn, NoneBelowIn}
 use Rattle.number_set.specs.Levels.{Summarizes}
 use Rattle.number_set.specs.Numbers.{numbers_of}
+use Rattle.number_set.specs.Runs.{in_run}
 use Rattle.number_set.proofs.Gathering.{member, list_members, member_insert, member_remove, same_members}
 use Rattle.number_set.proofs.Masking.{clash, has_bit_zero}
 use Rattle.number_set.proofs.Numbering.{no_number}
@@ -148,3 +149,44 @@ pub written : (v : Vec ℕ) (lent back : List ℕ) → lent ≡ v.items → leng
 written v lent back is long P holds =
     let same : (with_items v back).items ≡ back = with_items_is v back (long ∙ ap length is ∙ sym v.ok.0) in
     subst (P v.items) (sym same) (subst (λ words. P words back) is holds)
+
+-- many numbers were put in or taken out: those that pass p, in the words that pass q
+module _ (words new : List ℕ) (p : ℕ → Bool) where
+  pub many_put : ((n : ℕ) → has_number new n ≡ (p n || has_number words n)) → (s : set.FinSet nat_cmp) → numbers_of words ≡ s → (n : ℕ) → set.contains (numbers_of new) n ≡ (p n || set.contains s n)
+  many_put put s view n = member new n ∙ put n ∙ ap (λ b. p n || b) (ap (λ f. f n) (list_members words s view))
+
+  pub many_cut : ((n : ℕ) → has_number new n ≡ (not (p n) && has_number words n)) → (s : set.FinSet nat_cmp) → numbers_of words ≡ s → (n : ℕ) → set.contains (numbers_of new) n ≡ (not (p n) && set.contains s n)
+  many_cut cut s view n = member new n ∙ cut n ∙ ap (λ b. not (p n) && b) (ap (λ f. f n) (list_members words s view))
+
+-- whether a run is there
+pub run_members : (words : List ℕ) (s : set.FinSet nat_cmp) (has : Bool) (first count : ℕ) → numbers_of words ≡ s → (IsTrue has ↔ ((n : ℕ) → in_run first count n ≡ true → has_number words n ≡ true)) → IsTrue has ↔ ((n : ℕ) → in_run first count n ≡ true → set.contains s n ≡ true)
+run_members words s has first count view = subst (λ p. IsTrue has ↔ ((n : ℕ) → in_run first count n ≡ true → p n ≡ true)) (list_members words s view)
+
+-- an empty set that got all numbers below a bound
+pub all_below : (s t : set.FinSet nat_cmp) (bound : ℕ) → s ≡ set.empty → ((n : ℕ) → set.contains t n ≡ (nat_lt n bound || set.contains s n)) → (n : ℕ) → set.contains t n ≡ nat_lt n bound
+all_below s t bound none put n = put n ∙ ap (λ b. nat_lt n bound || b) (ap (λ u. set.contains u n) none ∙ set.contains-empty nat_cmp n) ∙ or_false (nat_lt n bound) where
+  or_false : (b : Bool) → (b || false) ≡ b
+  or_false true = refl
+  or_false false = refl
+
+module _ (words new : List ℕ) (q : ℕ → Bool) (above : set.FinSet nat_cmp) (each : Summarizes above words) where
+  pub all_put_above : ((word : ℕ) → is_filled new word ≡ (q word || is_filled words word)) → (after : set.FinSet nat_cmp) → ((word : ℕ) → set.contains after word ≡ (q word || set.contains above word)) → Summarizes after new
+  all_put_above filled after put i = put i ∙ ap (λ b. q i || b) (each i) ∙ sym (filled i)
+
+  pub all_cut_above : ((word : ℕ) → is_filled new word ≡ (not (q word) && is_filled words word)) → (after : set.FinSet nat_cmp) → ((word : ℕ) → set.contains after word ≡ (not (q word) && set.contains above word)) → Summarizes after new
+  all_cut_above filled after cut i = cut i ∙ ap (λ b. not (q i) && b) (each i) ∙ sym (filled i)
+
+  -- the level above is told of the words, or needs not be
+  module _ (told : Bool) (filled : (word : ℕ) → is_filled new word ≡ ((told && q word) || is_filled words word)) where
+    pub many_put_above : told ≡ true → (after : set.FinSet nat_cmp) → ((word : ℕ) → set.contains after word ≡ (q word || set.contains above word)) → Summarizes after new
+    many_put_above is = all_put_above (λ i. filled i ∙ ap (λ b. (b && q i) || is_filled words i) is)
+
+    pub many_kept_above : told ≡ false → Summarizes above new
+    many_kept_above is i = each i ∙ ap (λ b. (b && q i) || is_filled words i) (sym is) ∙ sym (filled i)
+
+  module _ (told : Bool) (filled : (word : ℕ) → is_filled new word ≡ (not (told && q word) && is_filled words word)) where
+    pub many_cut_above : told ≡ true → (after : set.FinSet nat_cmp) → ((word : ℕ) → set.contains after word ≡ (not (q word) && set.contains above word)) → Summarizes after new
+    many_cut_above is = all_cut_above (λ i. filled i ∙ ap (λ b. not (b && q i) && is_filled words i) is)
+
+    pub many_left_above : told ≡ false → Summarizes above new
+    many_left_above is i = each i ∙ ap (λ b. not (b && q i) && is_filled words i) (sym is) ∙ sym (filled i)

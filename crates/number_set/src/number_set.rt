@@ -1,9 +1,10 @@
 //! Sets of numbers below a bound that is chosen when a set is opened.
 
-ghost use Rattle.std.specs.Prelude.{◌≡◌, ℕ, ◌^◌, ◌<◌, ◌≤◌, MatchOption, IfOk, IfSome};
+ghost use Rattle.std.specs.Prelude.{◌≡◌, ◌↔◌, ℕ, ◌+◌, ◌%◌, ◌^◌, ◌<◌, ◌≤◌, ◌&&◌, ◌||◌, not, nat_lt, true, IsTrue, MatchOption, IfOk, IfSome};
 ghost use Rattle.std.specs.FinSet as set;
 ghost use Rattle.number_set.specs.Finds.{IsFirst, IsFrom, IsLast, IsNext, IsPrevious, NoneAbove, NoneAtAll, NoneBelow, NoneFrom};
 ghost use Rattle.number_set.specs.Numbers.{room_for};
+ghost use Rattle.number_set.specs.Runs.{in_run};
 
 use crate::upper_levels::UpperLevels;
 use crate::words;
@@ -11,7 +12,8 @@ use std::alloc::{AllocError, Global};
 use std::marker::Model;
 
 /// A set of numbers below a bound, in `L` levels of words: 2, 3 or 4. The bound is 4,096 with two levels, and at most
-/// 262,144 with three and 16,777,216 with four. Each call looks at two words of each level at most.
+/// 262,144 with three and 16,777,216 with four. Each call for a number looks at two words of each level at most, and each call
+/// for a run at its words, which are eight at most, and at one word of each level above.
 #[derive(Drop)]
 pub struct NumberSet<const L: usize> {
     words: Vec<u64>,
@@ -33,8 +35,8 @@ impl<const L: usize> Model for NumberSet<L> {
 }
 
 impl<const L: usize> NumberSet<L> {
-    /// An empty set with room for the numbers below a bound, or an error where there is no memory for it. No other call takes
-    /// memory. With two levels it takes none either: their words lie in the set itself.
+    /// An empty set with room for the numbers below a bound, or an error where there is no memory for it. Only this call and
+    /// `filled` take memory. With two levels they take none either: their words lie in the set itself.
     pub fn open(alloc: Global, bound: u32) -> Result<Self, AllocError>
         requires levels { (2 ≤ L) × (L ≤ 4) }
         requires bound { bound ≤ 64 ^ L }
@@ -53,6 +55,19 @@ impl<const L: usize> NumberSet<L> {
             words: words::open(alloc, count)?,
             above: UpperLevels::open(alloc, count)?,
         })
+    }
+
+    /// The set of all numbers below a bound, or an error where there is no memory for it. It is filled word by word.
+    pub fn filled(alloc: Global, bound: u32) -> Result<Self, AllocError>
+        requires levels { (2 ≤ L) × (L ≤ 4) }
+        requires bound { bound ≤ 64 ^ L }
+        ensures all { IfOk result (λ s. (number : ℕ) → set.contains s.members number ≡ nat_lt number bound) }
+        ensures bound { IfOk result (λ s. s.bound ≡ room_for L bound) }
+        ensures enough { IfOk result (λ s. bound ≤ s.bound) }
+    {
+        let mut set = Self::open(alloc, bound)?;
+        set.insert_below(bound);
+        Ok(set)
     }
 
     /// Whether a number is a member.
@@ -95,6 +110,56 @@ impl<const L: usize> NumberSet<L> {
         if words::remove(&mut self.words, number) {
             self.above.remove(number / 64);
         }
+    }
+
+    /// Puts in the 2^order numbers from `first` upwards. `first` is a multiple of 2^order, and order is 9 at most.
+    #[inline]
+    pub fn insert_run(&mut self, first: u32, order: u32)
+        requires order { order ≤ 9 }
+        requires aligned { first % 2 ^ order ≡ 0 }
+        requires within { first + 2 ^ order ≤ self.old.bound }
+        ensures run { (number : ℕ) → set.contains self.new.members number ≡ (in_run first (2 ^ order) number || set.contains self.old.members number) }
+        ensures bound { self.new.bound ≡ self.old.bound }
+    {
+        if L != 4 {
+            self.above.insert_run(first, order);
+            return;
+        }
+        if words::insert_run(&mut self.words, first, order) {
+            self.above.insert_run(first / 64, order.saturating_sub(6));
+        }
+    }
+
+    /// Takes them out.
+    #[inline]
+    pub fn remove_run(&mut self, first: u32, order: u32)
+        requires order { order ≤ 9 }
+        requires aligned { first % 2 ^ order ≡ 0 }
+        requires within { first + 2 ^ order ≤ self.old.bound }
+        ensures run { (number : ℕ) → set.contains self.new.members number ≡ (not (in_run first (2 ^ order) number) && set.contains self.old.members number) }
+        ensures bound { self.new.bound ≡ self.old.bound }
+    {
+        if L != 4 {
+            self.above.remove_run(first, order);
+            return;
+        }
+        if words::remove_run(&mut self.words, first, order) {
+            self.above.remove_run(first / 64, order.saturating_sub(6));
+        }
+    }
+
+    /// Whether they are all members.
+    #[inline]
+    pub fn has_run(&self, first: u32, order: u32) -> bool
+        requires order { order ≤ 9 }
+        requires aligned { first % 2 ^ order ≡ 0 }
+        requires within { first + 2 ^ order ≤ self.now.bound }
+        ensures { IsTrue result ↔ ((number : ℕ) → in_run first (2 ^ order) number ≡ true → set.contains self.now.members number ≡ true) }
+    {
+        if L != 4 {
+            return self.above.has_run(first, order);
+        }
+        words::has_run(&self.words, first, order)
     }
 
     /// The lowest number of the set, if it has one.
@@ -176,5 +241,19 @@ impl<const L: usize> NumberSet<L> {
             return Some(number);
         }
         self.after(number)
+    }
+
+    /// Puts in all numbers below a bound.
+    fn insert_below(&mut self, bound: u32)
+        requires { bound ≤ self.old.bound }
+        ensures numbers { (number : ℕ) → set.contains self.new.members number ≡ (nat_lt number bound || set.contains self.old.members number) }
+        ensures bound { self.new.bound ≡ self.old.bound }
+    {
+        if L != 4 {
+            self.above.insert_below(bound);
+            return;
+        }
+        words::insert_below(&mut self.words, bound);
+        self.above.insert_below((bound + 63) / 64);
     }
 }

@@ -1,10 +1,11 @@
 //! Sets of numbers below 64.
 
-ghost use Rattle.std.specs.Prelude.{◌≡◌, ℕ, ◌<◌, MatchOption, IfSome};
+ghost use Rattle.std.specs.Prelude.{◌≡◌, ℕ, ◌+◌, ◌^◌, ◌<◌, ◌≤◌, ◌&&◌, ◌||◌, not, nat_lt, MatchOption, IfSome};
 ghost use Rattle.std.specs.FinSet as set;
 ghost use Rattle.number_set.specs.Finds.{IsFirst, IsLast, IsNext, IsPrevious, NoneAtAll, NoneAbove, NoneBelow};
+ghost use Rattle.number_set.specs.Runs.{in_run};
 
-use crate::word::{highest_bit, lowest_bit, next_bit, previous_bit};
+use crate::word::{highest_bit, lowest_bit, next_bit, previous_bit, run_bits};
 use std::marker::Model;
 
 /// A set of numbers below 64: the bits of one word.
@@ -54,6 +55,36 @@ impl OneLevel {
         ensures { self.new ≡ set.remove self.old number }
     {
         self.bits &= !(1 << number);
+    }
+
+    /// Puts in the 2^order numbers from `first` upwards.
+    #[inline(always)]
+    pub(crate) fn insert_run(&mut self, first: u32, order: u32)
+        requires order { order ≤ 6 }
+        requires within { first + 2 ^ order ≤ 64 }
+        ensures { (number : ℕ) → set.contains self.new number ≡ (in_run first (2 ^ order) number || set.contains self.old number) }
+    {
+        self.bits |= run_bits(first, 1 << order);
+    }
+
+    /// Takes them out.
+    #[inline(always)]
+    pub(crate) fn remove_run(&mut self, first: u32, order: u32)
+        requires order { order ≤ 6 }
+        requires within { first + 2 ^ order ≤ 64 }
+        ensures { (number : ℕ) → set.contains self.new number ≡ (not (in_run first (2 ^ order) number) && set.contains self.old number) }
+    {
+        self.bits &= !run_bits(first, 1 << order);
+    }
+
+    /// Puts in all numbers below a bound.
+    pub(crate) fn insert_below(&mut self, bound: u32)
+        requires { bound ≤ 64 }
+        ensures { (number : ℕ) → set.contains self.new number ≡ (nat_lt number bound || set.contains self.old number) }
+    {
+        if bound != 0 {
+            self.bits |= run_bits(0, bound);
+        }
     }
 
     /// The lowest number of the set, if it has one.

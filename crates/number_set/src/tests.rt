@@ -1,6 +1,6 @@
 //! Sets beside tables that say of each number whether it is a member, in which a search is a walk.
 
-ghost use Rattle.std.specs.Prelude.{◌≡◌, ◌^◌, ◌<◌, ◌≤◌, length};
+ghost use Rattle.std.specs.Prelude.{◌≡◌, ◌+◌, ◌%◌, ◌^◌, ◌<◌, ◌≤◌, length};
 
 use crate::NumberSet;
 use std::alloc::Global;
@@ -124,4 +124,84 @@ fn three_levels_answer_as_a_table(rt: HostRuntime) {
 #[test]
 fn four_levels_answer_as_a_table(rt: HostRuntime) {
     change_and_ask::<4>(&rt, rt.alloc(), 300_000, 100);
+}
+
+/// The 2^order numbers from one on are taken out where the set has them all, and put in where it lacks one.
+fn turn_and_ask<const L: usize>(
+    rt: &impl Abort,
+    set: &mut NumberSet<L>,
+    table: &mut [bool],
+    first: u32,
+    order: u32,
+)
+    requires order { order ≤ 9 }
+    requires aligned { first % 2 ^ order ≡ 0 }
+    requires within { first + 2 ^ order ≤ length table.old }
+    requires few { length table.old < 2 ^ 24 }
+    requires set { length table.old ≤ set.old.bound }
+    ensures set { set.new.bound ≡ set.old.bound }
+    ensures table { length table.new ≡ length table.old }
+{
+    let had = set.has_run(first, order);
+    let end = first + (1 << order);
+    let run = &mut table[first as usize..end as usize];
+    assert_eq!(rt;
+        had,
+        run.iter().all(|member| *member),
+        "run {first} {order}"
+    );
+    run.fill(!had);
+    if had {
+        set.remove_run(first, order);
+    } else {
+        set.insert_run(first, order);
+    }
+    let bound = table.len() as u32;
+    agree::<L>(rt, set, table, bound, first);
+    agree::<L>(rt, set, table, bound, end - 1);
+}
+
+/// A full set loses runs at the ends of words, and gets some of them back.
+fn turn_word_ends<const L: usize>(rt: &impl Abort, set: &mut NumberSet<L>, table: &mut [bool])
+    requires some { 4096 ≤ length table.old }
+    requires few { length table.old < 2 ^ 24 }
+    requires set { length table.old ≤ set.old.bound }
+    ensures set { set.new.bound ≡ set.old.bound }
+    ensures table { length table.new ≡ length table.old }
+{
+    turn_and_ask::<L>(rt, set, table, 63, 0);
+    turn_and_ask::<L>(rt, set, table, 0, 6);
+    turn_and_ask::<L>(rt, set, table, 0, 7);
+    turn_and_ask::<L>(rt, set, table, 0, 7);
+    turn_and_ask::<L>(rt, set, table, 96, 5);
+    turn_and_ask::<L>(rt, set, table, 3_584, 9);
+    turn_and_ask::<L>(rt, set, table, 4_032, 6);
+    turn_and_ask::<L>(rt, set, table, 4_032, 3);
+    turn_and_ask::<L>(rt, set, table, 4_088, 3);
+}
+
+#[test]
+fn two_levels_turn_runs(rt: HostRuntime) {
+    let mut set = NumberSet::<2>::filled(rt.alloc(), 4_096).expect(&rt, "memory");
+    let mut table = Vec::from_elem(rt.alloc(), true, 4_096).expect(&rt, "memory");
+    turn_word_ends::<2>(&rt, &mut set, &mut table);
+}
+
+#[test]
+fn three_levels_turn_runs(rt: HostRuntime) {
+    let mut set = NumberSet::<3>::filled(rt.alloc(), 20_000).expect(&rt, "memory");
+    let mut table = Vec::from_elem(rt.alloc(), true, 20_000).expect(&rt, "memory");
+    turn_word_ends::<3>(&rt, &mut set, &mut table);
+    turn_and_ask::<3>(&rt, &mut set, &mut table, 4_096, 8);
+    turn_and_ask::<3>(&rt, &mut set, &mut table, 19_968, 5);
+}
+
+#[test]
+fn four_levels_turn_runs(rt: HostRuntime) {
+    let mut set = NumberSet::<4>::filled(rt.alloc(), 300_000).expect(&rt, "memory");
+    let mut table = Vec::from_elem(rt.alloc(), true, 300_000).expect(&rt, "memory");
+    turn_word_ends::<4>(&rt, &mut set, &mut table);
+    turn_and_ask::<4>(&rt, &mut set, &mut table, 261_632, 9);
+    turn_and_ask::<4>(&rt, &mut set, &mut table, 262_144, 9);
+    turn_and_ask::<4>(&rt, &mut set, &mut table, 299_968, 5);
 }

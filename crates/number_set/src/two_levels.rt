@@ -1,8 +1,9 @@
 //! Sets of numbers below 4,096.
 
-ghost use Rattle.std.specs.Prelude.{◌≡◌, ℕ, ◌<◌, MatchOption, IfSome};
+ghost use Rattle.std.specs.Prelude.{◌≡◌, ◌↔◌, ℕ, ◌+◌, ◌%◌, ◌^◌, ◌<◌, ◌≤◌, ◌&&◌, ◌||◌, not, nat_lt, true, IsTrue, MatchOption, IfSome};
 ghost use Rattle.std.specs.FinSet as set;
 ghost use Rattle.number_set.specs.Finds.{IsFirst, IsLast, IsNext, IsPrevious, NoneAtAll, NoneAbove, NoneBelow};
+ghost use Rattle.number_set.specs.Runs.{in_run};
 
 use crate::one_level::OneLevel;
 use crate::words;
@@ -72,6 +73,52 @@ impl TwoLevels {
         if words::remove(&mut self.words, number) {
             self.above.remove(number / 64);
         }
+    }
+
+    /// Puts in the 2^order numbers from `first` upwards. `first` is a multiple of 2^order, and order is 9 at most.
+    #[inline]
+    pub(crate) fn insert_run(&mut self, first: u32, order: u32)
+        requires order { order ≤ 9 }
+        requires aligned { first % 2 ^ order ≡ 0 }
+        requires within { first + 2 ^ order ≤ 4096 }
+        ensures { (number : ℕ) → set.contains self.new number ≡ (in_run first (2 ^ order) number || set.contains self.old number) }
+    {
+        if words::insert_run(&mut self.words, first, order) {
+            self.above.insert_run(first / 64, order.saturating_sub(6));
+        }
+    }
+
+    /// Takes them out.
+    #[inline]
+    pub(crate) fn remove_run(&mut self, first: u32, order: u32)
+        requires order { order ≤ 9 }
+        requires aligned { first % 2 ^ order ≡ 0 }
+        requires within { first + 2 ^ order ≤ 4096 }
+        ensures { (number : ℕ) → set.contains self.new number ≡ (not (in_run first (2 ^ order) number) && set.contains self.old number) }
+    {
+        if words::remove_run(&mut self.words, first, order) {
+            self.above.remove_run(first / 64, order.saturating_sub(6));
+        }
+    }
+
+    /// Whether they are all members.
+    #[inline]
+    pub(crate) fn has_run(&self, first: u32, order: u32) -> bool
+        requires order { order ≤ 9 }
+        requires aligned { first % 2 ^ order ≡ 0 }
+        requires within { first + 2 ^ order ≤ 4096 }
+        ensures { IsTrue result ↔ ((number : ℕ) → in_run first (2 ^ order) number ≡ true → set.contains self.now number ≡ true) }
+    {
+        words::has_run(&self.words, first, order)
+    }
+
+    /// Puts in all numbers below a bound.
+    pub(crate) fn insert_below(&mut self, bound: u32)
+        requires { bound ≤ 4096 }
+        ensures { (number : ℕ) → set.contains self.new number ≡ (nat_lt number bound || set.contains self.old number) }
+    {
+        words::insert_below(&mut self.words, bound);
+        self.above.insert_below((bound + 63) / 64);
     }
 
     /// The lowest number of the set, if it has one.

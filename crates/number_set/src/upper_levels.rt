@@ -1,8 +1,9 @@
 //! The levels of a set above its fourth one.
 
-ghost use Rattle.std.specs.Prelude.{◌≡◌, ℕ, ◌<◌, ◌≤◌, MatchOption, IfOk, IfSome};
+ghost use Rattle.std.specs.Prelude.{◌≡◌, ◌↔◌, ℕ, ◌+◌, ◌%◌, ◌^◌, ◌<◌, ◌≤◌, ◌&&◌, ◌||◌, not, nat_lt, true, IsTrue, MatchOption, IfOk, IfSome};
 ghost use Rattle.std.specs.FinSet as set;
 ghost use Rattle.number_set.specs.Finds.{IsFirst, IsLast, IsNext, IsPrevious, NoneAtAll, NoneAbove, NoneBelow};
+ghost use Rattle.number_set.specs.Runs.{in_run};
 ghost use Rattle.number_set.specs.Numbers.{room_for};
 
 use crate::two_levels::TwoLevels;
@@ -88,6 +89,70 @@ impl<const L: usize> UpperLevels<L> {
         if words::remove(&mut self.words, number) {
             self.above.remove(number / 64);
         }
+    }
+
+    /// Puts in the 2^order numbers from `first` upwards. `first` is a multiple of 2^order, and order is 9 at most.
+    #[inline]
+    pub(crate) fn insert_run(&mut self, first: u32, order: u32)
+        requires order { order ≤ 9 }
+        requires aligned { first % 2 ^ order ≡ 0 }
+        requires within { first + 2 ^ order ≤ self.old.bound }
+        ensures run { (number : ℕ) → set.contains self.new.members number ≡ (in_run first (2 ^ order) number || set.contains self.old.members number) }
+        ensures bound { self.new.bound ≡ self.old.bound }
+    {
+        if L == 2 {
+            self.above.insert_run(first, order);
+            return;
+        }
+        if words::insert_run(&mut self.words, first, order) {
+            self.above.insert_run(first / 64, order.saturating_sub(6));
+        }
+    }
+
+    /// Takes them out.
+    #[inline]
+    pub(crate) fn remove_run(&mut self, first: u32, order: u32)
+        requires order { order ≤ 9 }
+        requires aligned { first % 2 ^ order ≡ 0 }
+        requires within { first + 2 ^ order ≤ self.old.bound }
+        ensures run { (number : ℕ) → set.contains self.new.members number ≡ (not (in_run first (2 ^ order) number) && set.contains self.old.members number) }
+        ensures bound { self.new.bound ≡ self.old.bound }
+    {
+        if L == 2 {
+            self.above.remove_run(first, order);
+            return;
+        }
+        if words::remove_run(&mut self.words, first, order) {
+            self.above.remove_run(first / 64, order.saturating_sub(6));
+        }
+    }
+
+    /// Whether they are all members.
+    #[inline]
+    pub(crate) fn has_run(&self, first: u32, order: u32) -> bool
+        requires order { order ≤ 9 }
+        requires aligned { first % 2 ^ order ≡ 0 }
+        requires within { first + 2 ^ order ≤ self.now.bound }
+        ensures { IsTrue result ↔ ((number : ℕ) → in_run first (2 ^ order) number ≡ true → set.contains self.now.members number ≡ true) }
+    {
+        if L == 2 {
+            return self.above.has_run(first, order);
+        }
+        words::has_run(&self.words, first, order)
+    }
+
+    /// Puts in all numbers below a bound.
+    pub(crate) fn insert_below(&mut self, bound: u32)
+        requires { bound ≤ self.old.bound }
+        ensures numbers { (number : ℕ) → set.contains self.new.members number ≡ (nat_lt number bound || set.contains self.old.members number) }
+        ensures bound { self.new.bound ≡ self.old.bound }
+    {
+        if L == 2 {
+            self.above.insert_below(bound);
+            return;
+        }
+        words::insert_below(&mut self.words, bound);
+        self.above.insert_below((bound + 63) / 64);
     }
 
     /// The lowest number of the set, if it has one.

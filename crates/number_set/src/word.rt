@@ -1,8 +1,9 @@
 //! The bits of one word.
 
-ghost use Rattle.std.specs.Prelude.{◌≡◌, ◌<◌, MatchOption, IfSome};
+ghost use Rattle.std.specs.Prelude.{◌≡◌, ℕ, ◌+◌, ◌<◌, ◌≤◌, MatchOption, IfSome};
 ghost use Rattle.number_set.specs.Bits.{has_bit};
 ghost use Rattle.number_set.specs.Finds.{IsFirst, IsLast, IsNext, IsPrevious, NoneAbove, NoneBelow};
+ghost use Rattle.number_set.specs.Runs.{in_run};
 
 /// The lowest bit that is set in a word that isn't empty.
 #[inline(always)]
@@ -50,4 +51,14 @@ pub(crate) fn previous_bit(word: u64, from: u32) -> Option<u32>
         return None;
     }
     Some(highest_bit(below))
+}
+
+/// The word whose set bits are `count` ones from bit `first` upwards.
+#[inline(always)]
+pub(crate) fn run_bits(first: u32, count: u32) -> u64
+    requires some { 0 < count }
+    requires within { first + count ≤ 64 }
+    ensures { (bit : ℕ) → has_bit result bit ≡ in_run first count bit }
+{
+    u64::MAX >> (64 - count) << first
 }

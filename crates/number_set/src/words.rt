@@ -1,10 +1,12 @@
 //! The words of one level of a set. Bit `b` of word `w` says whether the level has the number `64 * w + b`.
 
-ghost use Rattle.std.specs.Prelude.{◌≡◌, ℕ, ◌*◌, ◌/◌, ◌<◌, ◌≤◌, ◌&&◌, ◌||◌, not, nat_eq, length, replicate, true, IfOk, MatchOption, IfSome};
+ghost use Rattle.std.specs.Prelude.{◌≡◌, ◌↔◌, ℕ, ◌+◌, ◌-◌, ◌*◌, ◌/◌, ◌%◌, ◌^◌, ◌<◌, ◌≤◌, ◌&&◌, ◌||◌, not, nat_eq, nat_lt, length, replicate, slice_index, true, IfOk, IsTrue, MatchOption, IfSome, if◌then◌else◌};
+ghost use Rattle.std.specs.List.{list_all, slice_range};
 ghost use Rattle.number_set.specs.Bits.{has_number, is_filled};
 ghost use Rattle.number_set.specs.Finds.{IsFirstIn, IsLastIn, IsNext, IsPrevious, NoneAboveIn, NoneBelowIn};
+ghost use Rattle.number_set.specs.Runs.{in_run};
 
-use crate::word::{highest_bit, lowest_bit, next_bit, previous_bit};
+use crate::word::{highest_bit, lowest_bit, next_bit, previous_bit, run_bits};
 use std::alloc::{AllocError, Global};
 
 /// This many words without a number, or an error where there is no memory for them.
@@ -52,11 +54,102 @@ pub(crate) fn remove(words: &mut [u64], number: u32) -> bool
     left == 0
 }
 
+/// Puts in the 2^order numbers from `first` upwards. `first` is a multiple of 2^order. The answer is false only where their
+/// word had a number before.
+#[inline(always)]
+pub(crate) fn insert_run(words: &mut [u64], first: u32, order: u32) -> bool
+    requires order { order ≤ 9 }
+    requires aligned { first % 2 ^ order ≡ 0 }
+    requires within { first + 2 ^ order ≤ 64 * length words.old }
+    ensures numbers { (n : ℕ) → has_number words.new n ≡ (in_run first (2 ^ order) n || has_number words.old n) }
+    ensures filled { (word : ℕ) → is_filled words.new word ≡ ((result && in_run (first / 64) (2 ^ (order - 6)) word) || is_filled words.old word) }
+    ensures as_long { length words.new ≡ length words.old }
+{
+    if order > 6 {
+        write_run(words, first / 64, 1 << (order - 6), u64::MAX);
+        return true;
+    }
+    let word = (first / 64) as usize;
+    let before = words[word];
+    words[word] = before | run_bits(first % 64, 1 << order);
+    before == 0
+}
+
+/// Takes them out, and answers whether their words have no number now.
+#[inline(always)]
+pub(crate) fn remove_run(words: &mut [u64], first: u32, order: u32) -> bool
+    requires order { order ≤ 9 }
+    requires aligned { first % 2 ^ order ≡ 0 }
+    requires within { first + 2 ^ order ≤ 64 * length words.old }
+    ensures numbers { (n : ℕ) → has_number words.new n ≡ (not (in_run first (2 ^ order) n) && has_number words.old n) }
+    ensures filled { (word : ℕ) → is_filled words.new word ≡ (not (result && in_run (first / 64) (2 ^ (order - 6)) word) && is_filled words.old word) }
+    ensures as_long { length words.new ≡ length words.old }
+{
+    if order > 6 {
+        write_run(words, first / 64, 1 << (order - 6), 0);
+        return true;
+    }
+    let word = (first / 64) as usize;
+    let after = words[word] & !run_bits(first % 64, 1 << order);
+    words[word] = after;
+    after == 0
+}
+
+/// Whether the level has them all.
+#[inline(always)]
+pub(crate) fn has_run(words: &[u64], first: u32, order: u32) -> bool
+    requires order { order ≤ 9 }
+    requires aligned { first % 2 ^ order ≡ 0 }
+    requires within { first + 2 ^ order ≤ 64 * length words.now }
+    ensures { IsTrue result ↔ ((n : ℕ) → in_run first (2 ^ order) n ≡ true → has_number words.now n ≡ true) }
+{
+    if order > 6 {
+        return are_full(words, first / 64, 1 << (order - 6));
+    }
+    let bits = run_bits(first % 64, 1 << order);
+    words[(first / 64) as usize] & bits == bits
+}
+
+/// Puts in all numbers below a bound.
+pub(crate) fn insert_below(words: &mut [u64], bound: u32)
+    requires { bound ≤ 64 * length words.old }
+    ensures numbers { (n : ℕ) → has_number words.new n ≡ (nat_lt n bound || has_number words.old n) }
+    ensures filled { (word : ℕ) → is_filled words.new word ≡ (nat_lt word ((bound + 63) / 64) || is_filled words.old word) }
+    ensures as_long { length words.new ≡ length words.old }
+{
+    write_run(words, 0, bound / 64, u64::MAX);
+    if bound % 64 != 0 {
+        words[(bound / 64) as usize] |= run_bits(0, bound % 64);
+    }
+}
+
+/// Writes the same bits to each of `count` words, from a first one upwards.
+#[inline(always)]
+fn write_run(words: &mut [u64], first: u32, count: u32, bits: u64)
+    requires { first + count ≤ length words.old }
+    ensures words { (word : ℕ) → slice_index words.new word ≡ (if in_run first count word then bits else slice_index words.old word) }
+    ensures as_long { length words.new ≡ length words.old }
+{
+    let first = first as usize;
+    words[first..first + count as usize].fill(bits);
+}
+
+/// Whether each of `count` words, from a first one upwards, has all its numbers.
+#[inline(always)]
+fn are_full(words: &[u64], first: u32, count: u32) -> bool
+    requires { first + count ≤ length words.now }
+    ensures { result ≡ list_all (λ bits. nat_eq bits (2 ^ 64 - 1)) (slice_range words.now first (first + count)) }
+{
+    let first = first as usize;
+    let run = &words[first..first + count as usize];
+    run.iter().all(|bits| *bits == u64::MAX)
+}
+
 /// The lowest number of a word that has one.
 #[inline(always)]
 pub(crate) fn first_in(words: &[u64], word: u32) -> u32
     requires filled { is_filled words.now word ≡ true }
-    requires few { length words.now ≤ 262144 }
+    requires fits { 64 * word + 63 < 2 ^ 32 }
     ensures { IsFirstIn (has_number words.now) word result }
 {
     64 * word + lowest_bit(words[word as usize])
@@ -66,7 +159,7 @@ pub(crate) fn first_in(words: &[u64], word: u32) -> u32
 #[inline(always)]
 pub(crate) fn last_in(words: &[u64], word: u32) -> u32
     requires filled { is_filled words.now word ≡ true }
-    requires few { length words.now ≤ 262144 }
+    requires fits { 64 * word + 63 < 2 ^ 32 }
     ensures { IsLastIn (has_number words.now) word result }
 {
     64 * word + highest_bit(words[word as usize])
