@@ -435,7 +435,7 @@ module _ {L : ℕ} {now : Frames} (z : Inside L) (sound : IsSound z) (view : fra
         unchanged false = refl
 
 -- the frames of a block are handed out or taken back
-module _ {L : ℕ} {now : Frames} (z : Inside L) (sound : IsSound z) (view : frames_of z ≡ now) (first order : ℕ) (low : 3 ≤ order) (high : order ≤ 9) where
+module _ {L : ℕ} {now : Frames} (z : Inside L) (sound : IsSound z) (view : frames_of z ≡ now) (first order : ℕ) where
   pub block_within : has_block now.states order first ≡ true → first + 2 ^ order ≤ length z.kept.items
   block_within here =
       let parts = both (is_aligned order first) (nat_le (first + 2 ^ order) (length now.states)) here in
@@ -450,34 +450,38 @@ module _ {L : ℕ} {now : Frames} (z : Inside L) (sound : IsSound z) (view : fra
   pub run_free : is_run now.states order first ≡ true → (n : ℕ) → in_run first (2 ^ order) n ≡ true → free_at now.states n ≡ true
   run_free run = all_pass (free_at now.states) first (2 ^ order) (both (has_block now.states order first) (all_from (free_at now.states) first (2 ^ order)) run).1
 
-  pub run_counted : has_block now.states order first ≡ true → first / 512 < length z.candidates.stuck
-  run_counted here = frame_block z sound first (omega (arith, block_within here, some_frames order low high))
+  module _ (low : 3 ≤ order) (high : order ≤ 9) where
+    pub run_counted : has_block now.states order first ≡ true → first / 512 < length z.candidates.stuck
+    run_counted here = frame_block z sound first (omega (arith, block_within here, some_frames order low high))
 
-  -- a block of which no frame is stuck leaves room for its frames in its pageblock's count
-  pub run_room : is_run now.states order first ≡ true → slice_index z.candidates.stuck (first / 512) + 2 ^ order ≤ 512
-  run_room run =
-      let states = seen z.held.members z.kept.items in
-      room_more (stuck_at states z.movable.items) (λ n. in_run first (2 ^ order) n || stuck_at states z.movable.items n) first (2 ^ order) (one_block order low high first (block_aligned (run_block run)))
-      (record { none = λ n inside. free_isnt_stuck z sound view n (run_free run n inside); each = λ n. refl }) z.candidates.stuck (run_counted (run_block run)) sound.stuck
+    pub run_most : has_block now.states order first ≡ true → slice_index z.candidates.stuck (first / 512) ≤ 512
+    run_most here = counted_most z.candidates.stuck _ (first / 512) sound.stuck (run_counted here)
 
-  -- the count of a pageblock has the frames of a block of it that is handed out
-  pub run_stuck : has_block now.states order first ≡ true → all_from (huge_at now.states) first (2 ^ order) ≡ true → 2 ^ order ≤ slice_index z.candidates.stuck (first / 512)
-  run_stuck here huge =
-      let states = seen z.held.members z.kept.items in
-      room_fewer (λ n. not (in_run first (2 ^ order) n) && stuck_at states z.movable.items n) (stuck_at states z.movable.items) first (2 ^ order) (one_block order low high first (block_aligned here))
-      (takes_run (stuck_at states z.movable.items) (λ n. not (in_run first (2 ^ order) n) && stuck_at states z.movable.items n) first (2 ^ order)
-      (λ n inside. huge_stuck (slice_get states n) (true_at z.movable.items n) (seen_test z sound view n is_huge_state (all_pass (huge_at now.states) first (2 ^ order) huge n inside))) (λ n. refl))
-      z.candidates.stuck (run_counted here) sound.stuck
+    -- a block of which no frame is stuck leaves room for its frames in its pageblock's count
+    pub run_room : is_run now.states order first ≡ true → slice_index z.candidates.stuck (first / 512) + 2 ^ order ≤ 512
+    run_room run =
+        let states = seen z.held.members z.kept.items in
+        room_more (stuck_at states z.movable.items) (λ n. in_run first (2 ^ order) n || stuck_at states z.movable.items n) first (2 ^ order) (one_block order low high first (block_aligned (run_block run)))
+        (record { none = λ n inside. free_isnt_stuck z sound view n (run_free run n inside); each = λ n. refl }) z.candidates.stuck (run_counted (run_block run)) sound.stuck
 
-  pub block_held : (held free : Numbers) (stuck : List ℕ) → is_run now.states order first ≡ true → ((n : ℕ) → set.contains held.members n ≡ (in_run first (2 ^ order) n || set.contains z.held.members n)) → held.bound ≡ z.held.bound → ((n : ℕ) → set.contains free.members n ≡ (not (in_run first (2 ^ order) n) && set.contains z.free.members n)) → free.bound ≡ z.free.bound → stuck ≡ with_more z.candidates.stuck (first / 512) (2 ^ order) → IsSound (record z { held = held; free = free; candidates = record z.candidates { stuck = stuck } }) × (seen held.members z.kept.items ≡ with_run now.states first (2 ^ order) Huge)
-  block_held held free stuck run held_each held_same free_each free_same recounts =
-      let next = sound_held z sound held free stuck first (2 ^ order) (block_within (run_block run)) (one_block order low high first (block_aligned (run_block run))) (some_frames order low high) (λ n inside. seen_test z sound view n is_free_state (run_free run n inside)) held_each held_same free_each free_same recounts in
-      (next.0, next.1 ∙ ap (λ (frames : Frames). with_run frames.states first (2 ^ order) Huge) view)
+    -- the count of a pageblock has the frames of a block of it that is handed out
+    pub run_stuck : has_block now.states order first ≡ true → all_from (huge_at now.states) first (2 ^ order) ≡ true → 2 ^ order ≤ slice_index z.candidates.stuck (first / 512)
+    run_stuck here huge =
+        let states = seen z.held.members z.kept.items in
+        room_fewer (λ n. not (in_run first (2 ^ order) n) && stuck_at states z.movable.items n) (stuck_at states z.movable.items) first (2 ^ order) (one_block order low high first (block_aligned here))
+        (takes_run (stuck_at states z.movable.items) (λ n. not (in_run first (2 ^ order) n) && stuck_at states z.movable.items n) first (2 ^ order)
+        (λ n inside. huge_stuck (slice_get states n) (true_at z.movable.items n) (seen_test z sound view n is_huge_state (all_pass (huge_at now.states) first (2 ^ order) huge n inside))) (λ n. refl))
+        z.candidates.stuck (run_counted here) sound.stuck
 
-  pub block_released : (held free : Numbers) (stuck : List ℕ) → has_block now.states order first ≡ true → all_from (huge_at now.states) first (2 ^ order) ≡ true → ((n : ℕ) → set.contains held.members n ≡ (not (in_run first (2 ^ order) n) && set.contains z.held.members n)) → held.bound ≡ z.held.bound → ((n : ℕ) → set.contains free.members n ≡ (in_run first (2 ^ order) n || set.contains z.free.members n)) → free.bound ≡ z.free.bound → stuck ≡ with_fewer z.candidates.stuck (first / 512) (2 ^ order) → IsSound (record z { held = held; free = free; candidates = record z.candidates { stuck = stuck } }) × (seen held.members z.kept.items ≡ with_run now.states first (2 ^ order) Free)
-  block_released held free stuck here huge held_each held_same free_each free_same recounts =
-      let next = sound_released z sound held free stuck first (2 ^ order) (block_within here) (one_block order low high first (block_aligned here)) (some_frames order low high) (λ n inside. seen_test z sound view n is_huge_state (all_pass (huge_at now.states) first (2 ^ order) huge n inside)) held_each held_same free_each free_same recounts in
-      (next.0, next.1 ∙ ap (λ (frames : Frames). with_run frames.states first (2 ^ order) Free) view)
+    pub block_held : (held free : Numbers) (stuck : List ℕ) → is_run now.states order first ≡ true → ((n : ℕ) → set.contains held.members n ≡ (in_run first (2 ^ order) n || set.contains z.held.members n)) → held.bound ≡ z.held.bound → ((n : ℕ) → set.contains free.members n ≡ (not (in_run first (2 ^ order) n) && set.contains z.free.members n)) → free.bound ≡ z.free.bound → stuck ≡ with_more z.candidates.stuck (first / 512) (2 ^ order) → IsSound (record z { held = held; free = free; candidates = record z.candidates { stuck = stuck } }) × (seen held.members z.kept.items ≡ with_run now.states first (2 ^ order) Huge)
+    block_held held free stuck run held_each held_same free_each free_same recounts =
+        let next = sound_held z sound held free stuck first (2 ^ order) (block_within (run_block run)) (one_block order low high first (block_aligned (run_block run))) (some_frames order low high) (λ n inside. seen_test z sound view n is_free_state (run_free run n inside)) held_each held_same free_each free_same recounts in
+        (next.0, next.1 ∙ ap (λ (frames : Frames). with_run frames.states first (2 ^ order) Huge) view)
+
+    pub block_released : (held free : Numbers) (stuck : List ℕ) → has_block now.states order first ≡ true → all_from (huge_at now.states) first (2 ^ order) ≡ true → ((n : ℕ) → set.contains held.members n ≡ (not (in_run first (2 ^ order) n) && set.contains z.held.members n)) → held.bound ≡ z.held.bound → ((n : ℕ) → set.contains free.members n ≡ (in_run first (2 ^ order) n || set.contains z.free.members n)) → free.bound ≡ z.free.bound → stuck ≡ with_fewer z.candidates.stuck (first / 512) (2 ^ order) → IsSound (record z { held = held; free = free; candidates = record z.candidates { stuck = stuck } }) × (seen held.members z.kept.items ≡ with_run now.states first (2 ^ order) Free)
+    block_released held free stuck here huge held_each held_same free_each free_same recounts =
+        let next = sound_released z sound held free stuck first (2 ^ order) (block_within here) (one_block order low high first (block_aligned here)) (some_frames order low high) (λ n inside. seen_test z sound view n is_huge_state (all_pass (huge_at now.states) first (2 ^ order) huge n inside)) held_each held_same free_each free_same recounts in
+        (next.0, next.1 ∙ ap (λ (frames : Frames). with_run frames.states first (2 ^ order) Free) view)
 
 -- the frames of a zone in which all are free
 pub sound_free : {L : ℕ} (z : Inside L) (blocks : ℕ) → 0 < blocks → blocks ≤ 8 → 512 * blocks ≤ 64 ^ L → z.kept.items ≡ replicate (512 * blocks) Free → z.movable.items ≡ replicate (512 * blocks) false → z.held.members ≡ set.empty → 512 * blocks ≤ z.held.bound → ((n : ℕ) → set.contains z.free.members n ≡ nat_lt n (512 * blocks)) → z.free.bound ≡ 512 * blocks → z.candidates.sources.members ≡ set.empty → 512 * blocks ≤ z.candidates.sources.bound → z.candidates.stuck ≡ replicate blocks 0 → IsSound z × (seen z.held.members z.kept.items ≡ replicate (512 * blocks) Free)

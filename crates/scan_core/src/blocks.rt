@@ -105,11 +105,20 @@ impl BlockCounts {
         ensures { result ≡ some_below (λ block. not (true_at marked.now block) && nat_lt 0 (slice_index self.now block)) (length self.now) }
     {
         for block in 0..self.len() {
-            if !marked[block as usize] && self.get(block) > 0 {
+            if self.is_counted_unmarked(block, marked) {
                 return true;
             }
         }
         false
+    }
+
+    /// Whether a pageblock isn't marked and a frame of it is counted.
+    fn is_counted_unmarked(&self, block: u32, marked: &[bool]) -> bool
+        requires within { block < length self.now }
+        requires marked { block < length marked.now }
+        ensures { result ≡ (not (true_at marked.now block) && nat_lt 0 (slice_index self.now block)) }
+    {
+        !marked[block as usize] && self.get(block) > 0
     }
 
     /// How many pageblocks have all of their 512 frames counted.

@@ -10,7 +10,7 @@ use Rattle.scan_core.proofs.frames.Frames.empty.Goals as goal
 
 pub insert-requires : goal.insert-requires
 insert-requires g c =
-    record { within = step.in_free c.self.inside c.self.invariant c.self.view_is c.args.frame (step.is_within c.self.inside c.self.invariant c.self.view_is c.args.frame is_holding_state refl c.requires); none = step.page_isnt_free c.self.inside c.self.invariant c.self.view_is c.args.frame c.requires }
+    (omega arith, (step.in_free c.self.inside c.self.invariant c.self.view_is c.args.frame (step.is_within c.self.inside c.self.invariant c.self.view_is c.args.frame is_holding_state refl c.requires), step.page_isnt_free c.self.inside c.self.invariant c.self.view_is c.args.frame c.requires))
 
 pub index-requires : goal.index-requires
 index-requires g c =
@@ -20,7 +20,7 @@ pub remove-requires : goal.remove-requires
 remove-requires g c =
     let within = step.is_within c.self.inside c.self.invariant c.self.view_is c.args.frame is_holding_state refl c.requires in
     let read = step.flag_is c.self.inside c.self.invariant c.self.view_is c.args.frame c.get-index.result c.index.result.now c.get-index.ensures.value (step.is_within c.self.inside c.self.invariant c.self.view_is c.args.frame is_holding_state refl c.requires) c.index.ensures in
-    record { room = step.in_sources c.self.inside c.self.invariant c.self.view_is c.args.frame within; block = step.in_block c.self.inside c.self.invariant c.self.view_is c.args.frame within; some = λ e. step.stuck_some c.self.inside c.self.invariant c.self.view_is c.args.frame within (step.page_is_stuck c.self.inside c.self.invariant c.self.view_is c.args.frame c.requires ∙ ap not (sym read ∙ e)); most = step.stuck_most c.self.inside c.self.invariant c.self.view_is c.args.frame within; is = step.page_is_source c.self.inside c.self.invariant c.self.view_is c.args.frame c.requires ∙ sym read }
+    (omega arith, (step.in_sources c.self.inside c.self.invariant c.self.view_is c.args.frame within, (step.in_block c.self.inside c.self.invariant c.self.view_is c.args.frame within, (λ e. step.stuck_some c.self.inside c.self.invariant c.self.view_is c.args.frame within (step.page_is_stuck c.self.inside c.self.invariant c.self.view_is c.args.frame c.requires ∙ ap not (sym read ∙ e)), (step.stuck_most c.self.inside c.self.invariant c.self.view_is c.args.frame within, step.page_is_source c.self.inside c.self.invariant c.self.view_is c.args.frame c.requires ∙ sym read)))))
 
 pub index_mut-requires : goal.index_mut-requires
 index_mut-requires g c =

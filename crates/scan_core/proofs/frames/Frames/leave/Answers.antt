@@ -10,7 +10,7 @@ use Rattle.scan_core.proofs.frames.Frames.leave.Goals as goal
 
 pub insert-requires : goal.insert-requires
 insert-requires g c =
-    record { within = step.in_free c.self.inside c.self.invariant c.self.view_is c.args.other (step.is_within c.self.inside c.self.invariant c.self.view_is c.args.other is_way_state refl c.requires); none = step.way_isnt_free c.self.inside c.self.invariant c.self.view_is c.args.other c.requires }
+    (omega arith, (step.in_free c.self.inside c.self.invariant c.self.view_is c.args.other (step.is_within c.self.inside c.self.invariant c.self.view_is c.args.other is_way_state refl c.requires), step.way_isnt_free c.self.inside c.self.invariant c.self.view_is c.args.other c.requires))
 
 pub index_mut-requires : goal.index_mut-requires
 index_mut-requires g c =

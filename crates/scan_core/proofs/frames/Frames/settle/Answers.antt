@@ -11,7 +11,7 @@ use Rattle.scan_core.proofs.frames.Frames.settle.Goals as goal
 pub add-requires : goal.add-requires
 add-requires g c =
     let within = step.is_within c.self.inside c.self.invariant c.self.view_is c.args.frame is_way_state refl c.requires in
-    record { room = step.in_sources c.self.inside c.self.invariant c.self.view_is c.args.frame within; block = step.in_block c.self.inside c.self.invariant c.self.view_is c.args.frame within; most = step.stuck_less c.self.inside c.self.invariant c.self.view_is c.args.frame within (step.way_isnt_stuck c.self.inside c.self.invariant c.self.view_is c.args.frame c.requires); none = step.way_isnt_source c.self.inside c.self.invariant c.self.view_is c.args.frame c.requires }
+    (omega arith, (step.in_sources c.self.inside c.self.invariant c.self.view_is c.args.frame within, (step.in_block c.self.inside c.self.invariant c.self.view_is c.args.frame within, (step.stuck_less c.self.inside c.self.invariant c.self.view_is c.args.frame within (step.way_isnt_stuck c.self.inside c.self.invariant c.self.view_is c.args.frame c.requires), step.way_isnt_source c.self.inside c.self.invariant c.self.view_is c.args.frame c.requires))))
 
 pub index_mut-requires : goal.index_mut-requires
 index_mut-requires g c =

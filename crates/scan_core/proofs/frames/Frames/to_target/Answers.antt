@@ -10,7 +10,7 @@ use Rattle.scan_core.proofs.frames.Frames.to_target.Goals as goal
 
 pub remove-requires : goal.remove-requires
 remove-requires g c =
-    record { within = step.in_free c.self.inside c.self.invariant c.self.view_is c.args.frame (step.is_within c.self.inside c.self.invariant c.self.view_is c.args.frame is_free_state refl c.requires); member = step.free_is_free c.self.inside c.self.invariant c.self.view_is c.args.frame c.requires }
+    (omega arith, (step.in_free c.self.inside c.self.invariant c.self.view_is c.args.frame (step.is_within c.self.inside c.self.invariant c.self.view_is c.args.frame is_free_state refl c.requires), step.free_is_free c.self.inside c.self.invariant c.self.view_is c.args.frame c.requires))
 
 pub index_mut-requires : goal.index_mut-requires
 index_mut-requires g c =

@@ -1,0 +1,56 @@
+use Rattle.std.proofs.Common.{◌≡◌, ◌∙◌, ◌*◌, ◌≤◌, ◌<◌, ℕ, Bool, not, length, sym, ap, arith, subst}
+use Rattle.std.specs.Prelude.{nat_lt, ◌&&◌}
+use Rattle.std.specs.FinSet as set
+use Rattle.frame_core.specs.Below.{highest}
+use Rattle.scan_core.specs.Frames.{Frames}
+use Rattle.scan_core.specs.Pairs.{Finds, is_marked, next_step, step_from, step_to}
+use Rattle.scan_core.specs.Seen.{seen}
+use Rattle.scan_core.specs.declared.fingers.Step.{Step}
+use Rattle.scan_core.specs.declared.fingers.Step.TheVariants.{Pair, Met}
+use Rattle.scan_core.proofs.Pairing.{no_source, no_target, pair_found, target_between}
+use Rattle.scan_core.proofs.Sounding.{frames_kept, source_found_in, target_found_in}
+use Rattle.scan_core.proofs.frames.Frames.next_pair.Goals as goal
+
+pub next_source-requires : goal.next_source-requires
+next_source-requires g c =
+    let same = frames_kept c.self.inside c.self.invariant c.self.view_is in
+    (omega arith, (omega (arith, c.requires.high, same, c.self.invariant.few), (omega (arith, c.requires.high, same, c.self.invariant.sources_room), omega (arith, c.requires.high, c.requires.marked))))
+
+pub next_target-requires : goal.next_target-requires
+next_target-requires g c =
+    let same = frames_kept c.self.inside c.self.invariant c.self.view_is in
+    (omega arith, (omega (arith, c.requires.high, same, c.self.invariant.few), (omega (arith, c.requires.high, same, c.self.invariant.free_room, c.numbers-free.ensures.bound), omega (arith, c.requires.high, c.requires.marked))))
+
+pub returns-in_default-clause-pair : goal.returns-in_default-clause-pair
+returns-in_default-clause-pair g c =
+    subst (λ (frames : Frames). Finds frames.states frames.movable c.args.marked.now c.args.fingers.now Met) c.self.view_is
+    (no_source (seen c.self.inside.held.members c.self.inside.kept.items) c.self.inside.movable.items c.args.marked.now c.args.fingers.now (sym (c.in_default.ensures ∙ source_found_in c.self.inside c.self.invariant c.args.marked.now c.args.fingers.now)))
+
+pub returns-in_default-clause-step : goal.returns-in_default-clause-step
+returns-in_default-clause-step g c =
+    ap (step_from (seen c.self.inside.held.members c.self.inside.kept.items) c.args.marked.now c.args.fingers.now) (c.in_default.ensures ∙ source_found_in c.self.inside c.self.invariant c.args.marked.now c.args.fingers.now)
+    ∙ ap (λ (frames : Frames). next_step frames.states frames.movable c.args.marked.now c.args.fingers.now) c.self.view_is
+
+pub returns-in_default-next_target-clause-pair : goal.returns-in_default-next_target-clause-pair
+returns-in_default-next_target-clause-pair g c =
+    subst (λ (frames : Frames). Finds frames.states frames.movable c.args.marked.now c.args.fingers.now Met) c.self.view_is
+    (no_target (seen c.self.inside.held.members c.self.inside.kept.items) c.self.inside.movable.items c.args.marked.now c.args.fingers.now c.in-Some.source (sym (c.in-Some.ensures ∙ source_found_in c.self.inside c.self.invariant c.args.marked.now c.args.fingers.now)) (sym (c.in_default-next_target.ensures ∙ ap (λ (p : ℕ → Bool). highest (λ frame. nat_lt c.in-Some.source frame && (not (is_marked c.args.marked.now frame) && p frame)) c.args.fingers.now.free) (λ i k. set.contains (c.numbers-free.ensures.members i) k) ∙ target_found_in c.self.inside c.self.invariant c.args.marked.now c.args.fingers.now c.in-Some.source)))
+
+pub returns-in_default-next_target-clause-step : goal.returns-in_default-next_target-clause-step
+returns-in_default-next_target-clause-step g c =
+    ap (step_to c.in-Some.source) (c.in_default-next_target.ensures ∙ ap (λ (p : ℕ → Bool). highest (λ frame. nat_lt c.in-Some.source frame && (not (is_marked c.args.marked.now frame) && p frame)) c.args.fingers.now.free) (λ i k. set.contains (c.numbers-free.ensures.members i) k) ∙ target_found_in c.self.inside c.self.invariant c.args.marked.now c.args.fingers.now c.in-Some.source)
+    ∙ ap (step_from (seen c.self.inside.held.members c.self.inside.kept.items) c.args.marked.now c.args.fingers.now) (c.in-Some.ensures ∙ source_found_in c.self.inside c.self.invariant c.args.marked.now c.args.fingers.now)
+    ∙ ap (λ (frames : Frames). next_step frames.states frames.movable c.args.marked.now c.args.fingers.now) c.self.view_is
+
+pub returns-clause-pair : goal.returns-clause-pair
+returns-clause-pair g c =
+    subst (λ (step : Step). Finds c.args.self.now.states c.args.self.now.movable c.args.marked.now c.args.fingers.now step) (sym c.pass.ensures.step)
+    (subst (λ (frames : Frames). Finds frames.states frames.movable c.args.marked.now c.args.fingers.now (Pair c.in-Some.source c.in-Some-next_target.target)) c.self.view_is
+    (pair_found (seen c.self.inside.held.members c.self.inside.kept.items) c.self.inside.movable.items c.args.marked.now c.args.fingers.now c.in-Some.source c.in-Some-next_target.target (sym (c.in-Some.ensures ∙ source_found_in c.self.inside c.self.invariant c.args.marked.now c.args.fingers.now)) (sym (c.in-Some-next_target.ensures ∙ ap (λ (p : ℕ → Bool). highest (λ frame. nat_lt c.in-Some.source frame && (not (is_marked c.args.marked.now frame) && p frame)) c.args.fingers.now.free) (λ i k. set.contains (c.numbers-free.ensures.members i) k) ∙ target_found_in c.self.inside c.self.invariant c.args.marked.now c.args.fingers.now c.in-Some.source))))
+
+pub returns-clause-step : goal.returns-clause-step
+returns-clause-step g c =
+    c.pass.ensures.step
+    ∙ ap (step_to c.in-Some.source) (c.in-Some-next_target.ensures ∙ ap (λ (p : ℕ → Bool). highest (λ frame. nat_lt c.in-Some.source frame && (not (is_marked c.args.marked.now frame) && p frame)) c.args.fingers.now.free) (λ i k. set.contains (c.numbers-free.ensures.members i) k) ∙ target_found_in c.self.inside c.self.invariant c.args.marked.now c.args.fingers.now c.in-Some.source)
+    ∙ ap (step_from (seen c.self.inside.held.members c.self.inside.kept.items) c.args.marked.now c.args.fingers.now) (c.in-Some.ensures ∙ source_found_in c.self.inside c.self.invariant c.args.marked.now c.args.fingers.now)
+    ∙ ap (λ (frames : Frames). next_step frames.states frames.movable c.args.marked.now c.args.fingers.now) c.self.view_is
