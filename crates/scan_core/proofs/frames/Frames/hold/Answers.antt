@@ -1,4 +1,4 @@
-use Rattle.std.proofs.Common.{◌^◌, ◌+◌, ◌≤◌, ◌*◌, ◌<◌, ◌%◌, sym, ap, ◌∙◌, slice_index, arith}
+use Rattle.std.proofs.Common.{◌^◌, ◌+◌, ◌≤◌, ◌*◌, ◌<◌, ◌%◌, ◌/◌, sym, ap, ◌∙◌, slice_index, arith}
 use Rattle.std.specs.Prelude.{not, ◌&&◌, ◌||◌}
 use Rattle.std.specs.FinSet as set
 use Rattle.scan_core.specs.BlockCounts.{with_fewer, with_more}

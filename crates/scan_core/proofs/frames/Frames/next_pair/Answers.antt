@@ -5,6 +5,7 @@ use Rattle.frame_core.specs.Below.{highest}
 use Rattle.scan_core.specs.Frames.{Frames}
 use Rattle.scan_core.specs.Pairs.{Finds, is_marked, next_step, step_from, step_to}
 use Rattle.scan_core.specs.Seen.{seen}
+use Rattle.scan_core.specs.declared.fingers.Fingers.{Fingers}
 use Rattle.scan_core.specs.declared.fingers.Step.{Step}
 use Rattle.scan_core.specs.declared.fingers.Step.TheVariants.{Pair, Met}
 use Rattle.scan_core.proofs.Pairing.{no_source, no_target, pair_found, target_between}
@@ -54,3 +55,13 @@ returns-clause-step g c =
     ∙ ap (step_to c.in-Some.source) (c.in-Some-next_target.ensures ∙ ap (λ (p : ℕ → Bool). highest (λ frame. nat_lt c.in-Some.source frame && (not (is_marked c.args.marked.now frame) && p frame)) c.args.fingers.now.free) (λ i k. set.contains (c.numbers-free.ensures.members i) k) ∙ target_found_in c.self.inside c.self.invariant c.args.marked.now c.args.fingers.now c.in-Some.source)
     ∙ ap (step_from (seen c.self.inside.held.members c.self.inside.kept.items) c.args.marked.now c.args.fingers.now) (c.in-Some.ensures ∙ source_found_in c.self.inside c.self.invariant c.args.marked.now c.args.fingers.now)
     ∙ ap (λ (frames : Frames). next_step frames.states frames.movable c.args.marked.now c.args.fingers.now) c.self.view_is
+
+pub returns-clause-low : goal.returns-clause-low
+returns-clause-low g c =
+    let between = target_between (set.contains c.numbers-free.result.now.members) c.args.marked.now c.args.fingers.now c.in-Some.source c.in-Some-next_target.target (sym c.in-Some-next_target.ensures) in
+    omega (arith, between.0, ap (λ (f : Fingers). f.migrate) c.pass.ensures.fingers, ap (λ (f : Fingers). f.free) c.pass.ensures.fingers)
+
+pub returns-clause-high : goal.returns-clause-high
+returns-clause-high g c =
+    let between = target_between (set.contains c.numbers-free.result.now.members) c.args.marked.now c.args.fingers.now c.in-Some.source c.in-Some-next_target.target (sym c.in-Some-next_target.ensures) in
+    omega (arith, between.1, c.requires.high, ap (λ (f : Fingers). f.free) c.pass.ensures.fingers)

@@ -1,4 +1,4 @@
-use Rattle.std.proofs.Common.{◌^◌, ◌+◌, ◌≤◌, ◌*◌, ◌<◌, ◌%◌, sym, ap, ◌∙◌, slice_index, arith}
+use Rattle.std.proofs.Common.{◌^◌, ◌+◌, ◌≤◌, ◌*◌, ◌<◌, ◌%◌, ◌/◌, sym, ap, ◌∙◌, slice_index, arith}
 use Rattle.std.specs.Prelude.{not, ◌&&◌, ◌||◌}
 use Rattle.std.specs.FinSet as set
 use Rattle.scan_core.specs.BlockCounts.{with_fewer, with_more}
@@ -12,7 +12,7 @@ use Rattle.scan_core.proofs.frames.Frames.release.Goals as goal
 pub remove_run-requires : goal.remove_run-requires
 remove_run-requires g c =
     let count = ap (λ o. 2 ^ o) c.get-2.ensures.value in
-    (omega arith, (c.get-2.ensures.high, ((λ i. c.get.ensures.value i % count i) ∙ no_rest c.args.order c.get-2.ensures.low c.get-2.ensures.high c.args.first (step.block_aligned c.self.inside c.self.invariant c.self.view_is c.args.first c.args.order c.requires.block), omega (arith, count, c.get.ensures.value, step.block_within c.self.inside c.self.invariant c.self.view_is c.args.first c.args.order c.requires.block, c.self.invariant.held_room))))
+    (omega arith, (c.get-2.ensures.high, ((λ i. c.get.ensures.value i % count i) ∙ no_rest c.args.order (omega (arith, c.get-2.ensures.low, c.get-2.ensures.value)) (omega (arith, c.get-2.ensures.high, c.get-2.ensures.value)) c.args.first (step.block_aligned c.self.inside c.self.invariant c.self.view_is c.args.first c.args.order c.requires.block), omega (arith, count, c.get.ensures.value, step.block_within c.self.inside c.self.invariant c.self.view_is c.args.first c.args.order c.requires.block, c.self.invariant.held_room))))
 
 pub fewer-requires-clause-within : goal.fewer-requires-clause-within
 fewer-requires-clause-within g c = omega (arith, step.run_counted c.self.inside c.self.invariant c.self.view_is c.args.first c.args.order c.frames.ensures.low c.frames.ensures.high c.requires.block, c.get-3.ensures.value)
