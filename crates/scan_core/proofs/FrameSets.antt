@@ -10,16 +10,17 @@ use Rattle.frame_core.specs.Below.{count_below, count_from, lowest, one_if, some
 use Rattle.frame_core.specs.Order.{is_aligned}
 use Rattle.frame_core.proofs.Bounds.{count_from_short}
 use Rattle.frame_core.proofs.Lists.{slice_get_replicate}
-use Rattle.frame_core.proofs.Searches.{count_all, count_from_all, count_none, count_some, some_at, some_one, lowest_is, lowest_none}
+use Rattle.frame_core.proofs.Searches.{count_all, count_from_all, count_none, some_at, some_one, lowest_is, lowest_none}
 use Rattle.scan_core.specs.BlockCounts.{CountsEach, count_in_block, is_all_counted}
 use Rattle.scan_core.specs.FrameSet.{Counts, all_of_block, is_run_of}
 use Rattle.scan_core.specs.Frames.{true_at}
 use Rattle.scan_core.specs.NumberSet.{all_from, in_run}
 use Rattle.scan_core.specs.Pairs.{is_marked}
+use Rattle.scan_core.proofs.Masking.{clash}
 pub use Rattle.scan_core.proofs.Masking.{insert_if, remove_if}
 use Rattle.scan_core.proofs.Numbering.{member_insert, member_remove}
 use Rattle.scan_core.proofs.Orders.{run_aligned, run_within, first_of_run, runs_end}
-use Rattle.scan_core.proofs.RunCounts.{Adds, block_more, counted, one_run}
+use Rattle.scan_core.proofs.RunCounts.{Adds, block_more, counted, from_some, one_run}
 use Rattle.scan_core.proofs.Spanning.{all_members, same_by, both, in_run_is, is_in_run}
 
 -- a test stays as it was where the one number that is written had that value already
@@ -77,10 +78,6 @@ some_from : (p : ℕ → Bool) (first n : ℕ) → 0 < count_from p first n → 
 unfolding count_from
 some_from p first n some = let found = some_upto (λ k. p (first + k)) n some in (first + found.0, omega arith, omega (arith, found.1), found.2)
 
-from_some : (p : ℕ → Bool) (first n k : ℕ) → first ≤ k → k < first + n → p k ≡ true → 0 < count_from p first n
-unfolding count_from
-from_some p first n k low high passes = let at : first + (k - first) ≡ k = omega arith in count_some (λ i. p (first + i)) n (k - first) (omega arith) (ap p at ∙ passes)
-
 -- whether an unmarked pageblock has a frame that passes, read off the counts
 pub unmarked_by_counts : (p : ℕ → Bool) (marked : List Bool) (counts : List ℕ) → CountsEach counts p → some_below (λ block. not (true_at marked block) && nat_lt 0 (slice_index counts block)) (length counts) ≡ some_below (λ frame. not (is_marked marked frame) && p frame) (512 * length counts)
 unmarked_by_counts p marked counts each =
@@ -112,6 +109,13 @@ full_counts p blocks count counts each all are =
           ap (λ (xs : List ℕ). slice_get xs block) are ∙ slice_get_replicate blocks block 512 low ∙ ap Some (sym (count_from_all p (512 * block) 512 (λ k from to. passes k (omega (arith, from, to, low)))));
       none = λ k past. each k ∙ le-ltb k (512 * blocks) (omega (arith, past, long));
     }
+
+-- a frame that passes is one of the pageblocks
+pub below_bound : (p : ℕ → Bool) (count : ℕ) (counts : List ℕ) → Counts count counts p → (n : ℕ) → p n ≡ true → n < 512 * length counts
+below_bound p count counts is n passes = elim (leb_tells (512 * length counts) n) [
+  | inl past ↦ absurd (clash (p n) passes (is.none n past.1))
+  | inr under ↦ under.1
+]
 
 none_from : (p : ℕ → Bool) (first n : ℕ) → ((k : ℕ) → p k ≡ false) → count_from p first n ≡ 0
 unfolding count_from

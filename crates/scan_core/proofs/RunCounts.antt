@@ -48,11 +48,13 @@ pub counted_less : (counts : List ℕ) (p : ℕ → Bool) (frame : ℕ) → Coun
 counted_less counts p frame each within fails =
     omega (arith, counted counts p (frame / 512) each within, count_from_short p (512 * (frame / 512)) 512 frame (omega arith) (omega arith) fails)
 
-pub counted_some : (counts : List ℕ) (p : ℕ → Bool) (frame : ℕ) → CountsEach counts p → frame / 512 < length counts → p frame ≡ true → 0 < slice_index counts (frame / 512)
+pub from_some : (p : ℕ → Bool) (first n k : ℕ) → first ≤ k → k < first + n → p k ≡ true → 0 < count_from p first n
 unfolding count_from
+from_some p first n k low high passes = let at : first + (k - first) ≡ k = omega arith in count_some (λ i. p (first + i)) n (k - first) (omega arith) (ap p at ∙ passes)
+
+pub counted_some : (counts : List ℕ) (p : ℕ → Bool) (frame : ℕ) → CountsEach counts p → frame / 512 < length counts → p frame ≡ true → 0 < slice_index counts (frame / 512)
 counted_some counts p frame each within passes =
-    let at : 512 * (frame / 512) + frame % 512 ≡ frame = omega arith in
-    omega (arith, counted counts p (frame / 512) each within, count_some (λ k. p (512 * (frame / 512) + k)) 512 (frame % 512) (omega arith) (ap p at ∙ passes))
+    omega (arith, counted counts p (frame / 512) each within, from_some p (512 * (frame / 512)) 512 frame (omega arith) (omega arith) passes)
 
 or_none : (a b : Bool) → (a || b) ≡ false → b ≡ false
 or_none true b e = cc

@@ -135,10 +135,10 @@ module _ {L : ℕ} (z : Inside L) (sound : IsSound z) where
       let flag_len : length movable.items ≡ length z.movable.items = ap length flag_list ∙ length-set z.movable.items frame flag in
       let there : frame < length states = omega (arith, seen_length, within) in
       let test = λ (f : Option FrameState → Bool → Bool) (n : ℕ).
-          (λ i. f (slice_get (view i) n) (true_at (flag_list i) n)) ∙ written f states z.movable.items frame state flag there (frame_flag frame within) n in
+      (λ i. f (slice_get (view i) n) (true_at (flag_list i) n)) ∙ written f states z.movable.items frame state flag there (frame_flag frame within) n in
       let counts : CountsEach stuck (stuck_at (seen z.held.members kept.items) movable.items) =
-          subst (λ (xs : List ℕ). CountsEach xs (stuck_at (seen z.held.members kept.items) movable.items)) (sym recounts)
-          (recount z.candidates.stuck (stuck_at states z.movable.items) (stuck_at (seen z.held.members kept.items) movable.items) frame (frame_block frame within) sound.stuck was (is_stuck_state (Some state) flag) was_is (test is_stuck_state)) in
+      subst (λ (xs : List ℕ). CountsEach xs (stuck_at (seen z.held.members kept.items) movable.items)) (sym recounts)
+      (recount z.candidates.stuck (stuck_at states z.movable.items) (stuck_at (seen z.held.members kept.items) movable.items) frame (frame_block frame within) sound.stuck was (is_stuck_state (Some state) flag) was_is (test is_stuck_state)) in
       let long : length stuck ≡ length z.candidates.stuck = ap length recounts ∙ length_recounted was (is_stuck_state (Some state) flag) z.candidates.stuck (frame / 512) in (
         record {
           whole = omega (arith, len, sound.whole);
@@ -172,7 +172,7 @@ module _ {L : ℕ} (z : Inside L) (sound : IsSound z) where
       let view = seen_held (set.contains z.held.members) (set.contains held.members) z.kept.items first count within held_each in
       let there : first + count ≤ length states = omega (arith, seen_length, within) in
       let test = λ (f : Option FrameState → Bool → Bool) (n : ℕ).
-          ap (λ (xs : List FrameState). f (slice_get xs n) (true_at z.movable.items n)) view ∙ run_written f states z.movable.items first count Huge there n in
+      ap (λ (xs : List FrameState). f (slice_get xs n) (true_at z.movable.items n)) view ∙ run_written f states z.movable.items first count Huge there n in
       let adds : Adds (stuck_at states z.movable.items) (stuck_at (seen held.members z.kept.items) z.movable.items) first count = record {
         none = λ n inside. free_not_stuck (slice_get states n) (true_at z.movable.items n) (all n inside);
         each = λ n. test is_stuck_state n ∙ then_true (in_run first count n) (stuck_at states z.movable.items n);
@@ -215,7 +215,7 @@ module _ {L : ℕ} (z : Inside L) (sound : IsSound z) where
       let view = seen_released (set.contains z.held.members) (set.contains held.members) z.kept.items first count within held_each (λ n inside. sound.held n (is_held n (all n inside))) in
       let there : first + count ≤ length states = omega (arith, seen_length, within) in
       let test = λ (f : Option FrameState → Bool → Bool) (n : ℕ).
-          ap (λ (xs : List FrameState). f (slice_get xs n) (true_at z.movable.items n)) view ∙ run_written f states z.movable.items first count Free there n in
+      ap (λ (xs : List FrameState). f (slice_get xs n) (true_at z.movable.items n)) view ∙ run_written f states z.movable.items first count Free there n in
       let adds : Adds (stuck_at (seen held.members z.kept.items) z.movable.items) (stuck_at states z.movable.items) first count = record {
         none = λ n inside. test is_stuck_state n ∙ ap (λ b. if b then false else stuck_at states z.movable.items n) inside;
         each = λ n. back_true (in_run first count n) (stuck_at states z.movable.items n) (λ inside. huge_stuck (slice_get states n) (true_at z.movable.items n) (all n inside))
@@ -267,7 +267,6 @@ way_only _ m e = (refl, refl, refl)
 some_state : (f : Option FrameState → Bool) (o : Option FrameState) → f None ≡ false → f o ≡ true → (x : FrameState) × (o ≡ Some x)
 some_state f None none is = absurd (clash (f None) is none)
 some_state f (Some x) none is = (x, refl)
-
 
 way_not_source : (o : Option FrameState) (movable : Bool) → is_way_state o ≡ true → is_source_state o movable ≡ false
 way_not_source (Some (Holds page)) m e = cc

@@ -241,7 +241,9 @@ impl<const L: usize> Frames<L> {
         ensures { self.new ≡ record self.old { states = with_run self.old.states first (2 ^ order) Huge } }
     {
         self.free.remove_run(first, order);
-        self.candidates.stuck.more(first.get() / 512, order.frames());
+        self.candidates
+            .stuck
+            .more(first.get() / 512, order.frames());
         self.held.insert_run(first.get(), order.get());
     }
 
@@ -252,7 +254,9 @@ impl<const L: usize> Frames<L> {
         ensures { self.new ≡ record self.old { states = with_run self.old.states first (2 ^ order) Free } }
     {
         self.held.remove_run(first.get(), order.get());
-        self.candidates.stuck.fewer(first.get() / 512, order.frames());
+        self.candidates
+            .stuck
+            .fewer(first.get() / 512, order.frames());
         self.free.insert_run(first, order);
     }
 

@@ -73,9 +73,7 @@ fn is_run(frames: &[FrameState], first: usize, order: Order) -> bool
     ensures { result ≡ is_run frames.now order first }
 {
     let count = order.frames() as usize;
-    first % count == 0
-        && first + count <= frames.len()
-        && count_free(frames, first, count) == count
+    first % count == 0 && first + count <= frames.len() && count_free(frames, first, count) == count
 }
 
 /// Whether all 512 frames of a pageblock are free.

@@ -15,11 +15,22 @@ index_mut-requires g c = omega (arith, step.is_within c.self.inside c.self.invar
 pub turn-requires : goal.turn-requires
 turn-requires g c =
     let within = step.is_within c.self.inside c.self.invariant c.self.view_is c.args.frame is_holding_state refl c.requires in
-    let flag = sym (step.flag_is c.self.inside c.self.invariant c.self.view_is c.args.frame c.get-index.result c.index-could_move.result.now c.get-index.ensures.value (step.is_within c.self.inside c.self.invariant c.self.view_is c.args.frame is_holding_state refl c.requires) c.index-could_move.ensures) ∙ other c.index-could_move.result.now c.args.movable c.if-could_move-movable.true in
-    (omega arith, (step.in_sources c.self.inside c.self.invariant c.self.view_is c.args.frame within, (step.in_block c.self.inside c.self.invariant c.self.view_is c.args.frame within,
-    (λ e. step.stuck_some c.self.inside c.self.invariant c.self.view_is c.args.frame within (step.page_is_stuck c.self.inside c.self.invariant c.self.view_is c.args.frame c.requires ∙ ap not flag ∙ ap (λ b. not (not b)) e),
-    (λ e. step.stuck_less c.self.inside c.self.invariant c.self.view_is c.args.frame within (step.page_is_stuck c.self.inside c.self.invariant c.self.view_is c.args.frame c.requires ∙ ap not flag ∙ ap (λ b. not (not b)) e),
-    (step.stuck_most c.self.inside c.self.invariant c.self.view_is c.args.frame within, step.page_is_source c.self.inside c.self.invariant c.self.view_is c.args.frame c.requires ∙ flag))))))
+    let flag = sym (step.flag_is c.self.inside c.self.invariant c.self.view_is c.args.frame c.get-index.result c.index-could_move.result.now c.get-index.ensures.value (step.is_within c.self.inside c.self.invariant c.self.view_is c.args.frame is_holding_state refl c.requires) c.index-could_move.ensures) ∙ other c.index-could_move.result.now c.args.movable c.if-could_move-movable.true in (
+      omega arith,
+      (
+        step.in_sources c.self.inside c.self.invariant c.self.view_is c.args.frame within,
+        (
+          step.in_block c.self.inside c.self.invariant c.self.view_is c.args.frame within,
+          (
+            λ e. step.stuck_some c.self.inside c.self.invariant c.self.view_is c.args.frame within (step.page_is_stuck c.self.inside c.self.invariant c.self.view_is c.args.frame c.requires ∙ ap not flag ∙ ap (λ b. not (not b)) e),
+            (
+              λ e. step.stuck_less c.self.inside c.self.invariant c.self.view_is c.args.frame within (step.page_is_stuck c.self.inside c.self.invariant c.self.view_is c.args.frame c.requires ∙ ap not flag ∙ ap (λ b. not (not b)) e),
+              (step.stuck_most c.self.inside c.self.invariant c.self.view_is c.args.frame within, step.page_is_source c.self.inside c.self.invariant c.self.view_is c.args.frame c.requires ∙ flag),
+            ),
+          ),
+        ),
+      ),
+    )
 
 pub invariant_of-self : goal.invariant_of-self
 invariant_of-self g c =
