@@ -1,4 +1,3 @@
-pub mod Absent
 pub mod Counting
 pub mod Found
 pub mod FrameSets
@@ -7,7 +6,10 @@ pub mod Numbering
 pub mod Orders
 pub mod Pairing
 pub mod RunCounts
+pub mod Scanning
 pub mod Seeing
+pub mod SetSteps
 pub mod Sounding
 pub mod Spanning
 pub mod Steps
+pub mod Wholes

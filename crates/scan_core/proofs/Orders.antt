@@ -15,9 +15,6 @@ by_order P p3 p4 p5 p6 p7 p8 p9 (suc (suc (suc (suc (suc (suc (suc (suc (suc zer
 by_order P p3 p4 p5 p6 p7 p8 p9 _ h l = absurd (omega arith)
 
 module _ (order : ℕ) (low : 3 ≤ order) (high : order ≤ 9) where
-  pub shifted : 1 * 2 ^ order % 2 ^ 32 ≡ 2 ^ order
-  shifted = by_order (λ o. 1 * 2 ^ o % 2 ^ 32 ≡ 2 ^ o) refl refl refl refl refl refl refl order low high
-
   pub some_frames : 0 < 2 ^ order
   some_frames = by_order (λ o. 0 < 2 ^ o) (omega arith) (omega arith) (omega arith) (omega arith) (omega arith) (omega arith) (omega arith) order low high
 
@@ -28,8 +25,16 @@ module _ (order : ℕ) (low : 3 ≤ order) (high : order ≤ 9) where
       (λ e. omega (arith, e)) (λ e. omega (arith, e)) (λ e. omega (arith, e)) (λ e. omega (arith, e)) (λ e. omega (arith, e)) (λ e. omega (arith, e)) (λ e. omega (arith, e))
       order low high (eqb-true (first / 2 ^ order * 2 ^ order) first aligned)
 
-  pub run_within : (run : ℕ) → run < 4096 / 2 ^ order → run * 2 ^ order < 4096
-  run_within run = by_order (λ o. run < 4096 / 2 ^ o → run * 2 ^ o < 4096)
+  -- a block begins at a multiple of its frames
+  pub no_rest : (first : ℕ) → is_aligned order first ≡ true → first % 2 ^ order ≡ 0
+  no_rest first aligned =
+      by_order (λ o. first / 2 ^ o * 2 ^ o ≡ first → first % 2 ^ o ≡ 0)
+      (λ e. omega (arith, e)) (λ e. omega (arith, e)) (λ e. omega (arith, e)) (λ e. omega (arith, e)) (λ e. omega (arith, e)) (λ e. omega (arith, e)) (λ e. omega (arith, e))
+      order low high (eqb-true (first / 2 ^ order * 2 ^ order) first aligned)
+
+  -- in whole pageblocks, each multiple is the first frame of a block
+  pub run_within : (blocks run : ℕ) → run < 512 * blocks / 2 ^ order → run * 2 ^ order + 2 ^ order ≤ 512 * blocks
+  run_within blocks run = by_order (λ o. run < 512 * blocks / 2 ^ o → run * 2 ^ o + 2 ^ o ≤ 512 * blocks)
       (λ e. omega (arith, e)) (λ e. omega (arith, e)) (λ e. omega (arith, e)) (λ e. omega (arith, e)) (λ e. omega (arith, e)) (λ e. omega (arith, e)) (λ e. omega (arith, e)) order low high
 
   run_is : (run k : ℕ) → run * 2 ^ order ≤ k → k < (run + 1) * 2 ^ order → k / 2 ^ order * 2 ^ order ≡ run * 2 ^ order
@@ -43,6 +48,6 @@ module _ (order : ℕ) (low : 3 ≤ order) (high : order ≤ 9) where
   pub first_of_run : (run k : ℕ) → run * 2 ^ order ≤ k → k < (run + 1) * 2 ^ order → is_aligned order k ≡ true → k ≡ run * 2 ^ order
   first_of_run run k from to aligned = omega (arith, run_is run k from to, eqb-true (k / 2 ^ order * 2 ^ order) k aligned)
 
-  pub runs_end : (run : ℕ) → 4096 / 2 ^ order ≤ run → 4096 ≤ run * 2 ^ order
-  runs_end run = by_order (λ o. 4096 / 2 ^ o ≤ run → 4096 ≤ run * 2 ^ o)
+  pub runs_end : (blocks run : ℕ) → 512 * blocks / 2 ^ order ≤ run → 512 * blocks ≤ run * 2 ^ order
+  runs_end blocks run = by_order (λ o. 512 * blocks / 2 ^ o ≤ run → 512 * blocks ≤ run * 2 ^ o)
       (λ e. omega (arith, e)) (λ e. omega (arith, e)) (λ e. omega (arith, e)) (λ e. omega (arith, e)) (λ e. omega (arith, e)) (λ e. omega (arith, e)) (λ e. omega (arith, e)) order low high

@@ -1,19 +1,14 @@
 -- What the scanners find is the pair, and where they find none there is none.
 use Rattle.std.proofs.Common.{◌≡◌, ℕ, ◌<◌, ◌≤◌, Bool, true, false, not, List, inl, inr, refl, sym, ap, ◌∙◌, arith}
 use Rattle.std.specs.Prelude.{Option, Some, None, nat_le, nat_lt, slice_get, ◌&&◌}
-use Rattle.std.specs.FinSet as set
-use Rattle.std.specs.Ordering.{nat_cmp}
-use Rattle.std.proofs.Math.Bool.{and-false}
 use Rattle.std.proofs.lemmas.Bool.{and_parts, ltb-true, leb-true, lt-ltb, le-leb, not-true}
 use Rattle.std.proofs.lemmas.Bool.Decides.{leb_tells}
 use Rattle.frame_core.specs.declared.state.FrameState.{FrameState}
-use Rattle.frame_core.specs.declared.state.FrameState.TheVariants.{Free}
 use Rattle.frame_core.specs.Below.{highest, lowest}
 use Rattle.frame_core.proofs.Searches.{lowest_some, lowest_before, no_lowest}
 use Rattle.scan_core.specs.declared.fingers.Fingers.{Fingers}
-use Rattle.scan_core.specs.Frames.{free_at, holds_at, is_free_state, is_holding_state, true_at}
+use Rattle.scan_core.specs.Frames.{free_at, holds_at, true_at}
 use Rattle.scan_core.specs.Pairs.{IsSource, IsTarget, IsPair, is_marked, is_source, is_target, next_source, next_target}
-use Rattle.scan_core.specs.Seen.{IsTold}
 use Rattle.frame_core.proofs.Bounds.{highest_some, highest_above, no_highest}
 use Rattle.scan_core.proofs.Masking.{clash}
 
@@ -97,29 +92,3 @@ target_between free marked fingers source target found =
     let at = highest_some _ fingers.free target found in
     let parts = and_parts (nat_lt source target) (not (is_marked marked target) && free target) at.1 in
     (ltb-true source target parts.0, at.0)
-
--- a search in a list and a set that tell the states finds what a search in the states does
-module _ (states holders : List FrameState) (free : set.FinSet nat_cmp) (movable marked : List Bool) (fingers : Fingers) (told : IsTold states holders free) where
-  pub source_told : next_source holders movable marked fingers ≡ next_source states movable marked fingers
-  source_told = ap (λ (h : ℕ → Bool). lowest (λ frame. nat_le fingers.migrate frame && (not (is_marked marked frame) && (h frame && true_at movable frame))) fingers.free) (λ i n. told.holds n i)
-
-  pub target_told : (source : ℕ) → highest (λ frame. nat_lt source frame && (not (is_marked marked frame) && set.contains free frame)) fingers.free ≡ next_target states marked fingers source
-  target_told source = ap (λ (h : ℕ → Bool). highest (λ frame. nat_lt source frame && (not (is_marked marked frame) && h frame)) fingers.free) (λ i n. told.free n i)
-
--- a frame that is free holds no page
-pub free_holds_none : (state : Option FrameState) → is_free_state state ≡ true → is_holding_state state ≡ false
-free_holds_none None free = refl
-free_holds_none (Some Free) free = refl
-free_holds_none _ free = cc
-
--- a frame that is told as free holds no page in the list that tells the pages
-pub told_empty : (states holders : List FrameState) (free : set.FinSet nat_cmp) → IsTold states holders free → (frame : ℕ) → set.contains free frame ≡ true → holds_at holders frame ≡ false
-told_empty states holders free told frame is = told.holds frame ∙ free_holds_none (slice_get states frame) (sym (told.free frame) ∙ is)
-
--- free frames are passed over: none of them is a source
-pub sources_passed : (holders : List FrameState) (movable marked : List Bool) (free : set.FinSet nat_cmp) (from next frame : ℕ) → ((k : ℕ) → set.contains free k ≡ true → holds_at holders k ≡ false) → ((k : ℕ) → k < next → (nat_le from k && is_source holders movable marked k) ≡ false) → ((k : ℕ) → next ≤ k → k < frame → set.contains free k ≡ true) → (k : ℕ) → k < frame → (nat_le from k && is_source holders movable marked k) ≡ false
-sources_passed holders movable marked free from next frame empty before are k below = elim (leb_tells next k) [
-  | inl passed ↦ (ap (λ holds. nat_le from k && (not (is_marked marked k) && (holds && true_at movable k))) (empty k (are k passed.1 below))
-      ∙ ap (λ b. nat_le from k && b) (and-false (not (is_marked marked k))) ∙ and-false (nat_le from k))
-  | inr earlier ↦ before k earlier.1
-]

@@ -1,16 +1,16 @@
 -- Counts after the numbers of a run began to pass, or no longer do.
-use Rattle.std.proofs.Common.{◌≡◌, ◌≢◌, ℕ, zero, suc, ◌+◌, ◌-◌, ◌*◌, ◌/◌, ◌%◌, ◌<◌, ◌≤◌, Bool, true, false, List, inl, inr, sym, ap, ◌∙◌, slice_index, length-set, arith}
-use Rattle.std.specs.Prelude.{Some, nat_eq, slice_set, ◌||◌}
-use Rattle.std.proofs.lemmas.Bool.{ne_eqb, or_right}
+use Rattle.std.proofs.Common.{◌≡◌, ◌≢◌, ℕ, zero, suc, ◌+◌, ◌-◌, ◌*◌, ◌/◌, ◌%◌, ◌<◌, ◌≤◌, Bool, true, false, not, List, length, inl, inr, refl, sym, ap, ◌∙◌, slice_index, length-set, eq-eqb, arith}
+use Rattle.std.specs.Prelude.{Some, nat_eq, slice_set, ◌||◌, if◌then◌else◌}
+use Rattle.std.proofs.lemmas.Bool.{eqb-true, ne_eqb, or_right}
 use Rattle.std.proofs.lemmas.Bool.Decides.{eqb_tells, nat_tests}
 use Rattle.std.proofs.lemmas.Option.{get_or_from_slice_get}
 use Rattle.frame_core.specs.Below.{count_below, count_from}
 use Rattle.frame_core.proofs.Lists.{slice_get_set_same, slice_get_set_other}
-use Rattle.frame_core.proofs.Searches.{count_more, count_same, count_from_same, count_from_most}
-use Rattle.scan_core.specs.FrameSet.{Counts, count_in_block}
-use Rattle.scan_core.specs.NumberSet.{capacity, in_run}
-use Rattle.frame_core.proofs.Bounds.{count_most}
-use Rattle.scan_core.proofs.Numbering.{capacity_is}
+use Rattle.frame_core.proofs.Searches.{count_more, count_same, count_some, count_from_same, count_from_most}
+use Rattle.frame_core.proofs.Bounds.{count_most, count_from_short}
+use Rattle.scan_core.specs.BlockCounts.{CountsEach, count_in_block, recounted, with_fewer, with_more}
+use Rattle.scan_core.specs.FrameSet.{Counts}
+use Rattle.scan_core.specs.NumberSet.{in_run}
 use Rattle.scan_core.proofs.Seeing.{run_next, run_none}
 use Rattle.scan_core.proofs.Spanning.{same_by, in_run_is, is_in_run}
 
@@ -36,9 +36,33 @@ pub record Adds (p r : ℕ → Bool) (first m : ℕ) : Type 0 where
 pub count_run : (p r : ℕ → Bool) (first m n : ℕ) → first + m ≤ n → Adds p r first m → count_below r n ≡ count_below p n + m
 count_run p r first m n most adds = count_same r (λ k. in_run first m k || p k) n (λ k h. adds.each k) ∙ count_upto p first m n most adds.none
 
-module _ (p r : ℕ → Bool) (first m : ℕ) (low : first < 4096) (within : first % 512 + m ≤ 512) (adds : Adds p r first m) where
-  pub all_more : count_below r capacity ≡ count_below p capacity + m
-  all_more = count_run p r first m capacity (omega (arith, capacity_is)) adds
+-- the number that a list has for a pageblock is the count of its frames that pass
+pub counted : (counts : List ℕ) (p : ℕ → Bool) (block : ℕ) → CountsEach counts p → block < length counts → slice_index counts block ≡ count_in_block p block
+counted counts p block each within = get_or_from_slice_get counts block _ 0 (each block within)
+
+pub counted_most : (counts : List ℕ) (p : ℕ → Bool) (block : ℕ) → CountsEach counts p → block < length counts → slice_index counts block ≤ 512
+counted_most counts p block each within = omega (arith, counted counts p block each within, count_from_most p (512 * block) 512)
+
+-- a frame that doesn't pass leaves room for one more, and a frame that passes is counted
+pub counted_less : (counts : List ℕ) (p : ℕ → Bool) (frame : ℕ) → CountsEach counts p → frame / 512 < length counts → p frame ≡ false → slice_index counts (frame / 512) < 512
+counted_less counts p frame each within fails =
+    omega (arith, counted counts p (frame / 512) each within, count_from_short p (512 * (frame / 512)) 512 frame (omega arith) (omega arith) fails)
+
+pub from_some : (p : ℕ → Bool) (first n k : ℕ) → first ≤ k → k < first + n → p k ≡ true → 0 < count_from p first n
+unfolding count_from
+from_some p first n k low high passes = let at : first + (k - first) ≡ k = omega arith in count_some (λ i. p (first + i)) n (k - first) (omega arith) (ap p at ∙ passes)
+
+pub counted_some : (counts : List ℕ) (p : ℕ → Bool) (frame : ℕ) → CountsEach counts p → frame / 512 < length counts → p frame ≡ true → 0 < slice_index counts (frame / 512)
+counted_some counts p frame each within passes =
+    omega (arith, counted counts p (frame / 512) each within, from_some p (512 * (frame / 512)) 512 frame (omega arith) (omega arith) passes)
+
+or_none : (a b : Bool) → (a || b) ≡ false → b ≡ false
+or_none true b e = cc
+or_none false b e = e
+
+module _ (p r : ℕ → Bool) (first m : ℕ) (within : first % 512 + m ≤ 512) (adds : Adds p r first m) where
+  pub all_more : (blocks : ℕ) → first / 512 < blocks → count_below r (512 * blocks) ≡ count_below p (512 * blocks) + m
+  all_more blocks low = count_run p r first m (512 * blocks) (omega (arith, low, within)) adds
 
   in_block : (k : ℕ) → in_run first m (512 * (first / 512) + k) ≡ in_run (first % 512) m k
   in_block k = grind (arith, nat_tests)
@@ -54,36 +78,90 @@ module _ (p r : ℕ → Bool) (first m : ℕ) (low : first < 4096) (within : fir
 
   block_same : (block : ℕ) → block ≢ first / 512 → count_in_block r block ≡ count_in_block p block
   block_same block away = count_from_same r p (512 * block) 512 (λ k l h. adds.each k ∙ ap (λ b. b || p k)
-      (same_by (in_run first m k) false (λ e. let is = in_run_is first m k e in let at : block ≡ first / 512 = omega (arith, is) in absurd (away at)) (λ e. cc)))
+      (same_by (in_run first m k) false (λ e. let is = in_run_is first m k e in let at : block ≡ first / 512 = omega (arith, is, within, l, h) in absurd (away at)) (λ e. cc)))
 
-  counted : (q : ℕ → Bool) (count : ℕ) (blocks : List ℕ) → Counts count blocks q → slice_index blocks (first / 512) ≡ count_in_block q (first / 512)
-  counted q count blocks counts = get_or_from_slice_get blocks (first / 512) _ 0 (counts.each (first / 512) (omega arith))
+  changed : (q w : ℕ → Bool) (item : ℕ) (counts : List ℕ) → CountsEach counts q → first / 512 < length counts → item ≡ count_in_block w (first / 512) → ((block : ℕ) → block ≢ first / 512 → count_in_block q block ≡ count_in_block w block) → CountsEach (slice_set counts (first / 512) item) w
+  changed q w item counts each low here away = λ block h. elim (eqb_tells block (first / 512)) [
+    | inl at ↦ (slice_get_set_same counts (first / 512) block item at.1 low ∙ ap Some (here ∙ ap (count_in_block w) (sym at.1)))
+    | inr other ↦ (slice_get_set_other counts (first / 512) block item other.1 ∙ each block (omega (arith, h, length-set counts (first / 512) item)) ∙ ap Some (away block other.1))
+  ]
 
-  changed : (q w : ℕ → Bool) (count now item : ℕ) (blocks : List ℕ) → Counts count blocks q → now ≡ count_below w capacity → item ≡ count_in_block w (first / 512) → ((block : ℕ) → block ≢ first / 512 → count_in_block q block ≡ count_in_block w block) → Counts now (slice_set blocks (first / 512) item) w
-  changed q w count now item blocks counts all here away = record {
-    all = all;
-    len = length-set blocks (first / 512) item ∙ counts.len;
-    each = λ block h. elim (eqb_tells block (first / 512)) [
-      | inl at ↦ (slice_get_set_same blocks (first / 512) block item at.1 (omega (arith, counts.len)) ∙ ap Some (here ∙ ap (count_in_block w) (sym at.1)))
-      | inr other ↦ (slice_get_set_other blocks (first / 512) block item other.1 ∙ counts.each block h ∙ ap Some (away block other.1))
-    ];
+  module _ (counts : List ℕ) (low : first / 512 < length counts) where
+    pub each_more : CountsEach counts p → CountsEach (with_more counts (first / 512) m) r
+    each_more each = changed p r _ counts each low (omega (arith, counted counts p (first / 512) each low, block_more)) (λ block away. sym (block_same block away))
+
+    pub each_fewer : CountsEach counts r → CountsEach (with_fewer counts (first / 512) m) p
+    each_fewer each = changed r p _ counts each low (omega (arith, counted counts r (first / 512) each low, block_more)) block_same
+
+    -- the counts have room for the run before, and count it afterwards
+    pub room_more : CountsEach counts p → slice_index counts (first / 512) + m ≤ 512
+    room_more each = omega (arith, counted counts p (first / 512) each low, block_more, count_from_most r (512 * (first / 512)) 512)
+
+    pub room_fewer : CountsEach counts r → m ≤ slice_index counts (first / 512)
+    room_fewer each = omega (arith, counted counts r (first / 512) each low, block_more)
+
+    pub counts_more : (count : ℕ) → Counts count counts p → Counts (count + m) (with_more counts (first / 512) m) r
+    counts_more count is =
+        let long = length-set counts (first / 512) (slice_index counts (first / 512) + m) in
+        record {
+          all = ap (λ n. n + m) is.all ∙ sym (all_more (length counts) low) ∙ ap (λ n. count_below r (512 * n)) (sym long);
+          each = each_more is.each;
+          none = λ k past. adds.each k ∙ (λ i. (same_by (in_run first m k) false (λ e. let at = in_run_is first m k e in absurd (omega (arith, at, past, long, low, within))) (λ e. cc)) i || is.none k (omega (arith, past, long)) i);
+        }
+
+    pub counts_fewer : (count : ℕ) → Counts count counts r → Counts (count - m) (with_fewer counts (first / 512) m) p
+    counts_fewer count is =
+        let long = length-set counts (first / 512) (slice_index counts (first / 512) - m) in
+        let all : count - m ≡ count_below p (512 * length counts) = omega (arith, is.all, all_more (length counts) low) in
+        record {
+          all = all ∙ ap (λ n. count_below p (512 * n)) (sym long);
+          each = each_fewer is.each;
+          none = λ k past. or_none (in_run first m k) (p k) (sym (adds.each k) ∙ is.none k (omega (arith, past, long)));
+        }
+
+    pub count_room : (count : ℕ) → Counts count counts p → count + m ≤ 512 * length counts
+    count_room count is = omega (arith, is.all, all_more (length counts) low, count_most r (512 * length counts))
+
+    pub count_has : (count : ℕ) → Counts count counts r → m ≤ count
+    count_has count is = omega (arith, is.all, all_more (length counts) low)
+
+pub one_run : (frame k : ℕ) → in_run frame 1 k ≡ nat_eq k frame
+one_run frame k = grind (arith, nat_tests)
+
+-- the counts after one frame passes or no longer does
+module _ (counts : List ℕ) (p q : ℕ → Bool) (frame : ℕ) (low : frame / 512 < length counts) (put_each : CountsEach counts p) where
+  adds_one : (a b : ℕ → Bool) → a frame ≡ false → ((k : ℕ) → b k ≡ (nat_eq k frame || a k)) → Adds a b frame 1
+  adds_one a b fails each = record {
+    none = λ k e. ap a (eqb-true k frame (sym (one_run frame k) ∙ e)) ∙ fails;
+    each = λ k. each k ∙ ap (λ c. c || a k) (sym (one_run frame k));
   }
 
-  pub counts_more : (count : ℕ) (blocks : List ℕ) → Counts count blocks p → Counts (count + m) (slice_set blocks (first / 512) (slice_index blocks (first / 512) + m)) r
-  counts_more count blocks counts = changed p r count _ _ blocks counts (omega (arith, counts.all, all_more)) (omega (arith, counted p count blocks counts, block_more)) (λ block away. sym (block_same block away))
+  then_true : (e x : Bool) → (if e then true else x) ≡ (e || x)
+  then_true true x = refl
+  then_true false x = refl
 
-  pub counts_fewer : (count : ℕ) (blocks : List ℕ) → Counts count blocks r → Counts (count - m) (slice_set blocks (first / 512) (slice_index blocks (first / 512) - m)) p
-  counts_fewer count blocks counts = changed r p count _ _ blocks counts (omega (arith, counts.all, all_more)) (omega (arith, counted r count blocks counts, block_more)) block_same
+  back : (e x : Bool) → (e ≡ true → x ≡ true) → x ≡ (e || (if e then false else x))
+  back true x is = is refl
+  back false x is = refl
 
-  -- the counts before have room for the run
-  pub room_more : (count : ℕ) (blocks : List ℕ) → Counts count blocks p → (count + m ≤ 4096) × (slice_index blocks (first / 512) + m ≤ 512)
-  room_more count blocks counts = (
-    omega (arith, counts.all, all_more, count_most r capacity, capacity_is),
-    omega (arith, counted p count blocks counts, block_more, count_from_most r (512 * (first / 512)) 512),
-  )
+  kept : (e x b : Bool) → (e ≡ true → x ≡ b) → x ≡ (if e then b else x)
+  kept true x b is = is refl
+  kept false x b is = refl
 
-  pub room_fewer : (count : ℕ) (blocks : List ℕ) → Counts count blocks r → (m ≤ count) × (m ≤ slice_index blocks (first / 512))
-  room_fewer count blocks counts = (
-    omega (arith, counts.all, all_more),
-    omega (arith, counted r count blocks counts, block_more),
-  )
+  same : (b : Bool) → p frame ≡ b → ((n : ℕ) → q n ≡ (if nat_eq n frame then b else p n)) → CountsEach counts q
+  same b at put block h =
+      put_each block h ∙ ap Some (count_from_same p q (512 * block) 512 (λ k l m. kept (nat_eq k frame) (p k) b (λ e. ap p (eqb-true k frame e) ∙ at) ∙ sym (put k)))
+
+  pub recount : (was now : Bool) → p frame ≡ was → ((n : ℕ) → q n ≡ (if nat_eq n frame then now else p n)) → CountsEach (recounted was now counts (frame / 512)) q
+  recount false true at put = each_more p q frame 1 (omega arith) (adds_one p q at (λ k. put k ∙ then_true (nat_eq k frame) (p k))) counts low put_each
+  recount true false at put = each_fewer q p frame 1 (omega arith)
+      (adds_one q p (put frame ∙ ap (λ e. if e then false else p frame) (eq-eqb frame frame refl))
+      (λ k. back (nat_eq k frame) (p k) (λ e. ap p (eqb-true k frame e) ∙ at) ∙ ap (λ b. nat_eq k frame || b) (sym (put k)))) counts low put_each
+  recount true true at put = same true at put
+  recount false false at put = same false at put
+
+pub length_recounted : (was now : Bool) (counts : List ℕ) (block : ℕ) → length (recounted was now counts block) ≡ length counts
+length_recounted false true counts block = length-set counts block (slice_index counts block + 1)
+length_recounted true false counts block = length-set counts block (slice_index counts block - 1)
+length_recounted true true counts block = refl
+length_recounted false false counts block = refl

@@ -1,28 +1,31 @@
 -- The fields of the frames stay sound through each change.
-use Rattle.std.proofs.Common.{◌≡◌, ℕ, ◌+◌, ◌*◌, ◌^◌, ◌<◌, ◌≤◌, Bool, true, false, not, List, length, length-set, inl, inr, refl, sym, ap, ◌∙◌, eq-eqb, replicate, arith}
-use Rattle.std.specs.Prelude.{Option, Some, None, unwrap_or, nat_eq, nat_le, slice_get, slice_set, if◌then◌else◌, ◌&&◌, ◌||◌}
+use Rattle.std.proofs.Common.{◌≡◌, ℕ, ◌+◌, ◌-◌, ◌*◌, ◌/◌, ◌%◌, ◌^◌, ◌<◌, ◌≤◌, Bool, true, false, not, List, length, length-set, inl, inr, refl, sym, ap, ◌∙◌, eq-eqb, replicate, slice_index, get_or, subst, arith}
+use Rattle.std.specs.Prelude.{Option, Some, None, unwrap_or, nat_eq, nat_le, nat_lt, slice_get, slice_set, if◌then◌else◌, ◌&&◌, ◌||◌}
 use Rattle.std.specs.FinSet as set
 use Rattle.std.specs.Ordering.{nat_cmp}
-use Rattle.std.proofs.lemmas.Bool.{leb-true, ne_eqb}
+use Rattle.std.proofs.lemmas.Bool.{leb-true, ne_eqb, lt-ltb, le-ltb}
 use Rattle.std.proofs.lemmas.Bool.Decides.{eqb_tells, leb_tells}
 use Rattle.std.proofs.lemmas.List.{length-replicate}
-use Rattle.std.proofs.lemmas.Option.{slice_get_past}
+use Rattle.std.proofs.lemmas.Option.{slice_get_past, slice_get-get_or}
 use Rattle.frame_core.specs.FixedVec.{FixedVec}
 use Rattle.frame_core.specs.declared.state.FrameState.{FrameState}
 use Rattle.frame_core.specs.declared.state.FrameState.TheVariants.{Free, Holds, Source, Target, Huge}
 use Rattle.frame_core.proofs.Lists.{slice_get_set_same, slice_get_set_other, slice_get_replicate}
-use Rattle.scan_core.specs.Frames.{Frames, free_at, holds_at, huge_at, true_at, way_at, is_stuck_state, is_free_state, is_holding_state, is_huge_state, is_way_state}
 use Rattle.frame_core.specs.Order.{is_aligned}
+use Rattle.number_set.specs.Numbers.{Numbers}
+use Rattle.scan_core.specs.BlockCounts.{CountsEach, recounted, with_fewer, with_more}
+use Rattle.scan_core.specs.Frames.{Frames, free_at, holds_at, huge_at, source_at, stuck_at, true_at, way_at, is_stuck_state, is_free_state, is_holding_state, is_huge_state, is_source_state, is_way_state}
 use Rattle.scan_core.specs.NumberSet.{all_from, in_run}
 use Rattle.scan_core.specs.Runs.{has_block, is_run, with_run}
 use Rattle.scan_core.specs.Seen.{seen}
 use Rattle.scan_core.specs.Sound.{frames_of, IsSound}
 use Rattle.scan_core.specs.declared.frames.Frames.TheInside.{Inside}
-use Rattle.std.proofs.lemmas.Nat.{pow_pos}
-use Rattle.scan_core.proofs.FrameSets.{all_pass, insert_if, remove_if, keep_if}
+use Rattle.scan_core.proofs.FrameSets.{all_pass, insert_if, none_counted, remove_if, keep_if, takes_run}
 use Rattle.scan_core.proofs.Masking.{clash}
 use Rattle.scan_core.proofs.Numbering.{member_insert, member_remove}
-use Rattle.scan_core.proofs.Seeing.{length_seen, seen_get, seen_put, seen_held, seen_released, seen_none_held, seen_state, with_run_get, skipped, taken}
+use Rattle.scan_core.proofs.Orders.{one_block, some_frames}
+use Rattle.scan_core.proofs.RunCounts.{Adds, counted_less, counted_most, counted_some, each_fewer, each_more, length_recounted, recount, room_fewer, room_more}
+use Rattle.scan_core.proofs.Seeing.{length_seen, length_with_run, same_items, seen_get, seen_put, seen_held, seen_released, seen_none_held, seen_state, with_run_get, skipped, taken}
 use Rattle.scan_core.proofs.Spanning.{both}
 
 free_kept : (h : Bool) (o : Option FrameState) → is_free_state (seen_state h o) ≡ true → o ≡ Some Free
@@ -47,82 +50,153 @@ huge_not_free : (o : Option FrameState) → is_huge_state o ≡ true → is_free
 huge_not_free (Some Free) e = cc
 huge_not_free _ e = refl
 
--- a test of each state, after one state was written
-written : (f : ℕ → Option FrameState → Bool) (states : List FrameState) (frame : ℕ) (state : FrameState) (p q : ℕ → Bool) (b : Bool) → frame < length states → b ≡ f frame (Some state) → ((n : ℕ) → p n ≡ f n (slice_get states n)) → ((n : ℕ) → q n ≡ (if nat_eq n frame then b else p n)) → (n : ℕ) → q n ≡ f n (slice_get (slice_set states frame state) n)
-written f states frame state p q b within is before put n = put n ∙ elim (eqb_tells n frame) [
-  | inl at ↦ (taken (nat_eq n frame) b (p n) (eq-eqb n frame at.1) ∙ is ∙ ap (λ k. f k (Some state)) (sym at.1) ∙ ap (f n) (sym (slice_get_set_same states frame n state at.1 within)))
-  | inr away ↦ (skipped (nat_eq n frame) b (p n) (ne_eqb n frame away.1) ∙ before n ∙ ap (f n) (sym (slice_get_set_other states frame n state away.1)))
+free_not_source : (o : Option FrameState) (movable : Bool) → is_free_state o ≡ true → is_source_state o movable ≡ false
+free_not_source None m e = refl
+free_not_source (Some Free) m e = refl
+free_not_source _ m e = cc
+
+huge_not_source : (o : Option FrameState) (movable : Bool) → is_huge_state o ≡ true → is_source_state o movable ≡ false
+huge_not_source (Some (Holds page)) m e = cc
+huge_not_source None m e = refl
+huge_not_source _ m e = refl
+
+-- a list stays as it was where the item that is written stood there already
+set_same : {X : Type 0} → (xs : List X) (i : ℕ) (x : X) → i < length xs → slice_get xs i ≡ Some x → xs ≡ slice_set xs i x
+set_same xs i x within is = same_items xs (slice_set xs i x) (λ n. elim (eqb_tells n i) [
+  | inl at ↦ (ap (slice_get xs) at.1 ∙ is ∙ sym (slice_get_set_same xs i n x at.1 within))
+  | inr away ↦ sym (slice_get_set_other xs i n x away.1)
+])
+
+-- a test of each frame, after the state and the flag of one frame were written
+written : (f : Option FrameState → Bool → Bool) (states : List FrameState) (movable : List Bool) (frame : ℕ) (state : FrameState) (flag : Bool) → frame < length states → frame < length movable → (n : ℕ) → f (slice_get (slice_set states frame state) n) (true_at (slice_set movable frame flag) n) ≡ (if nat_eq n frame then f (Some state) flag else f (slice_get states n) (true_at movable n))
+written f states movable frame state flag within there n = elim (eqb_tells n frame) [
+  | inl at ↦ ((λ i. f (slice_get_set_same states frame n state at.1 within i) (unwrap_or (slice_get_set_same movable frame n flag at.1 there i) false))
+      ∙ sym (taken (nat_eq n frame) (f (Some state) flag) (f (slice_get states n) (true_at movable n)) (eq-eqb n frame at.1)))
+  | inr away ↦ ((λ i. f (slice_get_set_other states frame n state away.1 i) (unwrap_or (slice_get_set_other movable frame n flag away.1 i) false))
+      ∙ sym (skipped (nat_eq n frame) (f (Some state) flag) (f (slice_get states n) (true_at movable n)) (ne_eqb n frame away.1)))
 ]
 
--- a test of each state, after a run of states was written
-run_written : (f : ℕ → Option FrameState → Bool) (states : List FrameState) (first count : ℕ) (state : FrameState) (p q : ℕ → Bool) (b : Bool) → first + count ≤ length states → ((n : ℕ) → f n (Some state) ≡ b) → ((n : ℕ) → p n ≡ f n (slice_get states n)) → ((n : ℕ) → q n ≡ (if in_run first count n then b else p n)) → (n : ℕ) → q n ≡ f n (slice_get (with_run states first count state) n)
-run_written f states first count state p q b within is before put n =
-    put n ∙ cases (in_run first count n) ∙ ap (f n) (sym (with_run_get states first count state n within))
+-- a test of each frame, after the states of a run were written
+run_written : (f : Option FrameState → Bool → Bool) (states : List FrameState) (movable : List Bool) (first count : ℕ) (state : FrameState) → first + count ≤ length states → (n : ℕ) → f (slice_get (with_run states first count state) n) (true_at movable n) ≡ (if in_run first count n then f (Some state) (true_at movable n) else f (slice_get states n) (true_at movable n))
+run_written f states movable first count state within n =
+    ap (λ o. f o (true_at movable n)) (with_run_get states first count state n within) ∙ cases (in_run first count n)
   where
-    cases : (c : Bool) → (if c then b else p n) ≡ f n (if c then Some state else slice_get states n)
-    cases true = sym (is n)
-    cases false = before n
+    cases : (c : Bool) → f (if c then Some state else slice_get states n) (true_at movable n) ≡ (if c then f (Some state) (true_at movable n) else f (slice_get states n) (true_at movable n))
+    cases true = refl
+    cases false = refl
 
-module _ (z : Inside) (sound : IsSound z) where
-  seen_length : length (seen z.held z.kept.items) ≡ length z.kept.items
-  seen_length = length_seen (set.contains z.held) 0 z.kept.items
+-- what fails for all numbers of a run fails there after they are said to
+still_false : (c x : Bool) → (c ≡ true → x ≡ false) → x ≡ (if c then false else x)
+still_false true x is = is refl
+still_false false x is = refl
 
-  not_held : (frame : ℕ) → huge_at (seen z.held z.kept.items) frame ≡ false → set.contains z.held frame ≡ false
-  not_held frame known = by_test (set.contains z.held frame) refl where
-    by_test : (b : Bool) → set.contains z.held frame ≡ b → b ≡ false
+back_true : (c x : Bool) → (c ≡ true → x ≡ true) → x ≡ (c || (if c then false else x))
+back_true true x is = is refl
+back_true false x is = refl
+
+then_true : (c x : Bool) → (if c then true else x) ≡ (c || x)
+then_true true x = refl
+then_true false x = refl
+
+module _ {L : ℕ} (z : Inside L) (sound : IsSound z) where
+  pub seen_length : length (seen z.held.members z.kept.items) ≡ length z.kept.items
+  seen_length = length_seen (set.contains z.held.members) 0 z.kept.items
+
+  not_held : (frame : ℕ) → huge_at (seen z.held.members z.kept.items) frame ≡ false → set.contains z.held.members frame ≡ false
+  not_held frame known = by_test (set.contains z.held.members frame) refl where
+    by_test : (b : Bool) → set.contains z.held.members frame ≡ b → b ≡ false
     by_test true is =
-        let huge : slice_get (seen z.held z.kept.items) frame ≡ Some Huge = seen_get (set.contains z.held) z.kept.items frame ∙ (λ i. seen_state (is i) (sound.held frame is i)) in
-        absurd (clash (huge_at (seen z.held z.kept.items) frame) (ap is_huge_state huge) known)
+        let huge : slice_get (seen z.held.members z.kept.items) frame ≡ Some Huge = seen_get (set.contains z.held.members) z.kept.items frame ∙ (λ i. seen_state (is i) (sound.held frame is i)) in
+        absurd (clash (huge_at (seen z.held.members z.kept.items) frame) (ap is_huge_state huge) known)
     by_test false is = refl
 
   -- a frame whose state passes a test that no frame outside passes is in the list
-  pub known_within : (f : Option FrameState → Bool) (frame : ℕ) → f None ≡ false → f (slice_get (seen z.held z.kept.items) frame) ≡ true → frame < length z.kept.items
-  known_within f frame none is = elim (leb_tells (length (seen z.held z.kept.items)) frame) [
-    | inl past ↦ absurd (clash _ is (ap f (slice_get_past (seen z.held z.kept.items) frame past.1) ∙ none))
+  pub known_within : (f : Option FrameState → Bool) (frame : ℕ) → f None ≡ false → f (slice_get (seen z.held.members z.kept.items) frame) ≡ true → frame < length z.kept.items
+  known_within f frame none is = elim (leb_tells (length (seen z.held.members z.kept.items)) frame) [
+    | inl past ↦ absurd (clash _ is (ap f (slice_get_past (seen z.held.members z.kept.items) frame past.1) ∙ none))
     | inr under ↦ omega (arith, seen_length, under.1)
   ]
 
+  -- a frame of the zone has a flag, and its pageblock has a count
+  pub frame_flag : (frame : ℕ) → frame < length z.kept.items → frame < length z.movable.items
+  frame_flag frame within = omega (arith, sound.movable, within)
+
+  pub frame_block : (frame : ℕ) → frame < length z.kept.items → frame / 512 < length z.candidates.stuck
+  frame_block frame within = omega (arith, sound.stuck_blocks, sound.whole, within)
+
   -- one frame, which isn't of a block that is handed out, is used for something else
-  pub sound_put : (kept : FixedVec FrameState) (free stuck : set.FinSet nat_cmp) (frame index : ℕ) (state : FrameState) (is_free is_stuck : Bool) → huge_at (seen z.held z.kept.items) frame ≡ false → is_huge_state (Some state) ≡ false → frame < length z.kept.items → index ≡ frame → kept.items ≡ slice_set z.kept.items index state → is_free ≡ is_free_state (Some state) → is_stuck ≡ is_stuck_state (Some state) (true_at z.movable.items frame) → ((n : ℕ) → set.contains free n ≡ (if nat_eq n frame then is_free else set.contains z.free n)) → ((n : ℕ) → set.contains stuck n ≡ (if nat_eq n frame then is_stuck else set.contains z.stuck n)) → IsSound (record z { kept = kept; free = free; stuck = stuck }) × (seen z.held kept.items ≡ slice_set (seen z.held z.kept.items) frame state)
-  sound_put kept free stuck frame index state is_free is_stuck known not_huge within at items is_free_is is_stuck_is free_put stuck_put =
+  pub sound_put : (kept : FixedVec FrameState) (movable : FixedVec Bool) (free sources : Numbers) (stuck : List ℕ) (frame index : ℕ) (state : FrameState) (flag was : Bool) → huge_at (seen z.held.members z.kept.items) frame ≡ false → is_huge_state (Some state) ≡ false → frame < length z.kept.items → index ≡ frame → kept.items ≡ slice_set z.kept.items index state → movable.items ≡ slice_set z.movable.items index flag → ((n : ℕ) → set.contains free.members n ≡ (if nat_eq n frame then is_free_state (Some state) else set.contains z.free.members n)) → free.bound ≡ z.free.bound → ((n : ℕ) → set.contains sources.members n ≡ (if nat_eq n frame then is_source_state (Some state) flag else set.contains z.candidates.sources.members n)) → sources.bound ≡ z.candidates.sources.bound → stuck_at (seen z.held.members z.kept.items) z.movable.items frame ≡ was → stuck ≡ recounted was (is_stuck_state (Some state) flag) z.candidates.stuck (frame / 512) → IsSound (record z { kept = kept; movable = movable; free = free; candidates = record { sources = sources; stuck = stuck } }) × (seen z.held.members kept.items ≡ slice_set (seen z.held.members z.kept.items) frame state)
+  sound_put kept movable free sources stuck frame index state flag was known not_huge within at items flags free_put free_same sources_put sources_same was_is recounts =
+      let states = seen z.held.members z.kept.items in
       let list : kept.items ≡ slice_set z.kept.items frame state = items ∙ ap (λ k. slice_set z.kept.items k state) at in
-      let view : seen z.held kept.items ≡ slice_set (seen z.held z.kept.items) frame state = ap (seen z.held) list ∙ seen_put (set.contains z.held) z.kept.items frame state within (not_held frame known) in
+      let flag_list : movable.items ≡ slice_set z.movable.items frame flag = flags ∙ ap (λ k. slice_set z.movable.items k flag) at in
+      let view : seen z.held.members kept.items ≡ slice_set states frame state = ap (seen z.held.members) list ∙ seen_put (set.contains z.held.members) z.kept.items frame state within (not_held frame known) in
       let len : length kept.items ≡ length z.kept.items = ap length list ∙ length-set z.kept.items frame state in
-      let there : frame < length (seen z.held z.kept.items) = omega (arith, seen_length, within) in (
+      let flag_len : length movable.items ≡ length z.movable.items = ap length flag_list ∙ length-set z.movable.items frame flag in
+      let there : frame < length states = omega (arith, seen_length, within) in
+      let test = λ (f : Option FrameState → Bool → Bool) (n : ℕ).
+      (λ i. f (slice_get (view i) n) (true_at (flag_list i) n)) ∙ written f states z.movable.items frame state flag there (frame_flag frame within) n in
+      let counts : CountsEach stuck (stuck_at (seen z.held.members kept.items) movable.items) =
+      subst (λ (xs : List ℕ). CountsEach xs (stuck_at (seen z.held.members kept.items) movable.items)) (sym recounts)
+      (recount z.candidates.stuck (stuck_at states z.movable.items) (stuck_at (seen z.held.members kept.items) movable.items) frame (frame_block frame within) sound.stuck was (is_stuck_state (Some state) flag) was_is (test is_stuck_state)) in
+      let long : length stuck ≡ length z.candidates.stuck = ap length recounts ∙ length_recounted was (is_stuck_state (Some state) flag) z.candidates.stuck (frame / 512) in (
         record {
           whole = omega (arith, len, sound.whole);
           some = omega (arith, len, sound.some);
+          levels = omega (arith, len, sound.levels);
           few = omega (arith, len, sound.few);
-          movable = sound.movable ∙ sym len;
+          movable = flag_len ∙ sound.movable ∙ sym len;
           never_huge = λ n. ap (λ (xs : List FrameState). huge_at xs n) list ∙ elim (eqb_tells n frame) [
             | inl here ↦ (ap is_huge_state (slice_get_set_same z.kept.items frame n state here.1 within) ∙ not_huge)
             | inr away ↦ (ap is_huge_state (slice_get_set_other z.kept.items frame n state away.1) ∙ sound.never_huge n)
           ];
           held = λ n e. ap (λ (xs : List FrameState). slice_get xs n) list ∙ elim (eqb_tells n frame) [
-            | inl here ↦ absurd (clash (set.contains z.held n) e (ap (set.contains z.held) here.1 ∙ not_held frame known))
+            | inl here ↦ absurd (clash (set.contains z.held.members n) e (ap (set.contains z.held.members) here.1 ∙ not_held frame known))
             | inr away ↦ (slice_get_set_other z.kept.items frame n state away.1 ∙ sound.held n e)
           ];
-          free = λ n. written (λ k o. is_free_state o) (seen z.held z.kept.items) frame state (set.contains z.free) (set.contains free) is_free there is_free_is sound.free free_put n ∙ ap (λ (xs : List FrameState). free_at xs n) (sym view);
-          stuck = λ n. written (λ k o. is_stuck_state o (true_at z.movable.items k)) (seen z.held z.kept.items) frame state (set.contains z.stuck) (set.contains stuck) is_stuck there is_stuck_is sound.stuck stuck_put n ∙ ap (λ (xs : List FrameState). is_stuck_state (slice_get xs n) (true_at z.movable.items n)) (sym view);
+          held_room = omega (arith, len, sound.held_room);
+          free = λ n. free_put n ∙ ap (λ b. if nat_eq n frame then is_free_state (Some state) else b) (sound.free n) ∙ sym (test (λ o m. is_free_state o) n);
+          free_room = free_same ∙ sound.free_room ∙ sym len;
+          sources = λ n. sources_put n ∙ ap (λ b. if nat_eq n frame then is_source_state (Some state) flag else b) (sound.sources n) ∙ sym (test is_source_state n);
+          sources_room = omega (arith, len, sources_same, sound.sources_room);
+          stuck = counts;
+          stuck_blocks = long ∙ sound.stuck_blocks ∙ ap (λ n. n / 512) (sym len);
         },
         view,
       )
 
   -- the frames of a free run are handed out
-  pub sound_held : (held free stuck : set.FinSet nat_cmp) (first count : ℕ) → first + count ≤ length z.kept.items → ((n : ℕ) → in_run first count n ≡ true → free_at (seen z.held z.kept.items) n ≡ true) → ((n : ℕ) → set.contains held n ≡ (in_run first count n || set.contains z.held n)) → ((n : ℕ) → set.contains free n ≡ (not (in_run first count n) && set.contains z.free n)) → ((n : ℕ) → set.contains stuck n ≡ (in_run first count n || set.contains z.stuck n)) → IsSound (record z { held = held; free = free; stuck = stuck }) × (seen held z.kept.items ≡ with_run (seen z.held z.kept.items) first count Huge)
-  sound_held held free stuck first count within all held_each free_each stuck_each =
-      let view = seen_held (set.contains z.held) (set.contains held) z.kept.items first count within held_each in
-      let there : first + count ≤ length (seen z.held z.kept.items) = omega (arith, seen_length, within) in (
+  pub sound_held : (held free : Numbers) (stuck : List ℕ) (first count : ℕ) → first + count ≤ length z.kept.items → first % 512 + count ≤ 512 → 0 < count → ((n : ℕ) → in_run first count n ≡ true → free_at (seen z.held.members z.kept.items) n ≡ true) → ((n : ℕ) → set.contains held.members n ≡ (in_run first count n || set.contains z.held.members n)) → held.bound ≡ z.held.bound → ((n : ℕ) → set.contains free.members n ≡ (not (in_run first count n) && set.contains z.free.members n)) → free.bound ≡ z.free.bound → stuck ≡ with_more z.candidates.stuck (first / 512) count → IsSound (record z { held = held; free = free; candidates = record z.candidates { stuck = stuck } }) × (seen held.members z.kept.items ≡ with_run (seen z.held.members z.kept.items) first count Huge)
+  sound_held held free stuck first count within one some all held_each held_same free_each free_same recounts =
+      let states = seen z.held.members z.kept.items in
+      let view = seen_held (set.contains z.held.members) (set.contains held.members) z.kept.items first count within held_each in
+      let there : first + count ≤ length states = omega (arith, seen_length, within) in
+      let test = λ (f : Option FrameState → Bool → Bool) (n : ℕ).
+      ap (λ (xs : List FrameState). f (slice_get xs n) (true_at z.movable.items n)) view ∙ run_written f states z.movable.items first count Huge there n in
+      let adds : Adds (stuck_at states z.movable.items) (stuck_at (seen held.members z.kept.items) z.movable.items) first count = record {
+        none = λ n inside. free_not_stuck (slice_get states n) (true_at z.movable.items n) (all n inside);
+        each = λ n. test is_stuck_state n ∙ then_true (in_run first count n) (stuck_at states z.movable.items n);
+      } in
+      let low : first / 512 < length z.candidates.stuck = frame_block first (omega (arith, within, some)) in (
         record {
           whole = sound.whole;
           some = sound.some;
+          levels = sound.levels;
           few = sound.few;
           movable = sound.movable;
           never_huge = sound.never_huge;
-          held = λ n e. held_or (in_run first count n) (set.contains z.held n) (slice_get z.kept.items n) (sym (held_each n) ∙ e)
-              (λ inside. free_kept (set.contains z.held n) (slice_get z.kept.items n) (ap is_free_state (sym (seen_get (set.contains z.held) z.kept.items n)) ∙ all n inside)) (sound.held n);
-          free = λ n. run_written (λ k o. is_free_state o) (seen z.held z.kept.items) first count Huge (set.contains z.free) (set.contains free) false there (λ k. refl) sound.free (λ k. free_each k ∙ remove_if (in_run first count k) (set.contains z.free k) false refl) n ∙ ap (λ (xs : List FrameState). free_at xs n) (sym view);
-          stuck = λ n. run_written (λ k o. is_stuck_state o (true_at z.movable.items k)) (seen z.held z.kept.items) first count Huge (set.contains z.stuck) (set.contains stuck) true there (λ k. refl) sound.stuck (λ k. stuck_each k ∙ insert_if (in_run first count k) (set.contains z.stuck k) true refl) n ∙ ap (λ (xs : List FrameState). is_stuck_state (slice_get xs n) (true_at z.movable.items n)) (sym view);
+          held = λ n e. held_or (in_run first count n) (set.contains z.held.members n) (slice_get z.kept.items n) (sym (held_each n) ∙ e)
+              (λ inside. free_kept (set.contains z.held.members n) (slice_get z.kept.items n) (ap is_free_state (sym (seen_get (set.contains z.held.members) z.kept.items n)) ∙ all n inside)) (sound.held n);
+          held_room = omega (arith, held_same, sound.held_room);
+          free = λ n. free_each n ∙ remove_if (in_run first count n) (set.contains z.free.members n) false refl
+              ∙ ap (λ b. if in_run first count n then false else b) (sound.free n) ∙ sym (test (λ o m. is_free_state o) n);
+          free_room = free_same ∙ sound.free_room;
+          sources = λ n. sound.sources n
+              ∙ still_false (in_run first count n) (source_at states z.movable.items n) (λ inside. free_not_source (slice_get states n) (true_at z.movable.items n) (all n inside))
+              ∙ sym (test is_source_state n);
+          sources_room = sound.sources_room;
+          stuck = subst (λ (xs : List ℕ). CountsEach xs (stuck_at (seen held.members z.kept.items) z.movable.items)) (sym recounts) (each_more _ _ first count one adds z.candidates.stuck low sound.stuck);
+          stuck_blocks = ap length recounts ∙ length-set z.candidates.stuck (first / 512) (slice_index z.candidates.stuck (first / 512) + count) ∙ sound.stuck_blocks;
         },
         view,
       )
@@ -131,48 +205,44 @@ module _ (z : Inside) (sound : IsSound z) where
       held_or true h o e inside outside = inside refl
       held_or false h o e inside outside = outside e
 
-  pub is_held : (n : ℕ) → huge_at (seen z.held z.kept.items) n ≡ true → set.contains z.held n ≡ true
-  is_held n e = huge_held (set.contains z.held n) (slice_get z.kept.items n) (sound.never_huge n) (ap is_huge_state (sym (seen_get (set.contains z.held) z.kept.items n)) ∙ e)
+  pub is_held : (n : ℕ) → huge_at (seen z.held.members z.kept.items) n ≡ true → set.contains z.held.members n ≡ true
+  is_held n e = huge_held (set.contains z.held.members n) (slice_get z.kept.items n) (sound.never_huge n) (ap is_huge_state (sym (seen_get (set.contains z.held.members) z.kept.items n)) ∙ e)
 
   -- the frames of a block that was handed out are free again
-  pub sound_released : (held free stuck : set.FinSet nat_cmp) (first count : ℕ) → first + count ≤ length z.kept.items → ((n : ℕ) → in_run first count n ≡ true → huge_at (seen z.held z.kept.items) n ≡ true) → ((n : ℕ) → set.contains held n ≡ (not (in_run first count n) && set.contains z.held n)) → ((n : ℕ) → set.contains free n ≡ (in_run first count n || set.contains z.free n)) → ((n : ℕ) → set.contains stuck n ≡ (not (in_run first count n) && set.contains z.stuck n)) → IsSound (record z { held = held; free = free; stuck = stuck }) × (seen held z.kept.items ≡ with_run (seen z.held z.kept.items) first count Free)
-  sound_released held free stuck first count within all held_each free_each stuck_each =
-      let view = seen_released (set.contains z.held) (set.contains held) z.kept.items first count within held_each (λ n inside. sound.held n (is_held n (all n inside))) in
-      let there : first + count ≤ length (seen z.held z.kept.items) = omega (arith, seen_length, within) in (
+  pub sound_released : (held free : Numbers) (stuck : List ℕ) (first count : ℕ) → first + count ≤ length z.kept.items → first % 512 + count ≤ 512 → 0 < count → ((n : ℕ) → in_run first count n ≡ true → huge_at (seen z.held.members z.kept.items) n ≡ true) → ((n : ℕ) → set.contains held.members n ≡ (not (in_run first count n) && set.contains z.held.members n)) → held.bound ≡ z.held.bound → ((n : ℕ) → set.contains free.members n ≡ (in_run first count n || set.contains z.free.members n)) → free.bound ≡ z.free.bound → stuck ≡ with_fewer z.candidates.stuck (first / 512) count → IsSound (record z { held = held; free = free; candidates = record z.candidates { stuck = stuck } }) × (seen held.members z.kept.items ≡ with_run (seen z.held.members z.kept.items) first count Free)
+  sound_released held free stuck first count within one some all held_each held_same free_each free_same recounts =
+      let states = seen z.held.members z.kept.items in
+      let view = seen_released (set.contains z.held.members) (set.contains held.members) z.kept.items first count within held_each (λ n inside. sound.held n (is_held n (all n inside))) in
+      let there : first + count ≤ length states = omega (arith, seen_length, within) in
+      let test = λ (f : Option FrameState → Bool → Bool) (n : ℕ).
+      ap (λ (xs : List FrameState). f (slice_get xs n) (true_at z.movable.items n)) view ∙ run_written f states z.movable.items first count Free there n in
+      let adds : Adds (stuck_at (seen held.members z.kept.items) z.movable.items) (stuck_at states z.movable.items) first count = record {
+        none = λ n inside. test is_stuck_state n ∙ ap (λ b. if b then false else stuck_at states z.movable.items n) inside;
+        each = λ n. back_true (in_run first count n) (stuck_at states z.movable.items n) (λ inside. huge_stuck (slice_get states n) (true_at z.movable.items n) (all n inside))
+            ∙ ap (λ b. in_run first count n || b) (sym (test is_stuck_state n));
+      } in
+      let low : first / 512 < length z.candidates.stuck = frame_block first (omega (arith, within, some)) in (
         record {
           whole = sound.whole;
           some = sound.some;
+          levels = sound.levels;
           few = sound.few;
           movable = sound.movable;
           never_huge = sound.never_huge;
-          held = λ n e. sound.held n (both (not (in_run first count n)) (set.contains z.held n) (sym (held_each n) ∙ e)).1;
-          free = λ n. run_written (λ k o. is_free_state o) (seen z.held z.kept.items) first count Free (set.contains z.free) (set.contains free) true there (λ k. refl) sound.free (λ k. free_each k ∙ insert_if (in_run first count k) (set.contains z.free k) true refl) n ∙ ap (λ (xs : List FrameState). free_at xs n) (sym view);
-          stuck = λ n. run_written (λ k o. is_stuck_state o (true_at z.movable.items k)) (seen z.held z.kept.items) first count Free (set.contains z.stuck) (set.contains stuck) false there (λ k. refl) sound.stuck (λ k. stuck_each k ∙ remove_if (in_run first count k) (set.contains z.stuck k) false refl) n ∙ ap (λ (xs : List FrameState). is_stuck_state (slice_get xs n) (true_at z.movable.items n)) (sym view);
+          held = λ n e. sound.held n (both (not (in_run first count n)) (set.contains z.held.members n) (sym (held_each n) ∙ e)).1;
+          held_room = omega (arith, held_same, sound.held_room);
+          free = λ n. free_each n ∙ insert_if (in_run first count n) (set.contains z.free.members n) true refl
+              ∙ ap (λ b. if in_run first count n then true else b) (sound.free n) ∙ sym (test (λ o m. is_free_state o) n);
+          free_room = free_same ∙ sound.free_room;
+          sources = λ n. sound.sources n
+              ∙ still_false (in_run first count n) (source_at states z.movable.items n) (λ inside. huge_not_source (slice_get states n) (true_at z.movable.items n) (all n inside))
+              ∙ sym (test is_source_state n);
+          sources_room = sound.sources_room;
+          stuck = subst (λ (xs : List ℕ). CountsEach xs (stuck_at (seen held.members z.kept.items) z.movable.items)) (sym recounts) (each_fewer _ _ first count one adds z.candidates.stuck low sound.stuck);
+          stuck_blocks = ap length recounts ∙ length-set z.candidates.stuck (first / 512) (slice_index z.candidates.stuck (first / 512) - count) ∙ sound.stuck_blocks;
         },
         view,
       )
-
-  -- it is noted whether the page of a frame may be taken from it
-  pub sound_marked : (movable : FixedVec Bool) (stuck : set.FinSet nat_cmp) (frame index : ℕ) (state : FrameState) (is_stuck is_movable : Bool) → frame < length z.kept.items → index ≡ frame → movable.items ≡ slice_set z.movable.items index is_movable → slice_get (seen z.held z.kept.items) frame ≡ Some state → is_stuck ≡ is_stuck_state (Some state) is_movable → ((n : ℕ) → set.contains stuck n ≡ (if nat_eq n frame then is_stuck else set.contains z.stuck n)) → IsSound (record z { movable = movable; stuck = stuck })
-  sound_marked movable stuck frame index state is_stuck is_movable within at items is is_stuck_is put =
-      let list : movable.items ≡ slice_set z.movable.items frame is_movable = items ∙ ap (λ k. slice_set z.movable.items k is_movable) at in
-      let len : length movable.items ≡ length z.movable.items = ap length list ∙ length-set z.movable.items frame is_movable in
-      record {
-        whole = sound.whole;
-        some = sound.some;
-        few = sound.few;
-        movable = len ∙ sound.movable;
-        never_huge = sound.never_huge;
-        held = sound.held;
-        free = sound.free;
-        stuck = λ n. put n ∙ elim (eqb_tells n frame) [
-          | inl here ↦ (taken (nat_eq n frame) is_stuck (set.contains z.stuck n) (eq-eqb n frame here.1) ∙ is_stuck_is
-              ∙ (λ i. is_stuck_state (sym is i) is_movable) ∙ ap (λ k. is_stuck_state (slice_get (seen z.held z.kept.items) k) is_movable) (sym here.1)
-              ∙ ap (is_stuck_state (slice_get (seen z.held z.kept.items) n)) (sym (ap (λ (xs : List Bool). true_at xs n) list ∙ ap (λ o. unwrap_or o false) (slice_get_set_same z.movable.items frame n is_movable here.1 (omega (arith, sound.movable, within))))))
-          | inr away ↦ (skipped (nat_eq n frame) is_stuck (set.contains z.stuck n) (ne_eqb n frame away.1) ∙ sound.stuck n
-              ∙ ap (is_stuck_state (slice_get (seen z.held z.kept.items) n)) (sym (ap (λ (xs : List Bool). true_at xs n) list ∙ ap (λ o. unwrap_or o false) (slice_get_set_other z.movable.items frame n is_movable away.1))))
-        ];
-      }
 
 -- what one test of a state says about the others
 free_not_huge : (o : Option FrameState) → is_free_state o ≡ true → is_huge_state o ≡ false
@@ -198,9 +268,21 @@ some_state : (f : Option FrameState → Bool) (o : Option FrameState) → f None
 some_state f None none is = absurd (clash (f None) is none)
 some_state f (Some x) none is = (x, refl)
 
-module _ {now : Frames} (z : Inside) (sound : IsSound z) (view : frames_of z ≡ now) (frame : ℕ) where
+way_not_source : (o : Option FrameState) (movable : Bool) → is_way_state o ≡ true → is_source_state o movable ≡ false
+way_not_source (Some (Holds page)) m e = cc
+way_not_source None m e = refl
+way_not_source _ m e = refl
+
+page_of : (o : Option FrameState) → is_holding_state o ≡ true → (page : ℕ) × (o ≡ Some (Holds page))
+page_of (Some (Holds page)) e = (page, refl)
+page_of _ e = cc
+
+module _ {L : ℕ} {now : Frames} (z : Inside L) (sound : IsSound z) (view : frames_of z ≡ now) (frame : ℕ) where
   abbrev was : Option FrameState
-  was = slice_get (seen z.held z.kept.items) frame
+  was = slice_get (seen z.held.members z.kept.items) frame
+
+  abbrev flag : Bool
+  flag = true_at z.movable.items frame
 
   pub seen_test : (f : Option FrameState → Bool) → f (slice_get now.states frame) ≡ true → f was ≡ true
   seen_test f is = ap (λ (frames : Frames). f (slice_get frames.states frame)) view ∙ is
@@ -208,155 +290,236 @@ module _ {now : Frames} (z : Inside) (sound : IsSound z) (view : frames_of z ≡
   pub is_within : (f : Option FrameState → Bool) → f None ≡ false → f (slice_get now.states frame) ≡ true → frame < length z.kept.items
   is_within f none is = known_within z sound f frame none (seen_test f is)
 
-  -- a free frame isn't stuck, a frame that is handed out is stuck and not free, and a page's frame isn't free
-  pub free_stuck : free_at now.states frame ≡ true → set.contains z.stuck frame ≡ false
-  free_stuck free = sound.stuck frame ∙ free_not_stuck was (true_at z.movable.items frame) (seen_test is_free_state free)
+  -- a frame of the zone is one that the sets have room for
+  module _ (within : frame < length z.kept.items) where
+    pub in_free : frame < z.free.bound
+    in_free = omega (arith, within, sound.free_room)
 
-  pub huge_is_stuck : huge_at now.states frame ≡ true → set.contains z.stuck frame ≡ true
-  huge_is_stuck huge = sound.stuck frame ∙ huge_stuck was (true_at z.movable.items frame) (seen_test is_huge_state huge)
+    pub in_sources : frame < z.candidates.sources.bound
+    in_sources = omega (arith, within, sound.sources_room)
 
-  pub huge_isnt_free : huge_at now.states frame ≡ true → set.contains z.free frame ≡ false
-  huge_isnt_free huge = sound.free frame ∙ huge_not_free was (seen_test is_huge_state huge)
+    pub in_block : frame / 512 < length z.candidates.stuck
+    in_block = frame_block z sound frame within
 
-  pub page_isnt_free : holds_at now.states frame ≡ true → set.contains z.free frame ≡ false
+    pub stuck_most : slice_index z.candidates.stuck (frame / 512) ≤ 512
+    stuck_most = counted_most z.candidates.stuck _ (frame / 512) sound.stuck in_block
+
+    pub stuck_less : stuck_at (seen z.held.members z.kept.items) z.movable.items frame ≡ false → slice_index z.candidates.stuck (frame / 512) < 512
+    stuck_less fails = counted_less z.candidates.stuck _ frame sound.stuck in_block fails
+
+    pub stuck_some : stuck_at (seen z.held.members z.kept.items) z.movable.items frame ≡ true → 0 < slice_index z.candidates.stuck (frame / 512)
+    stuck_some passes = counted_some z.candidates.stuck _ frame sound.stuck in_block passes
+
+  -- a free frame is a member of the free ones alone
+  pub free_is_free : free_at now.states frame ≡ true → set.contains z.free.members frame ≡ true
+  free_is_free free = sound.free frame ∙ seen_test is_free_state free
+
+  pub free_isnt_source : free_at now.states frame ≡ true → set.contains z.candidates.sources.members frame ≡ false
+  free_isnt_source free = sound.sources frame ∙ free_not_source was flag (seen_test is_free_state free)
+
+  pub free_isnt_stuck : free_at now.states frame ≡ true → stuck_at (seen z.held.members z.kept.items) z.movable.items frame ≡ false
+  free_isnt_stuck free = free_not_stuck was flag (seen_test is_free_state free)
+
+  -- a page's frame isn't free: it is a source, or stuck
+  pub page_isnt_free : holds_at now.states frame ≡ true → set.contains z.free.members frame ≡ false
   page_isnt_free page = sound.free frame ∙ (page_only was (seen_test is_holding_state page)).1
 
-  -- the source or the target of a moving page isn't free, and isn't stuck
-  pub way_isnt_free : way_at now.states frame ≡ true → set.contains z.free frame ≡ false
-  way_isnt_free way = sound.free frame ∙ (way_only was (true_at z.movable.items frame) (seen_test is_way_state way)).1
+  pub page_is_source : holds_at now.states frame ≡ true → set.contains z.candidates.sources.members frame ≡ flag
+  page_is_source page = sound.sources frame ∙ ap (λ b. b && flag) (seen_test is_holding_state page)
 
-  pub way_isnt_stuck : way_at now.states frame ≡ true → set.contains z.stuck frame ≡ false
-  way_isnt_stuck way = sound.stuck frame ∙ (way_only was (true_at z.movable.items frame) (seen_test is_way_state way)).2
+  pub page_is_stuck : holds_at now.states frame ≡ true → stuck_at (seen z.held.members z.kept.items) z.movable.items frame ≡ not flag
+  page_is_stuck page = stuck_if_page was flag (seen_test is_holding_state page)
 
-  way_not_huge : way_at now.states frame ≡ true → huge_at (seen z.held z.kept.items) frame ≡ false
-  way_not_huge way = (way_only was (true_at z.movable.items frame) (seen_test is_way_state way)).0
+  -- the source or the target of a moving page is none of these
+  pub way_isnt_free : way_at now.states frame ≡ true → set.contains z.free.members frame ≡ false
+  way_isnt_free way = sound.free frame ∙ (way_only was flag (seen_test is_way_state way)).1
 
-  shown : {next : Inside} (kept : List FrameState) (state : FrameState) → IsSound next × (seen z.held kept ≡ slice_set (seen z.held z.kept.items) frame state) → IsSound next × (seen z.held kept ≡ slice_set now.states frame state)
-  shown kept state put = (put.0, put.1 ∙ ap (λ (frames : Frames). slice_set frames.states frame state) view)
+  pub way_isnt_source : way_at now.states frame ≡ true → set.contains z.candidates.sources.members frame ≡ false
+  way_isnt_source way = sound.sources frame ∙ way_not_source was flag (seen_test is_way_state way)
 
-  free_inserted : (free : set.FinSet nat_cmp) → free ≡ set.insert z.free frame → (n : ℕ) → set.contains free n ≡ (if nat_eq n frame then true else set.contains z.free n)
-  free_inserted free now n = ap (λ s. set.contains s n) now ∙ member_insert z.free frame n ∙ insert_if (nat_eq n frame) (set.contains z.free n) true refl
+  pub way_isnt_stuck : way_at now.states frame ≡ true → stuck_at (seen z.held.members z.kept.items) z.movable.items frame ≡ false
+  way_isnt_stuck way = (way_only was flag (seen_test is_way_state way)).2
 
-  free_removed : (free : set.FinSet nat_cmp) → free ≡ set.remove z.free frame → (n : ℕ) → set.contains free n ≡ (if nat_eq n frame then false else set.contains z.free n)
-  free_removed free now n = ap (λ s. set.contains s n) now ∙ member_remove z.free frame n ∙ remove_if (nat_eq n frame) (set.contains z.free n) false refl
+  -- a frame that is handed out is stuck and not free
+  pub huge_isnt_free : huge_at now.states frame ≡ true → set.contains z.free.members frame ≡ false
+  huge_isnt_free huge = sound.free frame ∙ huge_not_free was (seen_test is_huge_state huge)
 
-  module _ (kept : FixedVec FrameState) (index : ℕ) (at : index ≡ frame) where
-    -- a frame with a movable page becomes a source
-    pub sound_to_source : (serial : ℕ) → holds_at now.states frame ≡ true → true_at now.movable frame ≡ true → kept.items ≡ slice_set z.kept.items index (Source serial) → IsSound (record z { kept = kept }) × (seen z.held kept.items ≡ slice_set now.states frame (Source serial))
-    sound_to_source serial page movable items =
-        let is_movable = ap (λ (frames : Frames). true_at frames.movable frame) view ∙ movable in
-        shown _ _ (sound_put z sound kept z.free z.stuck frame index (Source serial) false false (page_only was (seen_test is_holding_state page)).0 refl (is_within is_holding_state refl page) at items refl refl
-        (λ n. keep_if n frame (set.contains z.free) false (page_isnt_free page))
-        (λ n. keep_if n frame (set.contains z.stuck) false (sound.stuck frame ∙ stuck_if_page was (true_at z.movable.items frame) (seen_test is_holding_state page) ∙ ap not is_movable)))
+  flag_read : frame < length z.kept.items → slice_get z.movable.items frame ≡ Some flag
+  flag_read within =
+      let read = slice_get-get_or z.movable.items frame false (frame_flag z sound frame within) in
+      read ∙ ap Some (sym (ap (λ o. unwrap_or o false) read))
 
-    -- a free frame becomes a target
-    pub sound_to_target : (free : set.FinSet nat_cmp) (serial : ℕ) → free_at now.states frame ≡ true → free ≡ set.remove z.free frame → kept.items ≡ slice_set z.kept.items index (Target serial) → IsSound (record z { kept = kept; free = free }) × (seen z.held kept.items ≡ slice_set now.states frame (Target serial))
-    sound_to_target free serial is_free now items =
-        shown _ _ (sound_put z sound kept free z.stuck frame index (Target serial) false false (free_not_huge was (seen_test is_free_state is_free)) refl (is_within is_free_state refl is_free) at items refl refl
-        (free_removed free now)
-        (λ n. keep_if n frame (set.contains z.stuck) false (free_stuck is_free)))
+  -- the flag that the list has is the flag that was read
+  pub flag_is : (index : ℕ) (read : Bool) → index ≡ frame → frame < length z.kept.items → read ≡ get_or z.movable.items index read → read ≡ flag
+  flag_is index read at within is = is ∙ ap (λ k. get_or z.movable.items k read) at ∙ sym (ap (λ o. unwrap_or o false) (slice_get-get_or z.movable.items frame read (frame_flag z sound frame within)))
 
-    -- the other frame of a page whose move ends is free
-    pub sound_left : (free : set.FinSet nat_cmp) → way_at now.states frame ≡ true → free ≡ set.insert z.free frame → kept.items ≡ slice_set z.kept.items index Free → IsSound (record z { kept = kept; free = free }) × (seen z.held kept.items ≡ slice_set now.states frame Free)
-    sound_left free way now items =
-        shown _ _ (sound_put z sound kept free z.stuck frame index Free true false (way_not_huge way) refl (is_within is_way_state refl way) at items refl refl
-        (free_inserted free now)
-        (λ n. keep_if n frame (set.contains z.stuck) false (way_isnt_stuck way)))
+  free_inserted : (free : Numbers) → free ≡ record z.free { members = set.insert z.free.members frame } → (n : ℕ) → set.contains free.members n ≡ (if nat_eq n frame then true else set.contains z.free.members n)
+  free_inserted free now n = ap (λ (s : Numbers). set.contains s.members n) now ∙ member_insert z.free.members frame n ∙ insert_if (nat_eq n frame) (set.contains z.free.members n) true refl
+
+  free_removed : (free : Numbers) → free ≡ record z.free { members = set.remove z.free.members frame } → (n : ℕ) → set.contains free.members n ≡ (if nat_eq n frame then false else set.contains z.free.members n)
+  free_removed free now n = ap (λ (s : Numbers). set.contains s.members n) now ∙ member_remove z.free.members frame n ∙ remove_if (nat_eq n frame) (set.contains z.free.members n) false refl
+
+  -- the fields are sound after a frame was given a state, and the states are seen with it
+  abbrev pub IsPut : FixedVec FrameState → FixedVec Bool → Numbers → Numbers → List ℕ → FrameState → Type 0
+  IsPut kept movable free sources stuck state = IsSound (record z { kept = kept; movable = movable; free = free; candidates = record { sources = sources; stuck = stuck } }) × (seen z.held.members kept.items ≡ slice_set now.states frame state)
+
+  module _ (index : ℕ) (at : index ≡ frame) where
+    put : (kept : FixedVec FrameState) (movable : FixedVec Bool) (free sources : Numbers) (stuck : List ℕ) (state : FrameState) (said was_stuck : Bool) → huge_at (seen z.held.members z.kept.items) frame ≡ false → is_huge_state (Some state) ≡ false → frame < length z.kept.items → kept.items ≡ slice_set z.kept.items index state → movable.items ≡ slice_set z.movable.items index said → ((n : ℕ) → set.contains free.members n ≡ (if nat_eq n frame then is_free_state (Some state) else set.contains z.free.members n)) → free.bound ≡ z.free.bound → ((n : ℕ) → set.contains sources.members n ≡ (if nat_eq n frame then is_source_state (Some state) said else set.contains z.candidates.sources.members n)) → sources.bound ≡ z.candidates.sources.bound → stuck_at (seen z.held.members z.kept.items) z.movable.items frame ≡ was_stuck → stuck ≡ recounted was_stuck (is_stuck_state (Some state) said) z.candidates.stuck (frame / 512) → IsPut kept movable free sources stuck state
+    put kept movable free sources stuck state said was_stuck known not_huge within items flags free_put free_same sources_put sources_same was_is recounts =
+        let done = sound_put z sound kept movable free sources stuck frame index state said was_stuck known not_huge within at items flags free_put free_same sources_put sources_same was_is recounts in
+        (done.0, done.1 ∙ ap (λ (frames : Frames). slice_set frames.states frame state) view)
+
+    flag_stays : frame < length z.kept.items → z.movable.items ≡ slice_set z.movable.items index flag
+    flag_stays within = set_same z.movable.items frame flag (frame_flag z sound frame within) (flag_read within) ∙ ap (λ k. slice_set z.movable.items k flag) (sym at)
+
+    -- a page is put into a free frame
+    pub sound_filled : (kept : FixedVec FrameState) (movable : FixedVec Bool) (free sources : Numbers) (stuck : List ℕ) (page : ℕ) (said : Bool) → free_at now.states frame ≡ true → kept.items ≡ slice_set z.kept.items index (Holds page) → movable.items ≡ slice_set z.movable.items index said → free ≡ record z.free { members = set.remove z.free.members frame } → ((n : ℕ) → set.contains sources.members n ≡ (if nat_eq n frame then said else set.contains z.candidates.sources.members n)) → sources.bound ≡ z.candidates.sources.bound → stuck ≡ recounted false (not said) z.candidates.stuck (frame / 512) → IsPut kept movable free sources stuck (Holds page)
+    sound_filled kept movable free sources stuck page said is_free items flags removed sources_put sources_same recounts =
+        put kept movable free sources stuck (Holds page) said false (free_not_huge was (seen_test is_free_state is_free)) refl (is_within is_free_state refl is_free) items flags (free_removed free removed) (ap (λ (s : Numbers). s.bound) removed) sources_put sources_same (free_isnt_stuck is_free) recounts
+
+    -- a page's move ends in one of its two frames
+    pub sound_settled : (kept : FixedVec FrameState) (movable : FixedVec Bool) (sources : Numbers) (stuck : List ℕ) (page : ℕ) (said : Bool) → way_at now.states frame ≡ true → kept.items ≡ slice_set z.kept.items index (Holds page) → movable.items ≡ slice_set z.movable.items index said → ((n : ℕ) → set.contains sources.members n ≡ (if nat_eq n frame then said else set.contains z.candidates.sources.members n)) → sources.bound ≡ z.candidates.sources.bound → stuck ≡ recounted false (not said) z.candidates.stuck (frame / 512) → IsPut kept movable z.free sources stuck (Holds page)
+    sound_settled kept movable sources stuck page said way items flags sources_put sources_same recounts =
+        put kept movable z.free sources stuck (Holds page) said false (way_only was flag (seen_test is_way_state way)).0 refl (is_within is_way_state refl way) items flags (λ n. keep_if n frame (set.contains z.free.members) false (way_isnt_free way)) refl sources_put sources_same (way_isnt_stuck way) recounts
 
     -- the page of a frame goes out of use, and the frame is free
-    pub sound_emptied : (free stuck : set.FinSet nat_cmp) → holds_at now.states frame ≡ true → free ≡ set.insert z.free frame → ((n : ℕ) → set.contains stuck n ≡ (if nat_eq n frame then false else set.contains z.stuck n)) → kept.items ≡ slice_set z.kept.items index Free → IsSound (record z { kept = kept; free = free; stuck = stuck }) × (seen z.held kept.items ≡ slice_set now.states frame Free)
-    sound_emptied free stuck page now put items =
-        shown _ _ (sound_put z sound kept free stuck frame index Free true false (page_only was (seen_test is_holding_state page)).0 refl (is_within is_holding_state refl page) at items refl refl
-        (free_inserted free now) put)
+    pub sound_emptied : (kept : FixedVec FrameState) (free sources : Numbers) (stuck : List ℕ) (read : Bool) → holds_at now.states frame ≡ true → kept.items ≡ slice_set z.kept.items index Free → free ≡ record z.free { members = set.insert z.free.members frame } → read ≡ flag → ((n : ℕ) → set.contains sources.members n ≡ (if nat_eq n frame then false else set.contains z.candidates.sources.members n)) → sources.bound ≡ z.candidates.sources.bound → stuck ≡ recounted (not read) false z.candidates.stuck (frame / 512) → IsPut kept z.movable free sources stuck Free
+    sound_emptied kept free sources stuck read page items inserted is_flag sources_put sources_same recounts =
+        put kept z.movable free sources stuck Free flag (not read) (page_only was (seen_test is_holding_state page)).0 refl (is_within is_holding_state refl page) items (flag_stays (is_within is_holding_state refl page)) (free_inserted free inserted) (ap (λ (s : Numbers). s.bound) inserted) sources_put sources_same (page_is_stuck page ∙ ap not (sym is_flag)) recounts
 
-    module _ (list : FixedVec Bool) (movable : Bool) (stuck : set.FinSet nat_cmp) (list_items : list.items ≡ slice_set z.movable.items index movable) (put : (n : ℕ) → set.contains stuck n ≡ (if nat_eq n frame then not movable else set.contains z.stuck n)) where
-      noted : (f : Option FrameState → Bool) → f None ≡ false → f was ≡ true → is_stuck_state was movable ≡ false → set.contains z.stuck frame ≡ false → IsSound (record z { movable = list })
-      noted f none is not_stuck out =
-          let some = some_state f was none is in
-          sound_marked z sound list z.stuck frame index some.0 false movable (known_within z sound f frame none is) at list_items some.1 (sym not_stuck ∙ ap (λ o. is_stuck_state o movable) some.1)
-          (λ n. keep_if n frame (set.contains z.stuck) false out)
+    -- a frame with a movable page becomes a source
+    pub sound_to_source : (kept : FixedVec FrameState) (sources : Numbers) (serial : ℕ) → holds_at now.states frame ≡ true → true_at now.movable frame ≡ true → kept.items ≡ slice_set z.kept.items index (Source serial) → sources ≡ record z.candidates.sources { members = set.remove z.candidates.sources.members frame } → IsPut kept z.movable z.free sources z.candidates.stuck (Source serial)
+    sound_to_source kept sources serial page can_move items removed =
+        let within = is_within is_holding_state refl page in
+        let is_movable = ap (λ (frames : Frames). true_at frames.movable frame) view ∙ can_move in
+        put kept z.movable z.free sources z.candidates.stuck (Source serial) flag false (page_only was (seen_test is_holding_state page)).0 refl within items (flag_stays within)
+        (λ n. keep_if n frame (set.contains z.free.members) false (page_isnt_free page)) refl
+        (λ n. ap (λ (s : Numbers). set.contains s.members n) removed ∙ member_remove z.candidates.sources.members frame n ∙ remove_if (nat_eq n frame) (set.contains z.candidates.sources.members n) false refl)
+        (ap (λ (s : Numbers). s.bound) removed) (page_is_stuck page ∙ ap not is_movable) refl
 
-      is_noted : frame < length z.kept.items → not movable ≡ not (true_at list.items frame)
-      is_noted within =
-          ap not (sym (ap (λ (xs : List Bool). true_at xs frame) (list_items ∙ ap (λ k. slice_set z.movable.items k movable) at) ∙ ap (λ o. unwrap_or o false) (slice_get_set_same z.movable.items frame frame movable refl (omega (arith, sound.movable, within)))))
+    -- a free frame becomes a target
+    pub sound_to_target : (kept : FixedVec FrameState) (free : Numbers) (serial : ℕ) → free_at now.states frame ≡ true → kept.items ≡ slice_set z.kept.items index (Target serial) → free ≡ record z.free { members = set.remove z.free.members frame } → IsPut kept z.movable free z.candidates.sources z.candidates.stuck (Target serial)
+    sound_to_target kept free serial is_free items removed =
+        let within = is_within is_free_state refl is_free in
+        put kept z.movable free z.candidates.sources z.candidates.stuck (Target serial) flag false (free_not_huge was (seen_test is_free_state is_free)) refl within items (flag_stays within)
+        (free_removed free removed) (ap (λ (s : Numbers). s.bound) removed)
+        (λ n. keep_if n frame (set.contains z.candidates.sources.members) false (free_isnt_source is_free)) refl (free_isnt_stuck is_free) refl
 
-      -- a page's move ends in one of its two frames
-      pub sound_settled : (page : ℕ) → way_at now.states frame ≡ true → kept.items ≡ slice_set z.kept.items index (Holds page) → IsSound (record z { kept = kept; movable = list; stuck = stuck }) × (seen z.held kept.items ≡ slice_set now.states frame (Holds page))
-      sound_settled page way items =
-          let within = is_within is_way_state refl way in
-          let seen_way = seen_test is_way_state way in
-          shown _ _ (sound_put (record z { movable = list }) (noted is_way_state refl seen_way (way_only was movable seen_way).2 (way_isnt_stuck way)) kept z.free stuck frame index (Holds page) false (not movable) (way_not_huge way) refl within at items refl (is_noted within)
-          (λ n. keep_if n frame (set.contains z.free) false (way_isnt_free way)) put)
-
-      -- a page is put into a free frame
-      pub sound_filled : (free : set.FinSet nat_cmp) (page : ℕ) → free_at now.states frame ≡ true → free ≡ set.remove z.free frame → kept.items ≡ slice_set z.kept.items index (Holds page) → IsSound (record z { kept = kept; movable = list; free = free; stuck = stuck }) × (seen z.held kept.items ≡ slice_set now.states frame (Holds page))
-      sound_filled free page is_free now items =
-          let within = is_within is_free_state refl is_free in
-          let seen_free = seen_test is_free_state is_free in
-          shown _ _ (sound_put (record z { movable = list }) (noted is_free_state refl seen_free (free_not_stuck was movable seen_free) (free_stuck is_free)) kept free stuck frame index (Holds page) false (not movable) (free_not_huge was seen_free) refl within at items refl (is_noted within)
-          (free_removed free now) put)
+    -- the other frame of a page whose move ends is free
+    pub sound_left : (kept : FixedVec FrameState) (free : Numbers) → way_at now.states frame ≡ true → kept.items ≡ slice_set z.kept.items index Free → free ≡ record z.free { members = set.insert z.free.members frame } → IsPut kept z.movable free z.candidates.sources z.candidates.stuck Free
+    sound_left kept free way items inserted =
+        let within = is_within is_way_state refl way in
+        put kept z.movable free z.candidates.sources z.candidates.stuck Free flag false (way_only was flag (seen_test is_way_state way)).0 refl within items (flag_stays within)
+        (free_inserted free inserted) (ap (λ (s : Numbers). s.bound) inserted)
+        (λ n. keep_if n frame (set.contains z.candidates.sources.members) false (way_isnt_source way)) refl (way_isnt_stuck way) refl
 
     -- it is noted of a page that stays in its frame whether it may be taken from it
-    pub sound_said : (list : FixedVec Bool) (movable : Bool) (stuck : set.FinSet nat_cmp) → holds_at now.states frame ≡ true → list.items ≡ slice_set z.movable.items index movable → ((n : ℕ) → set.contains stuck n ≡ (if nat_eq n frame then not movable else set.contains z.stuck n)) → IsSound (record z { movable = list; stuck = stuck })
-    sound_said list movable stuck page items put =
-        let seen_page = seen_test is_holding_state page in
-        let some = some_state is_holding_state was refl seen_page in
-        sound_marked z sound list stuck frame index some.0 (not movable) movable (is_within is_holding_state refl page) at items some.1 (sym (stuck_if_page was movable seen_page) ∙ ap (λ o. is_stuck_state o movable) some.1) put
+    pub sound_said : (movable : FixedVec Bool) (sources : Numbers) (stuck : List ℕ) (said : Bool) → holds_at now.states frame ≡ true → movable.items ≡ slice_set z.movable.items index said → ((n : ℕ) → set.contains sources.members n ≡ (if nat_eq n frame then said else set.contains z.candidates.sources.members n)) → sources.bound ≡ z.candidates.sources.bound → stuck ≡ recounted (not flag) (not said) z.candidates.stuck (frame / 512) → IsSound (record z { movable = movable; candidates = record { sources = sources; stuck = stuck } })
+    sound_said movable sources stuck said page flags sources_put sources_same recounts =
+        let within = is_within is_holding_state refl page in
+        let is = page_of was (seen_test is_holding_state page) in
+        let unheld = not_held z sound frame (page_only was (seen_test is_holding_state page)).0 in
+        let kept_is : slice_get z.kept.items frame ≡ Some (Holds is.0) = ap (λ b. seen_state b (slice_get z.kept.items frame)) (sym unheld) ∙ sym (seen_get (set.contains z.held.members) z.kept.items frame) ∙ is.1 in
+        let stays = set_same z.kept.items frame (Holds is.0) within kept_is ∙ ap (λ k. slice_set z.kept.items k (Holds is.0)) (sym at) in
+        (put z.kept movable z.free sources stuck (Holds is.0) said (not flag) (page_only was (seen_test is_holding_state page)).0 refl within stays flags
+        (λ n. keep_if n frame (set.contains z.free.members) false (page_isnt_free page)) refl sources_put sources_same (page_is_stuck page) recounts).0
+
+    -- what is said of the page was known
+    pub sound_known : (movable : FixedVec Bool) (said : Bool) → holds_at now.states frame ≡ true → movable.items ≡ slice_set z.movable.items index said → said ≡ flag → IsSound (record z { movable = movable })
+    sound_known movable said page flags known =
+        sound_said movable z.candidates.sources z.candidates.stuck said page flags (λ n. keep_if n frame (set.contains z.candidates.sources.members) said (page_is_source page ∙ sym known)) refl (unchanged (not flag) ∙ ap (λ b. recounted (not flag) (not b) z.candidates.stuck (frame / 512)) (sym known))
+      where
+        unchanged : (b : Bool) → z.candidates.stuck ≡ recounted b b z.candidates.stuck (frame / 512)
+        unchanged true = refl
+        unchanged false = refl
 
 -- the frames of a block are handed out or taken back
-module _ {now : Frames} (z : Inside) (sound : IsSound z) (view : frames_of z ≡ now) (first order : ℕ) where
-  block_within : has_block now.states order first ≡ true → first + 2 ^ order ≤ length z.kept.items
+module _ {L : ℕ} {now : Frames} (z : Inside L) (sound : IsSound z) (view : frames_of z ≡ now) (first order : ℕ) where
+  pub block_within : has_block now.states order first ≡ true → first + 2 ^ order ≤ length z.kept.items
   block_within here =
       let parts = both (is_aligned order first) (nat_le (first + 2 ^ order) (length now.states)) here in
       omega (arith, leb-true (first + 2 ^ order) (length now.states) parts.1, ap (λ (frames : Frames). length frames.states) view, seen_length z sound)
 
-  pub block_first : has_block now.states order first ≡ true → first < 4096
-  block_first here =
-      let some : 0 < 2 ^ order = pow_pos order in
-      omega (arith, block_within here, some, sound.whole, sound.few)
+  pub block_aligned : has_block now.states order first ≡ true → is_aligned order first ≡ true
+  block_aligned here = (both (is_aligned order first) (nat_le (first + 2 ^ order) (length now.states)) here).0
 
-  pub run_first : is_run now.states order first ≡ true → first < 4096
-  run_first run = block_first (both _ (all_from (free_at now.states) first (2 ^ order)) run).0
+  pub run_block : is_run now.states order first ≡ true → has_block now.states order first ≡ true
+  run_block run = (both (has_block now.states order first) (all_from (free_at now.states) first (2 ^ order)) run).0
 
   pub run_free : is_run now.states order first ≡ true → (n : ℕ) → in_run first (2 ^ order) n ≡ true → free_at now.states n ≡ true
-  run_free run = all_pass (free_at now.states) first (2 ^ order) (both (has_block now.states order first) _ run).1
+  run_free run = all_pass (free_at now.states) first (2 ^ order) (both (has_block now.states order first) (all_from (free_at now.states) first (2 ^ order)) run).1
 
-  pub block_held : (held free stuck : set.FinSet nat_cmp) (number : ℕ) → number ≡ first → is_run now.states order first ≡ true → ((n : ℕ) → set.contains held n ≡ (in_run number (2 ^ order) n || set.contains z.held n)) → ((n : ℕ) → set.contains free n ≡ (not (in_run first (2 ^ order) n) && set.contains z.free n)) → ((n : ℕ) → set.contains stuck n ≡ (in_run first (2 ^ order) n || set.contains z.stuck n)) → IsSound (record z { held = held; free = free; stuck = stuck }) × (seen held z.kept.items ≡ with_run now.states first (2 ^ order) Huge)
-  block_held held free stuck number at run held_each free_each stuck_each =
-      let next = sound_held z sound held free stuck first (2 ^ order) (block_within (both _ (all_from (free_at now.states) first (2 ^ order)) run).0) (λ n inside. seen_test z sound view n is_free_state (run_free run n inside))
-      (λ n. held_each n ∙ ap (λ f. in_run f (2 ^ order) n || set.contains z.held n) at) free_each stuck_each in
-      (next.0, next.1 ∙ ap (λ (frames : Frames). with_run frames.states first (2 ^ order) Huge) view)
+  module _ (low : 3 ≤ order) (high : order ≤ 9) where
+    pub run_counted : has_block now.states order first ≡ true → first / 512 < length z.candidates.stuck
+    run_counted here = frame_block z sound first (omega (arith, block_within here, some_frames order low high))
 
-  pub block_released : (held free stuck : set.FinSet nat_cmp) (number : ℕ) → number ≡ first → has_block now.states order first ≡ true → all_from (huge_at now.states) first (2 ^ order) ≡ true → ((n : ℕ) → set.contains held n ≡ (not (in_run number (2 ^ order) n) && set.contains z.held n)) → ((n : ℕ) → set.contains free n ≡ (in_run first (2 ^ order) n || set.contains z.free n)) → ((n : ℕ) → set.contains stuck n ≡ (not (in_run first (2 ^ order) n) && set.contains z.stuck n)) → IsSound (record z { held = held; free = free; stuck = stuck }) × (seen held z.kept.items ≡ with_run now.states first (2 ^ order) Free)
-  block_released held free stuck number at here huge held_each free_each stuck_each =
-      let next = sound_released z sound held free stuck first (2 ^ order) (block_within here) (λ n inside. seen_test z sound view n is_huge_state (all_pass (huge_at now.states) first (2 ^ order) huge n inside))
-      (λ n. held_each n ∙ ap (λ f. not (in_run f (2 ^ order) n) && set.contains z.held n) at) free_each stuck_each in
-      (next.0, next.1 ∙ ap (λ (frames : Frames). with_run frames.states first (2 ^ order) Free) view)
+    pub run_most : has_block now.states order first ≡ true → slice_index z.candidates.stuck (first / 512) ≤ 512
+    run_most here = counted_most z.candidates.stuck _ (first / 512) sound.stuck (run_counted here)
+
+    -- a block of which no frame is stuck leaves room for its frames in its pageblock's count
+    pub run_room : is_run now.states order first ≡ true → slice_index z.candidates.stuck (first / 512) + 2 ^ order ≤ 512
+    run_room run =
+        let states = seen z.held.members z.kept.items in
+        room_more (stuck_at states z.movable.items) (λ n. in_run first (2 ^ order) n || stuck_at states z.movable.items n) first (2 ^ order) (one_block order low high first (block_aligned (run_block run)))
+        (record { none = λ n inside. free_isnt_stuck z sound view n (run_free run n inside); each = λ n. refl }) z.candidates.stuck (run_counted (run_block run)) sound.stuck
+
+    -- the count of a pageblock has the frames of a block of it that is handed out
+    pub run_stuck : has_block now.states order first ≡ true → all_from (huge_at now.states) first (2 ^ order) ≡ true → 2 ^ order ≤ slice_index z.candidates.stuck (first / 512)
+    run_stuck here huge =
+        let states = seen z.held.members z.kept.items in
+        room_fewer (λ n. not (in_run first (2 ^ order) n) && stuck_at states z.movable.items n) (stuck_at states z.movable.items) first (2 ^ order) (one_block order low high first (block_aligned here))
+        (takes_run (stuck_at states z.movable.items) (λ n. not (in_run first (2 ^ order) n) && stuck_at states z.movable.items n) first (2 ^ order)
+        (λ n inside. huge_stuck (slice_get states n) (true_at z.movable.items n) (seen_test z sound view n is_huge_state (all_pass (huge_at now.states) first (2 ^ order) huge n inside))) (λ n. refl))
+        z.candidates.stuck (run_counted here) sound.stuck
+
+    pub block_held : (held free : Numbers) (stuck : List ℕ) → is_run now.states order first ≡ true → ((n : ℕ) → set.contains held.members n ≡ (in_run first (2 ^ order) n || set.contains z.held.members n)) → held.bound ≡ z.held.bound → ((n : ℕ) → set.contains free.members n ≡ (not (in_run first (2 ^ order) n) && set.contains z.free.members n)) → free.bound ≡ z.free.bound → stuck ≡ with_more z.candidates.stuck (first / 512) (2 ^ order) → IsSound (record z { held = held; free = free; candidates = record z.candidates { stuck = stuck } }) × (seen held.members z.kept.items ≡ with_run now.states first (2 ^ order) Huge)
+    block_held held free stuck run held_each held_same free_each free_same recounts =
+        let next = sound_held z sound held free stuck first (2 ^ order) (block_within (run_block run)) (one_block order low high first (block_aligned (run_block run))) (some_frames order low high) (λ n inside. seen_test z sound view n is_free_state (run_free run n inside)) held_each held_same free_each free_same recounts in
+        (next.0, next.1 ∙ ap (λ (frames : Frames). with_run frames.states first (2 ^ order) Huge) view)
+
+    pub block_released : (held free : Numbers) (stuck : List ℕ) → has_block now.states order first ≡ true → all_from (huge_at now.states) first (2 ^ order) ≡ true → ((n : ℕ) → set.contains held.members n ≡ (not (in_run first (2 ^ order) n) && set.contains z.held.members n)) → held.bound ≡ z.held.bound → ((n : ℕ) → set.contains free.members n ≡ (in_run first (2 ^ order) n || set.contains z.free.members n)) → free.bound ≡ z.free.bound → stuck ≡ with_fewer z.candidates.stuck (first / 512) (2 ^ order) → IsSound (record z { held = held; free = free; candidates = record z.candidates { stuck = stuck } }) × (seen held.members z.kept.items ≡ with_run now.states first (2 ^ order) Free)
+    block_released held free stuck here huge held_each held_same free_each free_same recounts =
+        let next = sound_released z sound held free stuck first (2 ^ order) (block_within here) (one_block order low high first (block_aligned here)) (some_frames order low high) (λ n inside. seen_test z sound view n is_huge_state (all_pass (huge_at now.states) first (2 ^ order) huge n inside)) held_each held_same free_each free_same recounts in
+        (next.0, next.1 ∙ ap (λ (frames : Frames). with_run frames.states first (2 ^ order) Free) view)
 
 -- the frames of a zone in which all are free
-pub sound_free : (z : Inside) (blocks : ℕ) → 0 < blocks → blocks ≤ 8 → z.kept.items ≡ replicate (512 * blocks) Free → z.movable.items ≡ replicate (512 * blocks) false → z.held ≡ set.empty → z.stuck ≡ set.empty → ((n : ℕ) → set.contains z.free n ≡ free_at z.kept.items n) → IsSound z × (seen z.held z.kept.items ≡ replicate (512 * blocks) Free)
-sound_free z blocks some few kept movable held stuck free =
+pub sound_free : {L : ℕ} (z : Inside L) (blocks : ℕ) → 0 < blocks → blocks ≤ 8 → 512 * blocks ≤ 64 ^ L → z.kept.items ≡ replicate (512 * blocks) Free → z.movable.items ≡ replicate (512 * blocks) false → z.held.members ≡ set.empty → 512 * blocks ≤ z.held.bound → ((n : ℕ) → set.contains z.free.members n ≡ nat_lt n (512 * blocks)) → z.free.bound ≡ 512 * blocks → z.candidates.sources.members ≡ set.empty → 512 * blocks ≤ z.candidates.sources.bound → z.candidates.stuck ≡ replicate blocks 0 → IsSound z × (seen z.held.members z.kept.items ≡ replicate (512 * blocks) Free)
+sound_free z blocks some few levels kept movable held held_room free free_room sources sources_room stuck =
     let count : length z.kept.items ≡ 512 * blocks = ap length kept ∙ length-replicate (512 * blocks) Free in
     let movable_count : length z.movable.items ≡ 512 * blocks = ap length movable ∙ length-replicate (512 * blocks) false in
+    let stuck_count : length z.candidates.stuck ≡ blocks = ap length stuck ∙ length-replicate blocks 0 in
     let none = λ (n : ℕ). ap (λ s. set.contains s n) held ∙ set.contains-empty nat_cmp n in
-    let view = seen_none_held (set.contains z.held) z.kept.items none in
-    let each = λ (n : ℕ). ap (λ (xs : List FrameState). slice_get xs n) kept in (
+    let view = seen_none_held (set.contains z.held.members) z.kept.items none in
+    let each = λ (f : Option FrameState → Bool) (n : ℕ). ap (λ (xs : List FrameState). f (slice_get xs n)) (view ∙ kept) in (
       record {
         whole = omega arith;
         some = omega arith;
+        levels = omega (arith, count, levels);
         few = omega arith;
         movable = omega arith;
-        never_huge = λ n. ap is_huge_state (each n) ∙ free_state is_huge_state blocks n refl refl;
-        held = λ n e. absurd (clash (set.contains z.held n) e (none n));
-        free = λ n. free n ∙ ap (λ (xs : List FrameState). free_at xs n) (sym view);
-        stuck = λ n. ap (λ s. set.contains s n) stuck ∙ set.contains-empty nat_cmp n
-            ∙ sym (ap (λ (xs : List FrameState). is_stuck_state (slice_get xs n) (true_at z.movable.items n)) view ∙ ap (λ o. is_stuck_state o (true_at z.movable.items n)) (each n) ∙ free_state (λ o. is_stuck_state o (true_at z.movable.items n)) blocks n refl refl);
+        never_huge = λ n. ap (λ (xs : List FrameState). huge_at xs n) kept ∙ no_free is_huge_state blocks n refl refl;
+        held = λ n e. absurd (clash (set.contains z.held.members n) e (none n));
+        held_room = omega (arith, count, held_room);
+        free = λ n. free n ∙ sym (each is_free_state n ∙ all_free blocks n);
+        free_room = free_room ∙ sym count;
+        sources = λ n. ap (λ s. set.contains s n) sources ∙ set.contains-empty nat_cmp n
+            ∙ sym (each (λ o. is_source_state o (true_at z.movable.items n)) n ∙ no_free (λ o. is_source_state o (true_at z.movable.items n)) blocks n refl refl);
+        sources_room = omega (arith, count, sources_room);
+        stuck = none_counted (stuck_at (seen z.held.members z.kept.items) z.movable.items) blocks z.candidates.stuck
+            (λ n. each (λ o. is_stuck_state o (true_at z.movable.items n)) n ∙ no_free (λ o. is_stuck_state o (true_at z.movable.items n)) blocks n refl refl) stuck;
+        stuck_blocks = omega (arith, stuck_count, count);
       },
       view ∙ kept,
     )
   where
-    free_state : (f : Option FrameState → Bool) (blocks n : ℕ) → f (Some Free) ≡ false → f None ≡ false → f (slice_get (replicate (512 * blocks) Free) n) ≡ false
-    free_state f blocks n free none = elim (leb_tells (512 * blocks) n) [
+    no_free : (f : Option FrameState → Bool) (blocks n : ℕ) → f (Some Free) ≡ false → f None ≡ false → f (slice_get (replicate (512 * blocks) Free) n) ≡ false
+    no_free f blocks n free none = elim (leb_tells (512 * blocks) n) [
       | inl past ↦ (ap f (slice_get_past (replicate (512 * blocks) Free) n (omega (arith, past.1, length-replicate (512 * blocks) Free))) ∙ none)
       | inr under ↦ (ap f (slice_get_replicate (512 * blocks) n Free under.1) ∙ free)
+    ]
+
+    all_free : (blocks n : ℕ) → is_free_state (slice_get (replicate (512 * blocks) Free) n) ≡ nat_lt n (512 * blocks)
+    all_free blocks n = elim (leb_tells (512 * blocks) n) [
+      | inl past ↦ (ap is_free_state (slice_get_past (replicate (512 * blocks) Free) n (omega (arith, past.1, length-replicate (512 * blocks) Free))) ∙ sym (le-ltb n (512 * blocks) past.1))
+      | inr under ↦ (ap is_free_state (slice_get_replicate (512 * blocks) n Free under.1) ∙ sym (lt-ltb n (512 * blocks) under.1))
     ]

@@ -1,12 +1,9 @@
 -- Sets of frames.
-use Rattle.std.specs.Prelude.{◌≡◌, ℕ, ◌*◌, ◌^◌, ◌<◌, Bool, ◌&&◌, List, length, slice_get, Some}
-use Rattle.frame_core.specs.Below.{count_below, count_from}
+use Rattle.std.specs.Prelude.{◌≡◌, ℕ, ◌*◌, ◌^◌, ◌≤◌, Bool, false, ◌&&◌, List, length}
+use Rattle.frame_core.specs.Below.{count_below}
 use Rattle.frame_core.specs.Order.{is_aligned}
-use Rattle.scan_core.specs.NumberSet.{all_from, capacity}
-
--- how many frames of a pageblock pass
-abbrev pub count_in_block : (ℕ → Bool) → ℕ → ℕ
-count_in_block p block = count_from p (512 * block) 512
+use Rattle.scan_core.specs.BlockCounts.{CountsEach}
+use Rattle.scan_core.specs.NumberSet.{all_from}
 
 -- whether all frames of a pageblock pass
 abbrev pub all_of_block : (ℕ → Bool) → ℕ → Bool
@@ -16,8 +13,8 @@ all_of_block p block = all_from p (512 * block) 512
 abbrev pub is_run_of : (ℕ → Bool) → ℕ → ℕ → Bool
 is_run_of p order first = is_aligned order first && all_from p first (2 ^ order)
 
--- the count of the frames that pass, in all, and in each of eight pageblocks
+-- the count of the frames that pass, in all and in each pageblock: no frame past the pageblocks passes
 pub record Counts (count : ℕ) (blocks : List ℕ) (p : ℕ → Bool) : Type 0 where
-  pub all : count ≡ count_below p capacity
-  pub len : length blocks ≡ 8
-  pub each : (block : ℕ) → block < 8 → slice_get blocks block ≡ Some (count_in_block p block)
+  pub all : count ≡ count_below p (512 * length blocks)
+  pub each : CountsEach blocks p
+  pub none : (frame : ℕ) → 512 * length blocks ≤ frame → p frame ≡ false

@@ -40,6 +40,10 @@ is_way_state _ = false
 abbrev pub is_stuck_state : Option FrameState → Bool → Bool
 is_stuck_state state movable = is_huge_state state || (is_holding_state state && not movable)
 
+-- whether there is a frame, and it holds a movable page that isn't moving
+abbrev pub is_source_state : Option FrameState → Bool → Bool
+is_source_state state movable = is_holding_state state && movable
+
 -- whether a frame in the list is free
 abbrev pub free_at : List FrameState → ℕ → Bool
 free_at states frame = is_free_state (slice_get states frame)
@@ -59,6 +63,14 @@ way_at states frame = is_way_state (slice_get states frame)
 -- whether a list of booleans has true at a place
 abbrev pub true_at : List Bool → ℕ → Bool
 true_at flags place = unwrap_or (slice_get flags place) false
+
+-- whether a frame in the list is handed out, or holds a page that isn't movable
+abbrev pub stuck_at : List FrameState → List Bool → ℕ → Bool
+stuck_at states movable frame = is_stuck_state (slice_get states frame) (true_at movable frame)
+
+-- whether a frame in the list holds a movable page that isn't moving
+abbrev pub source_at : List FrameState → List Bool → ℕ → Bool
+source_at states movable frame = is_source_state (slice_get states frame) (true_at movable frame)
 
 -- how many frames are free
 abbrev pub free_frames : List FrameState → ℕ

@@ -1,5 +1,3 @@
-pub mod Bits
-pub mod BitsInside
 pub mod BlockCounts
 pub mod FrameSet
 pub mod FrameSetInside
@@ -9,4 +7,3 @@ pub mod Pairs
 pub mod Runs
 pub mod Seen
 pub mod Sound
-pub mod Spans

@@ -1,22 +1,13 @@
--- Sets of numbers below 4,096.
-use Rattle.std.specs.Prelude.{ℕ, zero, suc, ◌+◌, Bool, ◌&&◌, List, if◌then◌else◌, nat_eq, nat_le, nat_lt}
+-- Sets of numbers, and runs of numbers.
+use Rattle.std.specs.Prelude.{ℕ, zero, suc, ◌+◌, Bool, ◌&&◌, if◌then◌else◌, nat_eq, nat_le, nat_lt}
 use Rattle.std.specs.Ordering.{nat_cmp}
 use Rattle.std.specs.FinSet as set
 use Rattle.frame_core.specs.Below.{count_from}
-use Rattle.scan_core.specs.Bits.{has_number}
-
--- the bound of these sets: each number is below it
-unfoldable pub capacity : ℕ
-capacity = 4096
 
 -- the set of the numbers below n that pass
 abbrev pub gathered : (ℕ → Bool) → ℕ → set.FinSet nat_cmp
 gathered p zero = set.empty
 gathered p (suc n) = if p n then set.insert (gathered p n) n else gathered p n
-
--- the set of the numbers whose bits are set
-abbrev pub numbers_of : List ℕ → set.FinSet nat_cmp
-numbers_of words = gathered (has_number words) capacity
 
 -- whether a number is in a run: one of `count` numbers, from `first` upwards
 abbrev pub in_run : ℕ → ℕ → ℕ → Bool

@@ -1,11 +1,10 @@
 -- The states of frames: as they are kept, where the frames of blocks that are handed out are Free, and as they are seen, where these are
 -- Huge.
-use Rattle.std.specs.Prelude.{◌≡◌, ℕ, suc, Bool, List, [], ◌∷◌, if◌then◌else◌}
+use Rattle.std.specs.Prelude.{ℕ, suc, Bool, List, [], ◌∷◌, if◌then◌else◌}
 use Rattle.std.specs.Ordering.{nat_cmp}
 use Rattle.std.specs.FinSet as set
 use Rattle.frame_core.specs.declared.state.FrameState.{FrameState}
 use Rattle.frame_core.specs.declared.state.FrameState.TheVariants.{Huge}
-use Rattle.scan_core.specs.Frames.{free_at, holds_at}
 
 -- the states as they are seen, of a list whose first frame has this number: Huge where the frame is held, and else as they are kept
 abbrev pub seen_from : (ℕ → Bool) → ℕ → List FrameState → List FrameState
@@ -15,8 +14,3 @@ seen_from held number (state ∷ rest) = (if held number then Huge else state) �
 -- the states of all frames as they are seen, given the set of those that are held
 abbrev pub seen : set.FinSet nat_cmp → List FrameState → List FrameState
 seen held kept = seen_from (set.contains held) 0 kept
-
--- a list and a set tell the states: the list has the pages that frames hold, and the set has the free frames
-pub record IsTold (states holders : List FrameState) (spare : set.FinSet nat_cmp) : Type 0 where
-  pub holds : (frame : ℕ) → holds_at holders frame ≡ holds_at states frame
-  pub free : (frame : ℕ) → set.contains spare frame ≡ free_at states frame

@@ -1,4 +1,5 @@
-ghost use Rattle.std.specs.Prelude.{◌≡◌};
+ghost use Rattle.std.specs.Prelude.{◌≡◌, ◌+◌};
+ghost use Rattle.scan_core.specs.declared.fingers.Step.TheVariants.{Pair};
 
 use frame_core::FrameNo;
 
@@ -30,6 +31,17 @@ impl Fingers {
             migrate: 0,
             free: frames,
         }
+    }
+
+    /// Passes over a pair: the migrate scanner stands one above the source then, and the free scanner at the target.
+    #[inline(always)]
+    pub(crate) fn pass(&mut self, source: FrameNo, target: FrameNo) -> Step
+        ensures step { result ≡ Pair source target }
+        ensures fingers { self.new ≡ record { migrate = source + 1; free = target } }
+    {
+        self.migrate = source.get() + 1;
+        self.free = target.get();
+        Step::Pair { source, target }
     }
 }
 

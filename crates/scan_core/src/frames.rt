@@ -6,27 +6,27 @@ ghost use Rattle.scan_core.specs.NumberSet.{all_from};
 ghost use Rattle.scan_core.specs.Pairs.{after_step, is_stuck, next_step, Finds};
 ghost use Rattle.scan_core.specs.Runs.{first_run, has_block, is_run, with_run};
 
+use crate::candidates::Candidates;
 use crate::fingers::{Fingers, Step};
 use crate::frame_set::FrameSet;
-use crate::numbers::NumberSet;
-use crate::{lists, pair};
+use crate::{lists, scanners};
 use frame_core::{FixedVec, FrameNo, FrameState, Order, PageNo, Serial};
+use number_set::NumberSet;
 use std::alloc::{AllocError, Global};
 use std::marker::Model;
 
-/// The states of a zone's frames, with sets and counts of them.
+/// The states of a zone's frames, with sets and counts of them. The sets have `L` levels, 2 to 4: a zone has 64^L frames at most.
 #[derive(Drop)]
-pub struct Frames {
+pub struct Frames<const L: usize> {
     /// The state of each frame. A frame of a block that is handed out stands here as free, and is a member of `held`.
     kept: FixedVec<FrameState>,
     movable: FixedVec<bool>,
-    held: NumberSet,
-    free: FrameSet,
-    /// The frames that are handed out, and those with a page that may not be taken from them.
-    stuck: FrameSet,
+    held: NumberSet<L>,
+    free: FrameSet<L>,
+    candidates: Candidates<L>,
 }
 
-impl Model for Frames {
+impl<const L: usize> Model for Frames<L> {
     ghost use Rattle.scan_core.specs.Frames.{Frames as Seen};
 
     ghost Value = { Seen };
@@ -38,25 +38,29 @@ impl Model for Frames {
     ghost invariant = { IsSound };
 }
 
-impl Frames {
+impl<const L: usize> Frames<L> {
     /// The frames of this many pageblocks, 1 to 8, each frame free, or an error where there is no memory for them. No
     /// other call takes memory.
-    pub fn open(alloc: Global, blocks: u32) -> Result<Frames, AllocError>
+    pub fn open(alloc: Global, blocks: u32) -> Result<Self, AllocError>
+        requires levels { (2 ≤ L) × (L ≤ 4) }
         requires some { 0 < blocks }
+        requires room { 512 * blocks ≤ 64 ^ L }
         requires few { blocks ≤ 8 }
         ensures open { IfOk result (λ frames. frames ≡ all_free blocks) }
         ensures frames { IfOk result (λ frames. length frames.states ≡ 512 * blocks) }
     {
-        let count = 512 * blocks as usize;
-        let kept = FixedVec::filled(alloc, FrameState::Free, count)?;
-        let movable = FixedVec::filled(alloc, false, count)?;
-        let free = FrameSet::of(&kept);
+        let count = 512 * blocks;
+        let kept = FixedVec::filled(alloc, FrameState::Free, count as usize)?;
+        let movable = FixedVec::filled(alloc, false, count as usize)?;
+        let held = NumberSet::open(alloc, count)?;
+        let free = FrameSet::full(alloc, blocks)?;
+        let candidates = Candidates::open(alloc, blocks)?;
         Ok(Frames {
             kept,
             movable,
-            held: NumberSet::new(),
+            held,
             free,
-            stuck: FrameSet::new(),
+            candidates,
         })
     }
 
@@ -66,6 +70,7 @@ impl Frames {
         ensures whole { result ≡ 512 * blocks_of self.now.states }
         ensures some { 0 < result }
         ensures few { result ≤ 4096 }
+        ensures levels { result ≤ 64 ^ L }
         ensures movable { length self.now.movable ≡ length self.now.states }
     {
         self.kept.len() as u32
@@ -77,6 +82,7 @@ impl Frames {
         ensures frames { length self.now.states ≡ 512 * result }
         ensures some { 0 < result }
         ensures few { result ≤ 8 }
+        ensures levels { 512 * result ≤ 64 ^ L }
     {
         self.len() / 512
     }
@@ -110,7 +116,7 @@ impl Frames {
     {
         let index = frame.get() as usize;
         self.free.remove(frame);
-        self.stuck.insert_if(frame, !movable);
+        self.candidates.add(frame, movable);
         self.movable[index] = movable;
         self.kept[index] = FrameState::Holds(page);
     }
@@ -122,9 +128,10 @@ impl Frames {
         ensures state { self.new ≡ record self.old { states = slice_set self.old.states frame Free } }
         ensures frames { length self.new.states ≡ length self.old.states }
     {
+        let index = frame.get() as usize;
         self.free.insert(frame);
-        self.stuck.set_member(frame, false);
-        self.kept[frame.get() as usize] = FrameState::Free;
+        self.candidates.remove(frame, self.movable[index]);
+        self.kept[index] = FrameState::Free;
     }
 
     /// Makes a frame with a movable page the source of that page's move.
@@ -135,6 +142,7 @@ impl Frames {
         ensures state { self.new ≡ record self.old { states = slice_set self.old.states frame (Source serial) } }
         ensures frames { length self.new.states ≡ length self.old.states }
     {
+        self.candidates.sources.remove(frame.get());
         self.kept[frame.get() as usize] = FrameState::Source(serial);
     }
 
@@ -157,7 +165,7 @@ impl Frames {
         ensures frames { length self.new.states ≡ length self.old.states }
     {
         let index = frame.get() as usize;
-        self.stuck.insert_if(frame, !can_move);
+        self.candidates.add(frame, can_move);
         self.movable[index] = can_move;
         self.kept[index] = FrameState::Holds(page);
     }
@@ -211,8 +219,12 @@ impl Frames {
         ensures movable { self.new ≡ record self.old { movable = slice_set self.old.movable frame movable } }
         ensures frames { length self.new.movable ≡ length self.old.movable }
     {
-        self.stuck.set_member(frame, !movable);
-        self.movable[frame.get() as usize] = movable;
+        let index = frame.get() as usize;
+        let could_move = self.movable[index];
+        self.movable[index] = movable;
+        if could_move != movable {
+            self.candidates.turn(frame, movable);
+        }
     }
 
     /// The first frame of the lowest free block of an order, if there is one.
@@ -229,8 +241,10 @@ impl Frames {
         ensures { self.new ≡ record self.old { states = with_run self.old.states first (2 ^ order) Huge } }
     {
         self.free.remove_run(first, order);
-        self.stuck.insert_run(first, order);
-        self.held.insert_run(first.get(), order);
+        self.candidates
+            .stuck
+            .more(first.get() / 512, order.frames());
+        self.held.insert_run(first.get(), order.get());
     }
 
     /// Takes back the frames of a block, all of which are handed out.
@@ -239,15 +253,19 @@ impl Frames {
         requires huge { all_from (huge_at self.old.states) first (2 ^ order) ≡ true }
         ensures { self.new ≡ record self.old { states = with_run self.old.states first (2 ^ order) Free } }
     {
-        self.held.remove_run(first.get(), order);
-        self.stuck.remove_run(first, order);
+        self.held.remove_run(first.get(), order.get());
+        self.candidates
+            .stuck
+            .fewer(first.get() / 512, order.frames());
         self.free.insert_run(first, order);
     }
 
     /// The next pair between the fingers. After it the fingers stand one above its source and at its target; where there
-    /// is no pair they stay. They have to be in order, and in the zone.
+    /// is no pair they stay. They have to be in order, and in the zone;
+    /// `marked` has a place for each pageblock.
     #[inline(always)]
-    pub fn next_pair(&self, marked: &[bool; 8], fingers: &mut Fingers) -> Step
+    pub fn next_pair(&self, marked: &[bool], fingers: &mut Fingers) -> Step
+        requires marked { length self.now.states ≤ 512 * length marked.now }
         requires low { fingers.old.migrate ≤ fingers.old.free }
         requires high { fingers.old.free ≤ length self.now.states }
 
@@ -258,14 +276,21 @@ impl Frames {
         ensures low { fingers.new.migrate ≤ fingers.new.free }
         ensures high { fingers.new.free ≤ length self.now.states }
     {
+        let Some(source) = scanners::next_source(&self.candidates.sources, marked, *fingers) else {
+            return Step::Met;
+        };
         let free = self.free.numbers();
-        pair::next_told(&self.kept, free, &self.movable, marked, fingers)
+        let Some(target) = scanners::next_target(free, marked, *fingers, source) else {
+            return Step::Met;
+        };
+        fingers.pass(source, target)
     }
 
     /// Whether a frame of an unmarked pageblock is handed out, or holds a page that may not be taken from it.
-    pub fn is_any_stuck(&self, marked: &[bool; 8]) -> bool
+    pub fn is_any_stuck(&self, marked: &[bool]) -> bool
+        requires { length self.now.states ≤ 512 * length marked.now }
         ensures { result ≡ some_below (is_stuck self.now.states self.now.movable marked.now) (length self.now.states) }
     {
-        self.stuck.has_some_unmarked(marked)
+        self.candidates.stuck.has_some_unmarked(marked)
     }
 }

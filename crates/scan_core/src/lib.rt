@@ -4,18 +4,19 @@
 //! it. The sets and counts are private. The searches and counts are there for plain lists too.
 #![tactic(auto)]
 
-mod bits;
 mod blocks;
+mod candidates;
 mod fingers;
 mod frame_set;
 mod frames;
 mod lists;
-mod numbers;
 mod pair;
+mod scanners;
 
-pub use blocks::{BlockCounts, first_whole, whole_blocks};
 pub use fingers::{Fingers, Step};
-pub use frame_set::first_run;
-pub use frames::Frames;
-pub use numbers::NumberSet;
+pub use frames::Frames as FramesOf;
+pub use lists::{first_run, first_whole, whole_blocks};
 pub use pair::next_pair;
+
+/// The frames of a zone of eight pageblocks at most.
+pub type Frames = FramesOf<2>;

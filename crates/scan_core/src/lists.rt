@@ -1,10 +1,52 @@
 //! Questions about a list of frame states.
 
-ghost use Rattle.std.specs.Prelude.{◌≡◌, ◌/◌, ◌<◌, length, Some};
-ghost use Rattle.scan_core.specs.Frames.{is_free_state, free_in_block};
+ghost use Rattle.std.specs.Prelude.{◌≡◌, ◌+◌, ◌/◌, ◌<◌, ◌≤◌, length, Some};
+ghost use Rattle.frame_core.specs.Below.{count_below, count_from, lowest};
+ghost use Rattle.scan_core.specs.Frames.{blocks_of, free_at, is_free_state, is_whole};
 ghost use Rattle.scan_core.specs.Pairs.{is_marked};
+ghost use Rattle.scan_core.specs.Runs.{first_run, is_run};
 
-use frame_core::FrameState;
+use frame_core::{BlockNo, FrameNo, FrameState, Order};
+
+/// The first frame of the lowest free block of an order, if there is one, in a list of 4,096 frame states at most.
+pub fn first_run(frames: &[FrameState], order: Order) -> Option<FrameNo>
+    requires { length frames.now ≤ 4096 }
+    ensures { result ≡ first_run frames.now order }
+{
+    for first in 0..frames.len() {
+        if is_run(frames, first, order) {
+            return FrameNo::new(first as u32);
+        }
+    }
+    None
+}
+
+/// How many pageblocks have only free frames, in a list of 4,096 frame states at most.
+pub fn whole_blocks(frames: &[FrameState]) -> u32
+    requires { length frames.now ≤ 4096 }
+    ensures { result ≡ count_below (is_whole frames.now) (blocks_of frames.now) }
+{
+    let mut whole = 0;
+    for block in 0..frames.len() / 512 {
+        if is_whole(frames, block) {
+            whole += 1;
+        }
+    }
+    whole
+}
+
+/// The lowest pageblock that has only free frames, if there is one, in a list of 4,096 frame states at most.
+pub fn first_whole(frames: &[FrameState]) -> Option<BlockNo>
+    requires { length frames.now ≤ 4096 }
+    ensures { result ≡ lowest (is_whole frames.now) (blocks_of frames.now) }
+{
+    for block in 0..frames.len() / 512 {
+        if is_whole(frames, block) {
+            return BlockNo::new(block as u32);
+        }
+    }
+    None
+}
 
 /// Whether a frame in this state is free.
 pub fn is_free(state: &FrameState) -> bool
@@ -16,27 +58,42 @@ pub fn is_free(state: &FrameState) -> bool
     }
 }
 
-/// How many frames of a pageblock are free.
-pub fn count_free(frames: &[FrameState], block: usize) -> u32
-    requires { block < 8 }
-    ensures count { result ≡ free_in_block frames.now block }
-{
-    let first = 512 * block;
-    let mut count = 0;
-    for k in 0..512 {
-        if let Some(state) = frames.get(first + k) {
-            if is_free(state) {
-                count += 1;
-            }
-        }
-    }
-    count
-}
-
 /// Whether a frame is in a marked pageblock.
 pub fn is_marked(marked: &[bool], frame: usize) -> bool
     requires { frame / 512 < length marked.now }
     ensures { result ≡ is_marked marked.now frame }
 {
     marked[frame / 512]
+}
+
+/// Whether a block of an order may begin at a frame, and all of its frames are free.
+fn is_run(frames: &[FrameState], first: usize, order: Order) -> bool
+    requires few { length frames.now ≤ 4096 }
+    requires within { first < length frames.now }
+    ensures { result ≡ is_run frames.now order first }
+{
+    let count = order.frames() as usize;
+    first % count == 0 && first + count <= frames.len() && count_free(frames, first, count) == count
+}
+
+/// Whether all 512 frames of a pageblock are free.
+fn is_whole(frames: &[FrameState], block: usize) -> bool
+    requires { block < blocks_of frames.now }
+    ensures { result ≡ is_whole frames.now block }
+{
+    count_free(frames, 512 * block, 512) == 512
+}
+
+/// How many of this many frames, from `first` upwards, are free.
+fn count_free(frames: &[FrameState], first: usize, count: usize) -> usize
+    requires { first + count ≤ length frames.now }
+    ensures { result ≡ count_from (free_at frames.now) first count }
+{
+    let mut free = 0;
+    for k in 0..count {
+        if is_free(&frames[first + k]) {
+            free += 1;
+        }
+    }
+    free
 }

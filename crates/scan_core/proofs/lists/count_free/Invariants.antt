@@ -5,6 +5,6 @@ use Rattle.scan_core.proofs.lists.count_free.Given as goal
 
 abbrev pub invariant-loop-k : goal.invariant-loop-k
 invariant-loop-k l = record {
-  so_far : l.count ≡ count_below (λ k. free_at l.frames (l.first + k)) l.k;
-  few : l.count ≤ l.k;
+  so_far : l.free ≡ count_below (λ k. free_at l.frames (l.first + k)) l.k;
+  few : l.free ≤ l.k;
 }

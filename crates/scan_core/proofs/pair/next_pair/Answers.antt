@@ -1,20 +1,28 @@
-use Rattle.std.proofs.Common.{◌≡◌, ℕ, List, ◌∙◌, refl, ap}
-use Rattle.std.specs.Ordering.{nat_cmp}
-use Rattle.std.specs.FinSet as set
-use Rattle.frame_core.specs.declared.state.FrameState.{FrameState}
+use Rattle.std.proofs.Common.{◌∙◌, sym, subst, ap, arith}
 use Rattle.scan_core.specs.Frames.{free_at}
-use Rattle.scan_core.specs.Seen.{IsTold}
-use Rattle.scan_core.proofs.Pairing.{told_empty}
+use Rattle.scan_core.specs.Pairs.{Finds}
+use Rattle.scan_core.specs.declared.fingers.Fingers.{Fingers}
+use Rattle.scan_core.specs.declared.fingers.Step.{Step}
+use Rattle.scan_core.proofs.Pairing.{no_source, no_target, pair_found, target_between}
 use Rattle.scan_core.proofs.pair.next_pair.Goals as goal
 
-told : (frames : List FrameState) (free numbers : set.FinSet nat_cmp) → numbers ≡ free → ((frame : ℕ) → set.contains free frame ≡ free_at frames frame) → IsTold frames frames numbers
-told frames free numbers same each = record { holds = λ n. refl; free = λ n. ap (λ s. set.contains s n) same ∙ each n }
+pub returns-in_default-clause-pair : goal.returns-in_default-clause-pair
+returns-in_default-clause-pair c = no_source c.args.frames.now c.args.movable.now c.args.marked.now c.args.fingers.now (sym c.in_default.ensures)
 
-pub next_told-requires-clause-empty : goal.next_told-requires-clause-empty
-next_told-requires-clause-empty c = told_empty _ _ _ (told c.args.frames.now c.of.result c.numbers.result.now c.numbers.ensures c.of.ensures)
+pub returns-in_default-next_target-clause-pair : goal.returns-in_default-next_target-clause-pair
+returns-in_default-next_target-clause-pair c = no_target c.args.frames.now c.args.movable.now c.args.marked.now c.args.fingers.now c.in-Some.source (sym c.in-Some.ensures) (sym c.in_default-next_target.ensures)
 
 pub returns-clause-pair : goal.returns-clause-pair
-returns-clause-pair c = c.next_told.ensures.pair c.args.frames.now (told c.args.frames.now c.of.result c.numbers.result.now c.numbers.ensures c.of.ensures)
+returns-clause-pair c =
+    subst (λ (step : Step). Finds c.args.frames.now c.args.movable.now c.args.marked.now c.args.fingers.now step) (sym c.pass.ensures.step)
+    (pair_found c.args.frames.now c.args.movable.now c.args.marked.now c.args.fingers.now c.in-Some.source c.in-Some-next_target.target (sym c.in-Some.ensures) (sym c.in-Some-next_target.ensures))
 
-pub returns-clause-step : goal.returns-clause-step
-returns-clause-step c = c.next_told.ensures.step c.args.frames.now (told c.args.frames.now c.of.result c.numbers.result.now c.numbers.ensures c.of.ensures)
+pub returns-clause-low : goal.returns-clause-low
+returns-clause-low c =
+    let between = target_between (free_at c.args.frames.now) c.args.marked.now c.args.fingers.now c.in-Some.source c.in-Some-next_target.target (sym (c.in-Some-next_target.ensures)) in
+    omega (arith, between.0, ap (λ (f : Fingers). f.migrate) c.pass.ensures.fingers, ap (λ (f : Fingers). f.free) c.pass.ensures.fingers)
+
+pub returns-clause-high : goal.returns-clause-high
+returns-clause-high c =
+    let between = target_between (free_at c.args.frames.now) c.args.marked.now c.args.fingers.now c.in-Some.source c.in-Some-next_target.target (sym (c.in-Some-next_target.ensures)) in
+    omega (arith, between.1, c.requires.high, ap (λ (f : Fingers). f.free) c.pass.ensures.fingers)

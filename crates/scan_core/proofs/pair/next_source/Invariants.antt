@@ -1,13 +1,7 @@
-use Rattle.std.proofs.Common.{◌≡◌, ℕ, ◌-◌, ◌<◌, ◌≤◌, false}
+use Rattle.std.proofs.Common.{◌≡◌, ℕ, ◌<◌, false}
 use Rattle.std.specs.Prelude.{nat_le, ◌&&◌}
 use Rattle.scan_core.specs.Pairs.{is_source}
 use Rattle.scan_core.proofs.pair.next_source.Given as goal
 
-abbrev pub invariant-loop-next : goal.invariant-loop-next
-invariant-loop-next l = record {
-  low : l.fn.fingers.migrate ≤ l.next;
-  before : (k : ℕ) → k < l.next → (nat_le l.fn.fingers.migrate k && is_source l.holders l.movable l.marked k) ≡ false;
-}
-
-abbrev pub decreases-loop-next : goal.decreases-loop-next
-decreases-loop-next l = l.fn.fingers.free - l.next
+abbrev pub invariant-loop-frame : goal.invariant-loop-frame
+invariant-loop-frame l = (k : ℕ) → k < l.frame → (nat_le l.fn.fingers.migrate k && is_source l.frames l.movable l.marked k) ≡ false

@@ -4,4 +4,4 @@ use Rattle.scan_core.specs.Frames.{true_at}
 use Rattle.scan_core.proofs.blocks.BlockCounts.has_some_unmarked.Given as goal
 
 abbrev pub invariant-loop-block : goal.invariant-loop-block
-invariant-loop-block l = (k : ℕ) → k < l.block → (not (true_at l.marked k) && nat_lt 0 (slice_index l.self-inside.counts k)) ≡ false
+invariant-loop-block l = (k : ℕ) → k < l.block → (not (true_at l.marked k) && nat_lt 0 (slice_index l.self k)) ≡ false

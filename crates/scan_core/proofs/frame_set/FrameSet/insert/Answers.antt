@@ -1,25 +1,26 @@
-use Rattle.std.proofs.Common.{ap, ◌∙◌, slice_index, arith}
+use Rattle.std.proofs.Common.{◌<◌, ◌*◌, ◌^◌, ◌≡◌, length, true, ap, sym, ◌∙◌, arith}
+use Rattle.std.specs.Prelude.{not, ◌&&◌, ◌||◌}
 use Rattle.std.specs.FinSet as set
-use Rattle.scan_core.proofs.RunCounts.{room_more}
-use Rattle.scan_core.proofs.FrameSets.{set_more, inserts_one}
+use Rattle.number_set.specs.Numbers.{Numbers}
+use Rattle.scan_core.specs.NumberSet.{in_run}
+use Rattle.scan_core.proofs.FrameSets.{inserts_one}
+use Rattle.scan_core.proofs.SetSteps.{more_fits, more_room, set_more}
 use Rattle.scan_core.proofs.frame_set.FrameSet.insert.Goals as goal
 
 pub overflow_add-self : goal.overflow_add-self
-overflow_add-self c =
-    let adds = inserts_one c.self.inside.numbers c.insert.new.self c.args.frame c.get.result c.get.ensures.value (ap (λ s. set.contains s c.args.frame) c.self.view_is ∙ c.requires.out) c.insert.ensures in
-    let room = room_more (set.contains c.self.inside.numbers) (set.contains c.insert.new.self) c.args.frame 1 (omega (arith, c.requires.within)) (omega arith) adds c.self.inside.count c.self.inside.blocks c.self.invariant in
-    omega (arith, room.0)
+overflow_add-self g c =
+    let low : c.args.frame < 512 * length c.self.inside.blocks = omega (arith, ap (λ (s : Numbers). s.bound) c.self.view_is, c.requires.within) in
+    let adds = inserts_one c.self.inside.numbers.members c.insert.new.self.members c.args.frame c.get.result c.get.ensures.value (ap (λ (s : Numbers). set.contains s.members c.args.frame) c.self.view_is ∙ c.requires.none) (ap (λ (s : Numbers). s.members) c.insert.ensures) in
+    omega (arith, more_fits c.self.inside c.self.invariant c.insert.new.self c.args.frame c.get.result 1 low (omega arith) c.get.ensures.value adds)
 
-pub more-requires : goal.more-requires
-more-requires c =
-    let adds = inserts_one c.self.inside.numbers c.insert.new.self c.args.frame c.get.result c.get.ensures.value (ap (λ s. set.contains s c.args.frame) c.self.view_is ∙ c.requires.out) c.insert.ensures in
-    let room = room_more (set.contains c.self.inside.numbers) (set.contains c.insert.new.self) c.args.frame 1 (omega (arith, c.requires.within)) (omega arith) adds c.self.inside.count c.self.inside.blocks c.self.invariant in
-    omega (arith, room.1, ap (slice_index c.self.inside.blocks) c.block_of.ensures)
+pub more-requires-clause-most : goal.more-requires-clause-most
+more-requires-clause-most g c =
+    let low : c.args.frame < 512 * length c.self.inside.blocks = omega (arith, ap (λ (s : Numbers). s.bound) c.self.view_is, c.requires.within) in
+    let adds = inserts_one c.self.inside.numbers.members c.insert.new.self.members c.args.frame c.get.result c.get.ensures.value (ap (λ (s : Numbers). set.contains s.members c.args.frame) c.self.view_is ∙ c.requires.none) (ap (λ (s : Numbers). s.members) c.insert.ensures) in
+    more_room c.self.inside c.self.invariant c.insert.new.self c.args.frame c.get-2.result 1 low (omega arith) c.get-2.ensures.value adds
 
 pub invariant_of-self : goal.invariant_of-self
-invariant_of-self c =
-    let adds = inserts_one c.self.inside.numbers c.insert.new.self c.args.frame c.get.result c.get.ensures.value (ap (λ s. set.contains s c.args.frame) c.self.view_is ∙ c.requires.out) c.insert.ensures in
-    set_more c.self.inside.count c.self.inside.blocks c.more.new.self c.self.inside.numbers c.insert.new.self c.args.frame c.block_of.result 1 (omega (arith, c.requires.within)) c.block_of.ensures (omega arith) adds c.self.invariant c.more.ensures
-
-pub returns : goal.returns
-returns c = c.insert.ensures ∙ (λ i. set.insert (c.self.view_is i) (c.get.ensures.value i))
+invariant_of-self g c =
+    let low : c.args.frame < 512 * length c.self.inside.blocks = omega (arith, ap (λ (s : Numbers). s.bound) c.self.view_is, c.requires.within) in
+    let adds = inserts_one c.self.inside.numbers.members c.insert.new.self.members c.args.frame c.get.result c.get.ensures.value (ap (λ (s : Numbers). set.contains s.members c.args.frame) c.self.view_is ∙ c.requires.none) (ap (λ (s : Numbers). s.members) c.insert.ensures) in
+    set_more c.self.inside c.self.invariant c.insert.new.self c.args.frame c.get-2.result 1 low (omega arith) c.get-2.ensures.value adds c.more.new.self (ap (λ (s : Numbers). s.bound) c.insert.ensures) c.more.ensures

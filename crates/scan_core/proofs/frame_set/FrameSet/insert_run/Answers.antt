@@ -1,27 +1,44 @@
-use Rattle.std.proofs.Common.{◌^◌, ap, sym, ◌∙◌, slice_index, arith}
-use Rattle.std.specs.Prelude.{◌||◌}
+use Rattle.std.proofs.Common.{◌<◌, ◌≤◌, ◌+◌, ◌*◌, ◌%◌, ◌^◌, ◌≡◌, length, true, ap, sym, ◌∙◌, arith}
+use Rattle.std.specs.Prelude.{not, ◌&&◌, ◌||◌}
 use Rattle.std.specs.FinSet as set
+use Rattle.number_set.specs.Numbers.{Numbers}
 use Rattle.scan_core.specs.NumberSet.{in_run}
-use Rattle.scan_core.proofs.RunCounts.{room_more}
-use Rattle.scan_core.proofs.FrameSets.{set_more, inserts_run}
+use Rattle.scan_core.proofs.Orders.{no_rest, one_block, some_frames}
+use Rattle.scan_core.proofs.FrameSets.{inserts_run}
+use Rattle.scan_core.proofs.SetSteps.{more_fits, more_room, set_more}
 use Rattle.scan_core.proofs.frame_set.FrameSet.insert_run.Goals as goal
 
-pub overflow_add-self : goal.overflow_add-self
-overflow_add-self c =
-    let adds = inserts_run c.self.inside.numbers c.insert_run.new.self c.args.first c.get.result c.run_frames-frames.result c.get.ensures.value (λ k e. ap (λ s. set.contains s k) c.self.view_is ∙ c.requires.none k (ap (λ n. in_run c.args.first n k) (sym c.run_frames-frames.ensures.frames) ∙ e)) (λ k. c.insert_run.ensures k ∙ ap (λ n. in_run c.get.result n k || set.contains c.self.inside.numbers k) (sym c.run_frames-frames.ensures.frames)) in
-    let room = room_more (set.contains c.self.inside.numbers) (set.contains c.insert_run.new.self) c.args.first c.run_frames-frames.result (omega (arith, c.get.ensures.value, c.get.ensures.range)) c.run_frames-frames.ensures.block adds c.self.inside.count c.self.inside.blocks c.self.invariant in
-    omega (arith, room.0)
+pub insert_run-requires : goal.insert_run-requires
+insert_run-requires g c =
+    let count = ap (λ o. 2 ^ o) c.get-2.ensures.value in
+    (omega arith, (c.get-2.ensures.high, ((λ i. c.get.ensures.value i % count i) ∙ no_rest c.args.order c.frames-frames.ensures.low c.frames-frames.ensures.high c.args.first c.requires.aligned, omega (arith, count, c.get.ensures.value, c.requires.within, ap (λ (s : Numbers). s.bound) c.self.view_is, c.self.invariant.room))))
 
-pub more-requires : goal.more-requires
-more-requires c =
-    let adds = inserts_run c.self.inside.numbers c.insert_run.new.self c.args.first c.get.result c.run_frames-frames.result c.get.ensures.value (λ k e. ap (λ s. set.contains s k) c.self.view_is ∙ c.requires.none k (ap (λ n. in_run c.args.first n k) (sym c.run_frames-frames.ensures.frames) ∙ e)) (λ k. c.insert_run.ensures k ∙ ap (λ n. in_run c.get.result n k || set.contains c.self.inside.numbers k) (sym c.run_frames-frames.ensures.frames)) in
-    let room = room_more (set.contains c.self.inside.numbers) (set.contains c.insert_run.new.self) c.args.first c.run_frames-frames.result (omega (arith, c.get.ensures.value, c.get.ensures.range)) c.run_frames-frames.ensures.block adds c.self.inside.count c.self.inside.blocks c.self.invariant in
-    omega (arith, room.1, ap (slice_index c.self.inside.blocks) c.block_of.ensures)
+pub overflow_add-self : goal.overflow_add-self
+overflow_add-self g c =
+    let low : c.args.first < 512 * length c.self.inside.blocks = omega (arith, ap (λ (s : Numbers). s.bound) c.self.view_is, c.requires.within, some_frames c.args.order c.frames-frames.ensures.low c.frames-frames.ensures.high) in
+    let within : c.args.first % 512 + c.frames-frames.result ≤ 512 = omega (arith, c.frames-frames.ensures.value, one_block c.args.order c.frames-frames.ensures.low c.frames-frames.ensures.high c.args.first c.requires.aligned) in
+    let count = ap (λ o. 2 ^ o) c.get-2.ensures.value ∙ sym c.frames-frames.ensures.value in
+    let adds = inserts_run c.self.inside.numbers.members c.insert_run.new.self.members c.args.first c.get.result c.frames-frames.result c.get.ensures.value
+    (λ k e. ap (λ (s : Numbers). set.contains s.members k) c.self.view_is ∙ c.requires.none k (ap (λ m. in_run c.args.first m k) (sym c.frames-frames.ensures.value) ∙ e))
+    (λ k. c.insert_run.ensures.run k ∙ ap (λ m. in_run c.get.result m k || set.contains c.self.inside.numbers.members k) count) in
+    omega (arith, more_fits c.self.inside c.self.invariant c.insert_run.new.self c.args.first c.get.result c.frames-frames.result low within c.get.ensures.value adds)
+
+pub more-requires-clause-most : goal.more-requires-clause-most
+more-requires-clause-most g c =
+    let low : c.args.first < 512 * length c.self.inside.blocks = omega (arith, ap (λ (s : Numbers). s.bound) c.self.view_is, c.requires.within, some_frames c.args.order c.frames-frames.ensures.low c.frames-frames.ensures.high) in
+    let within : c.args.first % 512 + c.frames-frames.result ≤ 512 = omega (arith, c.frames-frames.ensures.value, one_block c.args.order c.frames-frames.ensures.low c.frames-frames.ensures.high c.args.first c.requires.aligned) in
+    let count = ap (λ o. 2 ^ o) c.get-2.ensures.value ∙ sym c.frames-frames.ensures.value in
+    let adds = inserts_run c.self.inside.numbers.members c.insert_run.new.self.members c.args.first c.get.result c.frames-frames.result c.get.ensures.value
+    (λ k e. ap (λ (s : Numbers). set.contains s.members k) c.self.view_is ∙ c.requires.none k (ap (λ m. in_run c.args.first m k) (sym c.frames-frames.ensures.value) ∙ e))
+    (λ k. c.insert_run.ensures.run k ∙ ap (λ m. in_run c.get.result m k || set.contains c.self.inside.numbers.members k) count) in
+    more_room c.self.inside c.self.invariant c.insert_run.new.self c.args.first c.get-3.result c.frames-frames.result low within c.get-3.ensures.value adds
 
 pub invariant_of-self : goal.invariant_of-self
-invariant_of-self c =
-    let adds = inserts_run c.self.inside.numbers c.insert_run.new.self c.args.first c.get.result c.run_frames-frames.result c.get.ensures.value (λ k e. ap (λ s. set.contains s k) c.self.view_is ∙ c.requires.none k (ap (λ n. in_run c.args.first n k) (sym c.run_frames-frames.ensures.frames) ∙ e)) (λ k. c.insert_run.ensures k ∙ ap (λ n. in_run c.get.result n k || set.contains c.self.inside.numbers k) (sym c.run_frames-frames.ensures.frames)) in
-    set_more c.self.inside.count c.self.inside.blocks c.more.new.self c.self.inside.numbers c.insert_run.new.self c.args.first c.block_of.result c.run_frames-frames.result (omega (arith, c.get.ensures.value, c.get.ensures.range)) c.block_of.ensures c.run_frames-frames.ensures.block adds c.self.invariant c.more.ensures
-
-pub returns : goal.returns
-returns c = λ k. c.insert_run.ensures k ∙ (λ i. in_run (c.get.ensures.value i) (2 ^ c.args.order) k || set.contains (c.self.view_is i) k)
+invariant_of-self g c =
+    let low : c.args.first < 512 * length c.self.inside.blocks = omega (arith, ap (λ (s : Numbers). s.bound) c.self.view_is, c.requires.within, some_frames c.args.order c.frames-frames.ensures.low c.frames-frames.ensures.high) in
+    let within : c.args.first % 512 + c.frames-frames.result ≤ 512 = omega (arith, c.frames-frames.ensures.value, one_block c.args.order c.frames-frames.ensures.low c.frames-frames.ensures.high c.args.first c.requires.aligned) in
+    let count = ap (λ o. 2 ^ o) c.get-2.ensures.value ∙ sym c.frames-frames.ensures.value in
+    let adds = inserts_run c.self.inside.numbers.members c.insert_run.new.self.members c.args.first c.get.result c.frames-frames.result c.get.ensures.value
+    (λ k e. ap (λ (s : Numbers). set.contains s.members k) c.self.view_is ∙ c.requires.none k (ap (λ m. in_run c.args.first m k) (sym c.frames-frames.ensures.value) ∙ e))
+    (λ k. c.insert_run.ensures.run k ∙ ap (λ m. in_run c.get.result m k || set.contains c.self.inside.numbers.members k) count) in
+    set_more c.self.inside c.self.invariant c.insert_run.new.self c.args.first c.get-3.result c.frames-frames.result low within c.get-3.ensures.value adds c.more.new.self c.insert_run.ensures.bound c.more.ensures

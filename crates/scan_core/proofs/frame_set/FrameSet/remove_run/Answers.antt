@@ -1,27 +1,54 @@
-use Rattle.std.proofs.Common.{◌^◌, ap, sym, ◌∙◌, slice_index, arith}
-use Rattle.std.specs.Prelude.{not, ◌&&◌}
+use Rattle.std.proofs.Common.{◌<◌, ◌≤◌, ◌+◌, ◌*◌, ◌%◌, ◌^◌, ◌≡◌, length, true, ap, sym, ◌∙◌, arith}
+use Rattle.std.specs.Prelude.{not, ◌&&◌, ◌||◌}
 use Rattle.std.specs.FinSet as set
+use Rattle.number_set.specs.Numbers.{Numbers}
 use Rattle.scan_core.specs.NumberSet.{in_run}
-use Rattle.scan_core.proofs.RunCounts.{room_fewer}
-use Rattle.scan_core.proofs.FrameSets.{set_fewer, removes_run}
+use Rattle.scan_core.proofs.Orders.{no_rest, one_block, some_frames}
+use Rattle.scan_core.proofs.FrameSets.{removes_run}
+use Rattle.scan_core.proofs.SetSteps.{fewer_has, fewer_most, fewer_room, set_fewer}
 use Rattle.scan_core.proofs.frame_set.FrameSet.remove_run.Goals as goal
 
-pub overflow_sub-self : goal.overflow_sub-self
-overflow_sub-self c =
-    let adds = removes_run c.self.inside.numbers c.remove_run.new.self c.args.first c.get.result c.run_frames-frames.result c.get.ensures.value (λ k e. ap (λ s. set.contains s k) c.self.view_is ∙ c.requires.all k (ap (λ n. in_run c.args.first n k) (sym c.run_frames-frames.ensures.frames) ∙ e)) (λ k. c.remove_run.ensures k ∙ ap (λ n. not (in_run c.get.result n k) && set.contains c.self.inside.numbers k) (sym c.run_frames-frames.ensures.frames)) in
-    let room = room_fewer (set.contains c.remove_run.new.self) (set.contains c.self.inside.numbers) c.args.first c.run_frames-frames.result (omega (arith, c.get.ensures.value, c.get.ensures.range)) c.run_frames-frames.ensures.block adds c.self.inside.count c.self.inside.blocks c.self.invariant in
-    omega (arith, room.0)
+pub remove_run-requires : goal.remove_run-requires
+remove_run-requires g c =
+    let count = ap (λ o. 2 ^ o) c.get-2.ensures.value in
+    (omega arith, (c.get-2.ensures.high, ((λ i. c.get.ensures.value i % count i) ∙ no_rest c.args.order c.frames-frames.ensures.low c.frames-frames.ensures.high c.args.first c.requires.aligned, omega (arith, count, c.get.ensures.value, c.requires.within, ap (λ (s : Numbers). s.bound) c.self.view_is, c.self.invariant.room))))
 
-pub fewer-requires : goal.fewer-requires
-fewer-requires c =
-    let adds = removes_run c.self.inside.numbers c.remove_run.new.self c.args.first c.get.result c.run_frames-frames.result c.get.ensures.value (λ k e. ap (λ s. set.contains s k) c.self.view_is ∙ c.requires.all k (ap (λ n. in_run c.args.first n k) (sym c.run_frames-frames.ensures.frames) ∙ e)) (λ k. c.remove_run.ensures k ∙ ap (λ n. not (in_run c.get.result n k) && set.contains c.self.inside.numbers k) (sym c.run_frames-frames.ensures.frames)) in
-    let room = room_fewer (set.contains c.remove_run.new.self) (set.contains c.self.inside.numbers) c.args.first c.run_frames-frames.result (omega (arith, c.get.ensures.value, c.get.ensures.range)) c.run_frames-frames.ensures.block adds c.self.inside.count c.self.inside.blocks c.self.invariant in
-    omega (arith, room.1, ap (slice_index c.self.inside.blocks) c.block_of.ensures)
+pub overflow_sub-self : goal.overflow_sub-self
+overflow_sub-self g c =
+    let low : c.args.first < 512 * length c.self.inside.blocks = omega (arith, ap (λ (s : Numbers). s.bound) c.self.view_is, c.requires.within, some_frames c.args.order c.frames-frames.ensures.low c.frames-frames.ensures.high) in
+    let within : c.args.first % 512 + c.frames-frames.result ≤ 512 = omega (arith, c.frames-frames.ensures.value, one_block c.args.order c.frames-frames.ensures.low c.frames-frames.ensures.high c.args.first c.requires.aligned) in
+    let count = ap (λ o. 2 ^ o) c.get-2.ensures.value ∙ sym c.frames-frames.ensures.value in
+    let adds = removes_run c.self.inside.numbers.members c.remove_run.new.self.members c.args.first c.get.result c.frames-frames.result c.get.ensures.value
+    (λ k e. ap (λ (s : Numbers). set.contains s.members k) c.self.view_is ∙ c.requires.all k (ap (λ m. in_run c.args.first m k) (sym c.frames-frames.ensures.value) ∙ e))
+    (λ k. c.remove_run.ensures.run k ∙ ap (λ m. not (in_run c.get.result m k) && set.contains c.self.inside.numbers.members k) count) in
+    fewer_has c.self.inside c.self.invariant c.remove_run.new.self c.args.first c.get.result c.frames-frames.result low within c.get.ensures.value adds
+
+pub fewer-requires-clause-counted : goal.fewer-requires-clause-counted
+fewer-requires-clause-counted g c =
+    let low : c.args.first < 512 * length c.self.inside.blocks = omega (arith, ap (λ (s : Numbers). s.bound) c.self.view_is, c.requires.within, some_frames c.args.order c.frames-frames.ensures.low c.frames-frames.ensures.high) in
+    let within : c.args.first % 512 + c.frames-frames.result ≤ 512 = omega (arith, c.frames-frames.ensures.value, one_block c.args.order c.frames-frames.ensures.low c.frames-frames.ensures.high c.args.first c.requires.aligned) in
+    let count = ap (λ o. 2 ^ o) c.get-2.ensures.value ∙ sym c.frames-frames.ensures.value in
+    let adds = removes_run c.self.inside.numbers.members c.remove_run.new.self.members c.args.first c.get.result c.frames-frames.result c.get.ensures.value
+    (λ k e. ap (λ (s : Numbers). set.contains s.members k) c.self.view_is ∙ c.requires.all k (ap (λ m. in_run c.args.first m k) (sym c.frames-frames.ensures.value) ∙ e))
+    (λ k. c.remove_run.ensures.run k ∙ ap (λ m. not (in_run c.get.result m k) && set.contains c.self.inside.numbers.members k) count) in
+    fewer_room c.self.inside c.self.invariant c.remove_run.new.self c.args.first c.get-3.result c.frames-frames.result low within c.get-3.ensures.value adds
+
+pub fewer-requires-clause-most : goal.fewer-requires-clause-most
+fewer-requires-clause-most g c =
+    let low : c.args.first < 512 * length c.self.inside.blocks = omega (arith, ap (λ (s : Numbers). s.bound) c.self.view_is, c.requires.within, some_frames c.args.order c.frames-frames.ensures.low c.frames-frames.ensures.high) in
+    let within : c.args.first % 512 + c.frames-frames.result ≤ 512 = omega (arith, c.frames-frames.ensures.value, one_block c.args.order c.frames-frames.ensures.low c.frames-frames.ensures.high c.args.first c.requires.aligned) in
+    let count = ap (λ o. 2 ^ o) c.get-2.ensures.value ∙ sym c.frames-frames.ensures.value in
+    let adds = removes_run c.self.inside.numbers.members c.remove_run.new.self.members c.args.first c.get.result c.frames-frames.result c.get.ensures.value
+    (λ k e. ap (λ (s : Numbers). set.contains s.members k) c.self.view_is ∙ c.requires.all k (ap (λ m. in_run c.args.first m k) (sym c.frames-frames.ensures.value) ∙ e))
+    (λ k. c.remove_run.ensures.run k ∙ ap (λ m. not (in_run c.get.result m k) && set.contains c.self.inside.numbers.members k) count) in
+    fewer_most c.self.inside c.self.invariant c.remove_run.new.self c.args.first c.get-3.result c.frames-frames.result low within c.get-3.ensures.value
 
 pub invariant_of-self : goal.invariant_of-self
-invariant_of-self c =
-    let adds = removes_run c.self.inside.numbers c.remove_run.new.self c.args.first c.get.result c.run_frames-frames.result c.get.ensures.value (λ k e. ap (λ s. set.contains s k) c.self.view_is ∙ c.requires.all k (ap (λ n. in_run c.args.first n k) (sym c.run_frames-frames.ensures.frames) ∙ e)) (λ k. c.remove_run.ensures k ∙ ap (λ n. not (in_run c.get.result n k) && set.contains c.self.inside.numbers k) (sym c.run_frames-frames.ensures.frames)) in
-    set_fewer c.self.inside.count c.self.inside.blocks c.fewer.new.self c.self.inside.numbers c.remove_run.new.self c.args.first c.block_of.result c.run_frames-frames.result (omega (arith, c.get.ensures.value, c.get.ensures.range)) c.block_of.ensures c.run_frames-frames.ensures.block adds c.self.invariant c.fewer.ensures
-
-pub returns : goal.returns
-returns c = λ k. c.remove_run.ensures k ∙ (λ i. not (in_run (c.get.ensures.value i) (2 ^ c.args.order) k) && set.contains (c.self.view_is i) k)
+invariant_of-self g c =
+    let low : c.args.first < 512 * length c.self.inside.blocks = omega (arith, ap (λ (s : Numbers). s.bound) c.self.view_is, c.requires.within, some_frames c.args.order c.frames-frames.ensures.low c.frames-frames.ensures.high) in
+    let within : c.args.first % 512 + c.frames-frames.result ≤ 512 = omega (arith, c.frames-frames.ensures.value, one_block c.args.order c.frames-frames.ensures.low c.frames-frames.ensures.high c.args.first c.requires.aligned) in
+    let count = ap (λ o. 2 ^ o) c.get-2.ensures.value ∙ sym c.frames-frames.ensures.value in
+    let adds = removes_run c.self.inside.numbers.members c.remove_run.new.self.members c.args.first c.get.result c.frames-frames.result c.get.ensures.value
+    (λ k e. ap (λ (s : Numbers). set.contains s.members k) c.self.view_is ∙ c.requires.all k (ap (λ m. in_run c.args.first m k) (sym c.frames-frames.ensures.value) ∙ e))
+    (λ k. c.remove_run.ensures.run k ∙ ap (λ m. not (in_run c.get.result m k) && set.contains c.self.inside.numbers.members k) count) in
+    set_fewer c.self.inside c.self.invariant c.remove_run.new.self c.args.first c.get-3.result c.frames-frames.result low within c.get-3.ensures.value adds c.fewer.new.self c.remove_run.ensures.bound c.fewer.ensures

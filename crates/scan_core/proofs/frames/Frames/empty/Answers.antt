@@ -1,29 +1,38 @@
-use Rattle.std.proofs.Common.{refl, ◌∙◌, length, length-set, ap, arith}
+use Rattle.std.proofs.Common.{refl, sym, ◌∙◌, ◌<◌, ◌≡◌, ◌^◌, true, false, not, length, length-set, ap, arith}
+use Rattle.std.specs.Prelude.{slice_set}
+use Rattle.std.specs.FinSet as set
+use Rattle.number_set.specs.Numbers.{Numbers}
 use Rattle.frame_core.specs.FixedVec.{with_item}
-use Rattle.frame_core.specs.declared.state.FrameState.TheVariants.{Free}
-use Rattle.scan_core.specs.Frames.{is_holding_state}
-use Rattle.scan_core.proofs.Steps.{is_within, page_isnt_free, sound_emptied}
+use Rattle.frame_core.specs.declared.state.FrameState.TheVariants.{Free, Holds, Source, Target}
+use Rattle.scan_core.specs.Frames.{Frames, is_free_state, is_holding_state, is_way_state}
+use Rattle.scan_core.proofs.Steps as step
 use Rattle.scan_core.proofs.frames.Frames.empty.Goals as goal
 
-pub insert-requires-clause-within : goal.insert-requires-clause-within
-insert-requires-clause-within c = omega (arith, is_within c.self.inside c.self.invariant c.self.view_is c.args.frame is_holding_state refl c.requires, c.self.invariant.whole, c.self.invariant.few)
+pub insert-requires : goal.insert-requires
+insert-requires g c =
+    (omega arith, (step.in_free c.self.inside c.self.invariant c.self.view_is c.args.frame (step.is_within c.self.inside c.self.invariant c.self.view_is c.args.frame is_holding_state refl c.requires), step.page_isnt_free c.self.inside c.self.invariant c.self.view_is c.args.frame c.requires))
 
-pub insert-requires-clause-out : goal.insert-requires-clause-out
-insert-requires-clause-out c = page_isnt_free c.self.inside c.self.invariant c.self.view_is c.args.frame c.requires
+pub index-requires : goal.index-requires
+index-requires g c =
+    omega (arith, step.is_within c.self.inside c.self.invariant c.self.view_is c.args.frame is_holding_state refl c.requires, c.self.invariant.movable, c.get-index.ensures.value)
 
-pub set_member-requires : goal.set_member-requires
-set_member-requires c = omega (arith, is_within c.self.inside c.self.invariant c.self.view_is c.args.frame is_holding_state refl c.requires, c.self.invariant.whole, c.self.invariant.few)
+pub remove-requires : goal.remove-requires
+remove-requires g c =
+    let within = step.is_within c.self.inside c.self.invariant c.self.view_is c.args.frame is_holding_state refl c.requires in
+    let read = step.flag_is c.self.inside c.self.invariant c.self.view_is c.args.frame c.get-index.result c.index.result.now c.get-index.ensures.value (step.is_within c.self.inside c.self.invariant c.self.view_is c.args.frame is_holding_state refl c.requires) c.index.ensures in
+    (omega arith, (step.in_sources c.self.inside c.self.invariant c.self.view_is c.args.frame within, (step.in_block c.self.inside c.self.invariant c.self.view_is c.args.frame within, (λ e. step.stuck_some c.self.inside c.self.invariant c.self.view_is c.args.frame within (step.page_is_stuck c.self.inside c.self.invariant c.self.view_is c.args.frame c.requires ∙ ap not (sym read ∙ e)), (step.stuck_most c.self.inside c.self.invariant c.self.view_is c.args.frame within, step.page_is_source c.self.inside c.self.invariant c.self.view_is c.args.frame c.requires ∙ sym read)))))
 
 pub index_mut-requires : goal.index_mut-requires
-index_mut-requires c = omega (arith, is_within c.self.inside c.self.invariant c.self.view_is c.args.frame is_holding_state refl c.requires, c.get.ensures.value)
+index_mut-requires g c =
+    omega (arith, step.is_within c.self.inside c.self.invariant c.self.view_is c.args.frame is_holding_state refl c.requires, c.get-index.ensures.value)
 
 pub invariant_of-self : goal.invariant_of-self
-invariant_of-self c =
-    (sound_emptied c.self.inside c.self.invariant c.self.view_is c.args.frame (with_item c.self.inside.kept c.get.result Free) c.get.result c.get.ensures.value c.insert.new.self c.set_member.new.self c.requires c.insert.ensures c.set_member.ensures refl).0
+invariant_of-self g c =
+    (step.sound_emptied c.self.inside c.self.invariant c.self.view_is c.args.frame c.get-index.result c.get-index.ensures.value (with_item c.self.inside.kept c.get-index.result Free) c.insert.new.self c.remove.new.self.sources c.remove.new.self.stuck c.index.result.now c.requires refl c.insert.ensures (step.flag_is c.self.inside c.self.invariant c.self.view_is c.args.frame c.get-index.result c.index.result.now c.get-index.ensures.value (step.is_within c.self.inside c.self.invariant c.self.view_is c.args.frame is_holding_state refl c.requires) c.index.ensures) c.remove.ensures.sources c.remove.ensures.room c.remove.ensures.stuck).0
 
 pub returns : goal.returns
-returns c =
-    let states = (sound_emptied c.self.inside c.self.invariant c.self.view_is c.args.frame (with_item c.self.inside.kept c.get.result Free) c.get.result c.get.ensures.value c.insert.new.self c.set_member.new.self c.requires c.insert.ensures c.set_member.ensures refl).1 in
+returns g c =
+    let states = (step.sound_emptied c.self.inside c.self.invariant c.self.view_is c.args.frame c.get-index.result c.get-index.ensures.value (with_item c.self.inside.kept c.get-index.result Free) c.insert.new.self c.remove.new.self.sources c.remove.new.self.stuck c.index.result.now c.requires refl c.insert.ensures (step.flag_is c.self.inside c.self.invariant c.self.view_is c.args.frame c.get-index.result c.index.result.now c.get-index.ensures.value (step.is_within c.self.inside c.self.invariant c.self.view_is c.args.frame is_holding_state refl c.requires) c.index.ensures) c.remove.ensures.sources c.remove.ensures.room c.remove.ensures.stuck).1 in
     record {
       state = λ i. record { states = states i; movable = (c.self.view_is i).movable };
       frames = ap length states ∙ length-set c.args.self.now.states c.args.frame Free;

@@ -1,26 +1,28 @@
-use Rattle.std.proofs.Common.{refl, ◌∙◌, length, length-set, ap, arith}
+use Rattle.std.proofs.Common.{refl, sym, ◌∙◌, ◌<◌, ◌≡◌, ◌^◌, true, false, not, length, length-set, ap, arith}
+use Rattle.std.specs.Prelude.{slice_set}
+use Rattle.std.specs.FinSet as set
+use Rattle.number_set.specs.Numbers.{Numbers}
 use Rattle.frame_core.specs.FixedVec.{with_item}
-use Rattle.frame_core.specs.declared.state.FrameState.TheVariants.{Free}
-use Rattle.scan_core.specs.Frames.{is_way_state}
-use Rattle.scan_core.proofs.Steps.{is_within, way_isnt_free, sound_left}
+use Rattle.frame_core.specs.declared.state.FrameState.TheVariants.{Free, Holds, Source, Target}
+use Rattle.scan_core.specs.Frames.{Frames, is_free_state, is_holding_state, is_way_state}
+use Rattle.scan_core.proofs.Steps as step
 use Rattle.scan_core.proofs.frames.Frames.leave.Goals as goal
 
-pub insert-requires-clause-within : goal.insert-requires-clause-within
-insert-requires-clause-within c = omega (arith, is_within c.self.inside c.self.invariant c.self.view_is c.args.other is_way_state refl c.requires, c.self.invariant.whole, c.self.invariant.few)
-
-pub insert-requires-clause-out : goal.insert-requires-clause-out
-insert-requires-clause-out c = way_isnt_free c.self.inside c.self.invariant c.self.view_is c.args.other c.requires
+pub insert-requires : goal.insert-requires
+insert-requires g c =
+    (omega arith, (step.in_free c.self.inside c.self.invariant c.self.view_is c.args.other (step.is_within c.self.inside c.self.invariant c.self.view_is c.args.other is_way_state refl c.requires), step.way_isnt_free c.self.inside c.self.invariant c.self.view_is c.args.other c.requires))
 
 pub index_mut-requires : goal.index_mut-requires
-index_mut-requires c = omega (arith, is_within c.self.inside c.self.invariant c.self.view_is c.args.other is_way_state refl c.requires, c.get.ensures.value)
+index_mut-requires g c =
+    omega (arith, step.is_within c.self.inside c.self.invariant c.self.view_is c.args.other is_way_state refl c.requires, c.get.ensures.value)
 
 pub invariant_of-self : goal.invariant_of-self
-invariant_of-self c =
-    (sound_left c.self.inside c.self.invariant c.self.view_is c.args.other (with_item c.self.inside.kept c.get.result Free) c.get.result c.get.ensures.value c.insert.new.self c.requires c.insert.ensures refl).0
+invariant_of-self g c =
+    (step.sound_left c.self.inside c.self.invariant c.self.view_is c.args.other c.get.result c.get.ensures.value (with_item c.self.inside.kept c.get.result Free) c.insert.new.self c.requires refl c.insert.ensures).0
 
 pub returns : goal.returns
-returns c =
-    let states = (sound_left c.self.inside c.self.invariant c.self.view_is c.args.other (with_item c.self.inside.kept c.get.result Free) c.get.result c.get.ensures.value c.insert.new.self c.requires c.insert.ensures refl).1 in
+returns g c =
+    let states = (step.sound_left c.self.inside c.self.invariant c.self.view_is c.args.other c.get.result c.get.ensures.value (with_item c.self.inside.kept c.get.result Free) c.insert.new.self c.requires refl c.insert.ensures).1 in
     record {
       state = λ i. record { states = states i; movable = (c.self.view_is i).movable };
       frames = ap length states ∙ length-set c.args.self.now.states c.args.other Free;

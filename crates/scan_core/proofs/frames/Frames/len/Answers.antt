@@ -4,7 +4,7 @@ use Rattle.scan_core.proofs.Sounding.{frames_kept}
 use Rattle.scan_core.proofs.frames.Frames.len.Goals as goal
 
 pub returns : goal.returns
-returns c =
+returns g c =
     let same = frames_kept c.self.inside c.self.invariant c.self.view_is in
     record {
       len = omega (arith, same, c.len.ensures);

@@ -1,35 +1,67 @@
-use Rattle.std.proofs.Common.{◌≡◌, ◌∙◌, Bool, List, length, ap, arith, subst}
+use Rattle.std.proofs.Common.{◌≡◌, ◌∙◌, ◌*◌, ◌≤◌, ◌<◌, ℕ, Bool, not, length, sym, ap, arith, subst}
+use Rattle.std.specs.Prelude.{nat_lt, ◌&&◌}
 use Rattle.std.specs.FinSet as set
-use Rattle.std.specs.Ordering.{nat_cmp}
-use Rattle.frame_core.specs.declared.state.FrameState.{FrameState}
-use Rattle.scan_core.specs.Frames.{Frames, holds_at}
-use Rattle.scan_core.specs.Pairs.{Finds, next_step}
-use Rattle.scan_core.specs.Seen.{IsTold, seen}
-use Rattle.scan_core.specs.Sound.{IsSound}
-use Rattle.scan_core.specs.declared.frames.Frames.TheInside.{Inside}
-use Rattle.scan_core.proofs.Pairing.{told_empty}
-use Rattle.scan_core.proofs.Sounding.{is_told, frames_kept}
+use Rattle.frame_core.specs.Below.{highest}
+use Rattle.scan_core.specs.Frames.{Frames}
+use Rattle.scan_core.specs.Pairs.{Finds, is_marked, next_step, step_from, step_to}
+use Rattle.scan_core.specs.Seen.{seen}
+use Rattle.scan_core.specs.declared.fingers.Fingers.{Fingers}
+use Rattle.scan_core.specs.declared.fingers.Step.{Step}
+use Rattle.scan_core.specs.declared.fingers.Step.TheVariants.{Pair, Met}
+use Rattle.scan_core.proofs.Pairing.{no_source, no_target, pair_found, target_between}
+use Rattle.scan_core.proofs.Sounding.{frames_kept, source_found_in, target_found_in}
 use Rattle.scan_core.proofs.frames.Frames.next_pair.Goals as goal
 
-pub next_told-requires-clause-high : goal.next_told-requires-clause-high
-next_told-requires-clause-high c = omega (arith, c.requires.high, frames_kept c.self.inside c.self.invariant c.self.view_is, ap length c.deref.ensures.value)
+pub next_source-requires : goal.next_source-requires
+next_source-requires g c =
+    let same = frames_kept c.self.inside c.self.invariant c.self.view_is in
+    (omega arith, (omega (arith, c.requires.high, same, c.self.invariant.few), (omega (arith, c.requires.high, same, c.self.invariant.sources_room), omega (arith, c.requires.high, c.requires.marked))))
 
-told : (z : Inside) → IsSound z → (kept : List FrameState) (numbers : set.FinSet nat_cmp) → kept ≡ z.kept.items → numbers ≡ z.free → IsTold (seen z.held z.kept.items) kept numbers
-told z sound kept numbers same free =
-    let is = is_told z sound in
-    record { holds = λ n. ap (λ xs. holds_at xs n) same ∙ is.holds n; free = λ n. ap (λ s. set.contains s n) free ∙ is.free n }
+pub next_target-requires : goal.next_target-requires
+next_target-requires g c =
+    let same = frames_kept c.self.inside c.self.invariant c.self.view_is in
+    (omega arith, (omega (arith, c.requires.high, same, c.self.invariant.few), (omega (arith, c.requires.high, same, c.self.invariant.free_room, c.numbers-free.ensures.bound), omega (arith, c.requires.high, c.requires.marked))))
 
-pub next_told-requires-clause-empty : goal.next_told-requires-clause-empty
-next_told-requires-clause-empty c = told_empty _ _ _ (told c.self.inside c.self.invariant c.deref.result.now c.numbers-free.result.now c.deref.ensures.value c.numbers-free.ensures)
+pub returns-in_default-clause-pair : goal.returns-in_default-clause-pair
+returns-in_default-clause-pair g c =
+    subst (λ (frames : Frames). Finds frames.states frames.movable c.args.marked.now c.args.fingers.now Met) c.self.view_is
+    (no_source (seen c.self.inside.held.members c.self.inside.kept.items) c.self.inside.movable.items c.args.marked.now c.args.fingers.now (sym (c.in_default.ensures ∙ source_found_in c.self.inside c.self.invariant c.args.marked.now c.args.fingers.now)))
 
-pub returns-clause-pair : goal.returns-clause-pair
-returns-clause-pair c = subst (λ (frames : Frames). Finds frames.states frames.movable c.args.marked.now c.args.fingers.now c.next_told.result) c.self.view_is
-    (subst (λ (movable : List Bool). Finds (seen c.self.inside.held c.self.inside.kept.items) movable c.args.marked.now c.args.fingers.now c.next_told.result) c.deref-2.ensures.value (c.next_told.ensures.pair _ (told c.self.inside c.self.invariant c.deref.result.now c.numbers-free.result.now c.deref.ensures.value c.numbers-free.ensures)))
-
-pub returns-clause-step : goal.returns-clause-step
-returns-clause-step c = c.next_told.ensures.step _ (told c.self.inside c.self.invariant c.deref.result.now c.numbers-free.result.now c.deref.ensures.value c.numbers-free.ensures)
-    ∙ ap (λ (movable : List Bool). next_step (seen c.self.inside.held c.self.inside.kept.items) movable c.args.marked.now c.args.fingers.now) c.deref-2.ensures.value
+pub returns-in_default-clause-step : goal.returns-in_default-clause-step
+returns-in_default-clause-step g c =
+    ap (step_from (seen c.self.inside.held.members c.self.inside.kept.items) c.args.marked.now c.args.fingers.now) (c.in_default.ensures ∙ source_found_in c.self.inside c.self.invariant c.args.marked.now c.args.fingers.now)
     ∙ ap (λ (frames : Frames). next_step frames.states frames.movable c.args.marked.now c.args.fingers.now) c.self.view_is
 
+pub returns-in_default-next_target-clause-pair : goal.returns-in_default-next_target-clause-pair
+returns-in_default-next_target-clause-pair g c =
+    subst (λ (frames : Frames). Finds frames.states frames.movable c.args.marked.now c.args.fingers.now Met) c.self.view_is
+    (no_target (seen c.self.inside.held.members c.self.inside.kept.items) c.self.inside.movable.items c.args.marked.now c.args.fingers.now c.in-Some.source (sym (c.in-Some.ensures ∙ source_found_in c.self.inside c.self.invariant c.args.marked.now c.args.fingers.now)) (sym (c.in_default-next_target.ensures ∙ ap (λ (p : ℕ → Bool). highest (λ frame. nat_lt c.in-Some.source frame && (not (is_marked c.args.marked.now frame) && p frame)) c.args.fingers.now.free) (λ i k. set.contains (c.numbers-free.ensures.members i) k) ∙ target_found_in c.self.inside c.self.invariant c.args.marked.now c.args.fingers.now c.in-Some.source)))
+
+pub returns-in_default-next_target-clause-step : goal.returns-in_default-next_target-clause-step
+returns-in_default-next_target-clause-step g c =
+    ap (step_to c.in-Some.source) (c.in_default-next_target.ensures ∙ ap (λ (p : ℕ → Bool). highest (λ frame. nat_lt c.in-Some.source frame && (not (is_marked c.args.marked.now frame) && p frame)) c.args.fingers.now.free) (λ i k. set.contains (c.numbers-free.ensures.members i) k) ∙ target_found_in c.self.inside c.self.invariant c.args.marked.now c.args.fingers.now c.in-Some.source)
+    ∙ ap (step_from (seen c.self.inside.held.members c.self.inside.kept.items) c.args.marked.now c.args.fingers.now) (c.in-Some.ensures ∙ source_found_in c.self.inside c.self.invariant c.args.marked.now c.args.fingers.now)
+    ∙ ap (λ (frames : Frames). next_step frames.states frames.movable c.args.marked.now c.args.fingers.now) c.self.view_is
+
+pub returns-clause-pair : goal.returns-clause-pair
+returns-clause-pair g c =
+    subst (λ (step : Step). Finds c.args.self.now.states c.args.self.now.movable c.args.marked.now c.args.fingers.now step) (sym c.pass.ensures.step)
+    (subst (λ (frames : Frames). Finds frames.states frames.movable c.args.marked.now c.args.fingers.now (Pair c.in-Some.source c.in-Some-next_target.target)) c.self.view_is
+    (pair_found (seen c.self.inside.held.members c.self.inside.kept.items) c.self.inside.movable.items c.args.marked.now c.args.fingers.now c.in-Some.source c.in-Some-next_target.target (sym (c.in-Some.ensures ∙ source_found_in c.self.inside c.self.invariant c.args.marked.now c.args.fingers.now)) (sym (c.in-Some-next_target.ensures ∙ ap (λ (p : ℕ → Bool). highest (λ frame. nat_lt c.in-Some.source frame && (not (is_marked c.args.marked.now frame) && p frame)) c.args.fingers.now.free) (λ i k. set.contains (c.numbers-free.ensures.members i) k) ∙ target_found_in c.self.inside c.self.invariant c.args.marked.now c.args.fingers.now c.in-Some.source))))
+
+pub returns-clause-step : goal.returns-clause-step
+returns-clause-step g c =
+    c.pass.ensures.step
+    ∙ ap (step_to c.in-Some.source) (c.in-Some-next_target.ensures ∙ ap (λ (p : ℕ → Bool). highest (λ frame. nat_lt c.in-Some.source frame && (not (is_marked c.args.marked.now frame) && p frame)) c.args.fingers.now.free) (λ i k. set.contains (c.numbers-free.ensures.members i) k) ∙ target_found_in c.self.inside c.self.invariant c.args.marked.now c.args.fingers.now c.in-Some.source)
+    ∙ ap (step_from (seen c.self.inside.held.members c.self.inside.kept.items) c.args.marked.now c.args.fingers.now) (c.in-Some.ensures ∙ source_found_in c.self.inside c.self.invariant c.args.marked.now c.args.fingers.now)
+    ∙ ap (λ (frames : Frames). next_step frames.states frames.movable c.args.marked.now c.args.fingers.now) c.self.view_is
+
+pub returns-clause-low : goal.returns-clause-low
+returns-clause-low g c =
+    let between = target_between (set.contains c.numbers-free.result.now.members) c.args.marked.now c.args.fingers.now c.in-Some.source c.in-Some-next_target.target (sym c.in-Some-next_target.ensures) in
+    omega (arith, between.0, ap (λ (f : Fingers). f.migrate) c.pass.ensures.fingers, ap (λ (f : Fingers). f.free) c.pass.ensures.fingers)
+
 pub returns-clause-high : goal.returns-clause-high
-returns-clause-high c = omega (arith, c.next_told.ensures.high, frames_kept c.self.inside c.self.invariant c.self.view_is, ap length c.deref.ensures.value)
+returns-clause-high g c =
+    let between = target_between (set.contains c.numbers-free.result.now.members) c.args.marked.now c.args.fingers.now c.in-Some.source c.in-Some-next_target.target (sym c.in-Some-next_target.ensures) in
+    omega (arith, between.1, c.requires.high, ap (λ (f : Fingers). f.free) c.pass.ensures.fingers)

@@ -1,31 +1,43 @@
-use Rattle.std.proofs.Common.{◌^◌, arith}
-use Rattle.scan_core.specs.Frames.{huge_at}
+use Rattle.std.proofs.Common.{◌^◌, ◌+◌, ◌≤◌, ◌*◌, ◌<◌, ◌%◌, ◌/◌, sym, ap, ◌∙◌, slice_index, arith}
+use Rattle.std.specs.Prelude.{not, ◌&&◌, ◌||◌}
+use Rattle.std.specs.FinSet as set
+use Rattle.scan_core.specs.BlockCounts.{with_fewer, with_more}
+use Rattle.scan_core.specs.Frames.{huge_at, is_free_state}
+use Rattle.scan_core.specs.NumberSet.{in_run}
 use Rattle.scan_core.proofs.FrameSets.{all_pass}
-use Rattle.scan_core.proofs.Steps.{block_first, block_released, huge_is_stuck, huge_isnt_free}
+use Rattle.scan_core.proofs.Orders.{no_rest}
+use Rattle.scan_core.proofs.Steps as step
 use Rattle.scan_core.proofs.frames.Frames.release.Goals as goal
 
-pub remove_run-requires-clause-within : goal.remove_run-requires-clause-within
-remove_run-requires-clause-within c = omega (arith, block_first c.self.inside c.self.invariant c.self.view_is c.args.first c.args.order c.requires.block, c.get.ensures.value)
+pub remove_run-requires : goal.remove_run-requires
+remove_run-requires g c =
+    let count = ap (λ o. 2 ^ o) c.get-2.ensures.value in
+    (omega arith, (c.get-2.ensures.high, ((λ i. c.get.ensures.value i % count i) ∙ no_rest c.args.order (omega (arith, c.get-2.ensures.low, c.get-2.ensures.value)) (omega (arith, c.get-2.ensures.high, c.get-2.ensures.value)) c.args.first (step.block_aligned c.self.inside c.self.invariant c.self.view_is c.args.first c.args.order c.requires.block), omega (arith, count, c.get.ensures.value, step.block_within c.self.inside c.self.invariant c.self.view_is c.args.first c.args.order c.requires.block, c.self.invariant.held_room))))
 
-pub remove_run-requires-2-clause-within : goal.remove_run-requires-2-clause-within
-remove_run-requires-2-clause-within c = block_first c.self.inside c.self.invariant c.self.view_is c.args.first c.args.order c.requires.block
+pub fewer-requires-clause-within : goal.fewer-requires-clause-within
+fewer-requires-clause-within g c = omega (arith, step.run_counted c.self.inside c.self.invariant c.self.view_is c.args.first c.args.order c.frames.ensures.low c.frames.ensures.high c.requires.block, c.get-3.ensures.value)
 
-pub insert_run-requires-clause-within : goal.insert_run-requires-clause-within
-insert_run-requires-clause-within c = block_first c.self.inside c.self.invariant c.self.view_is c.args.first c.args.order c.requires.block
+pub fewer-requires-clause-counted : goal.fewer-requires-clause-counted
+fewer-requires-clause-counted g c =
+    omega (arith, step.run_stuck c.self.inside c.self.invariant c.self.view_is c.args.first c.args.order c.frames.ensures.low c.frames.ensures.high c.requires.block c.requires.huge, c.frames.ensures.value, ap (λ n. slice_index c.self.inside.candidates.stuck (n / 512)) c.get-3.ensures.value)
 
-pub remove_run-requires-2-clause-all : goal.remove_run-requires-2-clause-all
-remove_run-requires-2-clause-all c = λ n inside.
-    huge_is_stuck c.self.inside c.self.invariant c.self.view_is n (all_pass (huge_at c.args.self.now.states) c.args.first (2 ^ c.args.order) c.requires.huge n inside)
+pub fewer-requires-clause-most : goal.fewer-requires-clause-most
+fewer-requires-clause-most g c =
+    omega (arith, step.run_most c.self.inside c.self.invariant c.self.view_is c.args.first c.args.order c.frames.ensures.low c.frames.ensures.high c.requires.block, ap (λ n. slice_index c.self.inside.candidates.stuck (n / 512)) c.get-3.ensures.value)
 
-pub insert_run-requires-clause-none : goal.insert_run-requires-clause-none
-insert_run-requires-clause-none c = λ n inside.
-    huge_isnt_free c.self.inside c.self.invariant c.self.view_is n (all_pass (huge_at c.args.self.now.states) c.args.first (2 ^ c.args.order) c.requires.huge n inside)
+pub insert_run-requires : goal.insert_run-requires
+insert_run-requires g c =
+    (omega arith, (step.block_aligned c.self.inside c.self.invariant c.self.view_is c.args.first c.args.order c.requires.block, (omega (arith, step.block_within c.self.inside c.self.invariant c.self.view_is c.args.first c.args.order c.requires.block, c.self.invariant.free_room), λ n inside. step.huge_isnt_free c.self.inside c.self.invariant c.self.view_is n (all_pass (huge_at c.args.self.now.states) c.args.first (2 ^ c.args.order) c.requires.huge n inside))))
 
 pub invariant_of-self : goal.invariant_of-self
-invariant_of-self c =
-    (block_released c.self.inside c.self.invariant c.self.view_is c.args.first c.args.order c.remove_run.new.self c.insert_run.new.self c.remove_run-2.new.self c.get.result c.get.ensures.value c.requires.block c.requires.huge c.remove_run.ensures c.insert_run.ensures c.remove_run-2.ensures).0
+invariant_of-self g c =
+    (step.block_released c.self.inside c.self.invariant c.self.view_is c.args.first c.args.order c.frames.ensures.low c.frames.ensures.high c.remove_run.new.self c.insert_run.new.self c.fewer.new.self c.requires.block c.requires.huge
+    (λ n. c.remove_run.ensures.run n ∙ (λ i. not (in_run (c.get.ensures.value i) (2 ^ c.get-2.ensures.value i) n) && set.contains c.self.inside.held.members n)) c.remove_run.ensures.bound c.insert_run.ensures.members c.insert_run.ensures.bound
+    (c.fewer.ensures ∙ (λ i. with_fewer c.self.inside.candidates.stuck (c.get-3.ensures.value i / 512) (c.frames.ensures.value i)))).0
 
 pub returns : goal.returns
-returns c =
-    let next = block_released c.self.inside c.self.invariant c.self.view_is c.args.first c.args.order c.remove_run.new.self c.insert_run.new.self c.remove_run-2.new.self c.get.result c.get.ensures.value c.requires.block c.requires.huge c.remove_run.ensures c.insert_run.ensures c.remove_run-2.ensures in
-    λ i. record { states = next.1 i; movable = (c.self.view_is i).movable }
+returns g c =
+    let states = (step.block_released c.self.inside c.self.invariant c.self.view_is c.args.first c.args.order c.frames.ensures.low c.frames.ensures.high c.remove_run.new.self c.insert_run.new.self c.fewer.new.self c.requires.block c.requires.huge
+    (λ n. c.remove_run.ensures.run n ∙ (λ i. not (in_run (c.get.ensures.value i) (2 ^ c.get-2.ensures.value i) n) && set.contains c.self.inside.held.members n)) c.remove_run.ensures.bound c.insert_run.ensures.members c.insert_run.ensures.bound
+    (c.fewer.ensures ∙ (λ i. with_fewer c.self.inside.candidates.stuck (c.get-3.ensures.value i / 512) (c.frames.ensures.value i)))).1 in
+    λ i. record { states = states i; movable = (c.self.view_is i).movable }

@@ -9,28 +9,25 @@ use Rattle.scan_core.proofs.Spanning.{same_by}
 use Rattle.scan_core.proofs.frames.Frames.state.Goals as goal
 use Rattle.scan_core.proofs.frames.Frames.state.Goals.{else-is_free-via-then-is_free+else-contains, else-is_free-via-else-is_free}
 
-pub contains-requires : goal.contains-requires
-contains-requires c = omega (arith, c.requires, frames_kept c.self.inside c.self.invariant c.self.view_is, c.get-then-is_free.ensures.value, c.self.invariant.whole, c.self.invariant.few)
-
 pub index-requires : goal.index-requires
-index-requires c = omega (arith, c.requires, frames_kept c.self.inside c.self.invariant c.self.view_is, c.get.ensures.value)
+index-requires g c = omega (arith, c.requires, frames_kept c.self.inside c.self.invariant c.self.view_is, c.get.ensures.value)
 
 pub returns-then-contains : goal.returns-then-contains
-returns-then-contains c =
+returns-then-contains g c =
     let z = c.self.inside in
-    let held = ap (set.contains z.held) (sym c.get-then-is_free.ensures.value) ∙ sym c.contains.ensures ∙ c.if-contains.true in
+    let held = ap (set.contains z.held.members) (sym c.get-then-is_free.ensures.value) ∙ sym c.contains.ensures ∙ c.if-contains.true in
     ap (λ (frames : Frames). slice_get frames.states c.args.frame) (sym c.self.view_is)
-    ∙ seen_get (set.contains z.held) z.kept.items c.args.frame
+    ∙ seen_get (set.contains z.held.members) z.kept.items c.args.frame
     ∙ (λ i. seen_state (held i) (c.self.invariant.held c.args.frame held i))
 
 -- a frame that is kept as used isn't held
 pub returns : goal.returns
-returns c =
+returns g c =
     let z = c.self.inside in
     let read = ap (slice_get z.kept.items) (sym c.get.ensures.value) ∙ slice_get_read z.kept.items (length z.kept.items) c.get.result c.index.result.now refl (omega (arith, c.requires, frames_kept c.self.inside c.self.invariant c.self.view_is, c.get.ensures.value)) c.index.ensures in
-    let unheld : set.contains z.held c.args.frame ≡ false = elim c.else-is_free.branch [
-      | else-is_free-via-then-is_free+else-contains w ↦ ap (set.contains z.held) (sym w.get-then-is_free.ensures.value) ∙ sym w.contains.ensures ∙ w.if-contains.false
-      | else-is_free-via-else-is_free w ↦ same_by (set.contains z.held c.args.frame) false (λ e. sym w.if-is_free.false ∙ c.is_free.ensures ∙ ap is_free_state (sym read ∙ c.self.invariant.held c.args.frame e)) (λ e. cc)
+    let unheld : set.contains z.held.members c.args.frame ≡ false = elim c.else-is_free.branch [
+      | else-is_free-via-then-is_free+else-contains w ↦ ap (set.contains z.held.members) (sym w.get-then-is_free.ensures.value) ∙ sym w.contains.ensures ∙ w.if-contains.false
+      | else-is_free-via-else-is_free w ↦ same_by (set.contains z.held.members c.args.frame) false (λ e. sym w.if-is_free.false ∙ c.is_free.ensures ∙ ap is_free_state (sym read ∙ c.self.invariant.held c.args.frame e)) (λ e. cc)
     ] in
     ap (λ (frames : Frames). slice_get frames.states c.args.frame) (sym c.self.view_is)
-    ∙ seen_get (set.contains z.held) z.kept.items c.args.frame ∙ (λ i. seen_state (unheld i) (read i))
+    ∙ seen_get (set.contains z.held.members) z.kept.items c.args.frame ∙ (λ i. seen_state (unheld i) (read i))

@@ -1,20 +1,28 @@
-use Rattle.std.proofs.Common.{refl, ◌∙◌, length, length-set, ap, arith}
+use Rattle.std.proofs.Common.{refl, sym, ◌∙◌, ◌<◌, ◌≡◌, ◌^◌, true, false, not, length, length-set, ap, arith}
+use Rattle.std.specs.Prelude.{slice_set}
+use Rattle.std.specs.FinSet as set
+use Rattle.number_set.specs.Numbers.{Numbers}
 use Rattle.frame_core.specs.FixedVec.{with_item}
-use Rattle.frame_core.specs.declared.state.FrameState.TheVariants.{Source}
-use Rattle.scan_core.specs.Frames.{is_holding_state}
-use Rattle.scan_core.proofs.Steps.{is_within, sound_to_source}
+use Rattle.frame_core.specs.declared.state.FrameState.TheVariants.{Free, Holds, Source, Target}
+use Rattle.scan_core.specs.Frames.{Frames, is_free_state, is_holding_state, is_way_state}
+use Rattle.scan_core.proofs.Steps as step
 use Rattle.scan_core.proofs.frames.Frames.to_source.Goals as goal
 
+pub remove-requires : goal.remove-requires
+remove-requires g c =
+    omega (arith, step.in_sources c.self.inside c.self.invariant c.self.view_is c.args.frame (step.is_within c.self.inside c.self.invariant c.self.view_is c.args.frame is_holding_state refl c.requires.page), c.get.ensures.value)
+
 pub index_mut-requires : goal.index_mut-requires
-index_mut-requires c = omega (arith, is_within c.self.inside c.self.invariant c.self.view_is c.args.frame is_holding_state refl c.requires.page, c.get.ensures.value)
+index_mut-requires g c =
+    omega (arith, step.is_within c.self.inside c.self.invariant c.self.view_is c.args.frame is_holding_state refl c.requires.page, c.get-2.ensures.value)
 
 pub invariant_of-self : goal.invariant_of-self
-invariant_of-self c =
-    (sound_to_source c.self.inside c.self.invariant c.self.view_is c.args.frame (with_item c.self.inside.kept c.get.result (Source c.args.serial)) c.get.result c.get.ensures.value c.args.serial c.requires.page c.requires.movable refl).0
+invariant_of-self g c =
+    (step.sound_to_source c.self.inside c.self.invariant c.self.view_is c.args.frame c.get-2.result c.get-2.ensures.value (with_item c.self.inside.kept c.get-2.result (Source c.args.serial)) c.remove.new.self c.args.serial c.requires.page c.requires.movable refl (c.remove.ensures ∙ ap (λ k. record c.self.inside.candidates.sources { members = set.remove c.self.inside.candidates.sources.members k }) c.get.ensures.value)).0
 
 pub returns : goal.returns
-returns c =
-    let states = (sound_to_source c.self.inside c.self.invariant c.self.view_is c.args.frame (with_item c.self.inside.kept c.get.result (Source c.args.serial)) c.get.result c.get.ensures.value c.args.serial c.requires.page c.requires.movable refl).1 in
+returns g c =
+    let states = (step.sound_to_source c.self.inside c.self.invariant c.self.view_is c.args.frame c.get-2.result c.get-2.ensures.value (with_item c.self.inside.kept c.get-2.result (Source c.args.serial)) c.remove.new.self c.args.serial c.requires.page c.requires.movable refl (c.remove.ensures ∙ ap (λ k. record c.self.inside.candidates.sources { members = set.remove c.self.inside.candidates.sources.members k }) c.get.ensures.value)).1 in
     record {
       state = λ i. record { states = states i; movable = (c.self.view_is i).movable };
       frames = ap length states ∙ length-set c.args.self.now.states c.args.frame (Source c.args.serial);

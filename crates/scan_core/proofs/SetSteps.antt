@@ -1,0 +1,50 @@
+-- The counts of a set of frames stay right through each change.
+use Rattle.std.proofs.Common.{◌≡◌, ℕ, ◌+◌, ◌-◌, ◌*◌, ◌/◌, ◌%◌, ◌<◌, ◌≤◌, List, length, length-set, sym, ap, ◌∙◌, subst, slice_index, arith}
+use Rattle.std.specs.FinSet as set
+use Rattle.number_set.specs.Numbers.{Numbers}
+use Rattle.scan_core.specs.BlockCounts.{with_fewer, with_more}
+use Rattle.scan_core.specs.FrameSet.{Counts}
+use Rattle.scan_core.specs.FrameSetInside.{IsCounted}
+use Rattle.scan_core.specs.declared.frame_set.FrameSet.TheInside.{Inside}
+use Rattle.scan_core.proofs.RunCounts.{Adds, count_has, count_room, counted_most, counts_fewer, counts_more, room_fewer, room_more}
+
+module _ {L : ℕ} (s : Inside L) (sound : IsCounted s) (numbers : Numbers) (first number m : ℕ) (low : first < 512 * length s.blocks) (within : first % 512 + m ≤ 512) (at : number ≡ first) where
+  block_low : first / 512 < length s.blocks
+  block_low = omega (arith, low)
+
+  module _ (adds : Adds (set.contains s.numbers.members) (set.contains numbers.members) first m) where
+    pub more_fits : s.count + m ≤ 4096
+    more_fits = omega (arith, count_room _ _ first m within adds s.blocks block_low s.count sound.counts, sound.few)
+
+    pub more_room : slice_index s.blocks (number / 512) + m ≤ 512
+    more_room = omega (arith, room_more _ _ first m within adds s.blocks block_low sound.counts.each, ap (λ n. slice_index s.blocks (n / 512)) at)
+
+    pub set_more : (blocks : List ℕ) → numbers.bound ≡ s.numbers.bound → blocks ≡ with_more s.blocks (number / 512) m → IsCounted (record s { numbers = numbers; count = s.count + m; blocks = blocks })
+    set_more blocks same are =
+        let now : blocks ≡ with_more s.blocks (first / 512) m = are ∙ ap (λ n. with_more s.blocks (n / 512) m) at in
+        let long : length blocks ≡ length s.blocks = ap length now ∙ length-set s.blocks (first / 512) (slice_index s.blocks (first / 512) + m) in
+        record {
+          counts = subst (λ (bs : List ℕ). Counts (s.count + m) bs (set.contains numbers.members)) (sym now) (counts_more _ _ first m within adds s.blocks block_low s.count sound.counts);
+          room = omega (arith, long, same, sound.room);
+          few = omega (arith, long, sound.few);
+        }
+
+  module _ (adds : Adds (set.contains numbers.members) (set.contains s.numbers.members) first m) where
+    pub fewer_has : m ≤ s.count
+    fewer_has = count_has _ _ first m within adds s.blocks block_low s.count sound.counts
+
+    pub fewer_room : m ≤ slice_index s.blocks (number / 512)
+    fewer_room = omega (arith, room_fewer _ _ first m within adds s.blocks block_low sound.counts.each, ap (λ n. slice_index s.blocks (n / 512)) at)
+
+    pub set_fewer : (blocks : List ℕ) → numbers.bound ≡ s.numbers.bound → blocks ≡ with_fewer s.blocks (number / 512) m → IsCounted (record s { numbers = numbers; count = s.count - m; blocks = blocks })
+    set_fewer blocks same are =
+        let now : blocks ≡ with_fewer s.blocks (first / 512) m = are ∙ ap (λ n. with_fewer s.blocks (n / 512) m) at in
+        let long : length blocks ≡ length s.blocks = ap length now ∙ length-set s.blocks (first / 512) (slice_index s.blocks (first / 512) - m) in
+        record {
+          counts = subst (λ (bs : List ℕ). Counts (s.count - m) bs (set.contains numbers.members)) (sym now) (counts_fewer _ _ first m within adds s.blocks block_low s.count sound.counts);
+          room = omega (arith, long, same, sound.room);
+          few = omega (arith, long, sound.few);
+        }
+
+  pub fewer_most : slice_index s.blocks (number / 512) ≤ 512
+  fewer_most = omega (arith, counted_most s.blocks _ (first / 512) sound.counts.each block_low, ap (λ n. slice_index s.blocks (n / 512)) at)

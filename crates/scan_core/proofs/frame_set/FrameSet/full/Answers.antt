@@ -1,0 +1,14 @@
+use Rattle.std.proofs.Common.{◌≡◌, refl, ap, ◌∙◌, length, arith}
+use Rattle.std.specs.FinSet as set
+use Rattle.std.proofs.lemmas.List.{length-replicate}
+use Rattle.scan_core.proofs.FrameSets.{full_counts}
+use Rattle.scan_core.proofs.frame_set.FrameSet.full.Goals as goal
+
+pub invariant_of-result : goal.invariant_of-result
+invariant_of-result g c =
+    let long : length c.in_ok-blocks.blocks ≡ c.args.blocks = ap length c.in_ok-blocks.ensures ∙ length-replicate c.args.blocks 512 in
+    record {
+      counts = full_counts (set.contains c.in_ok-numbers.numbers.members) c.args.blocks _ c.in_ok-blocks.blocks c.in_ok-numbers.ensures.all refl c.in_ok-blocks.ensures;
+      room = omega (arith, long, c.in_ok-numbers.ensures.enough);
+      few = omega (arith, long, c.requires.few);
+    }

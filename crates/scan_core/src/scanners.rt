@@ -1,0 +1,78 @@
+//! The two scanners of a round, each on the set of the frames that it looks for.
+
+ghost use Rattle.std.specs.Prelude.{◌≡◌, ◌*◌, ◌<◌, ◌≤◌, ◌&&◌, ℕ, not, length, nat_le, nat_lt, MatchOption};
+ghost use Rattle.std.specs.FinSet as set;
+ghost use Rattle.frame_core.specs.Below.{highest, lowest};
+ghost use Rattle.number_set.specs.Finds.{IsPrevious, NoneBelow};
+ghost use Rattle.scan_core.specs.Pairs.{is_marked};
+
+use crate::fingers::Fingers;
+use crate::lists::is_marked;
+use frame_core::FrameNo;
+use number_set::NumberSet;
+
+/// The lowest source between the fingers, in an unmarked pageblock. It passes over the rest of a marked pageblock at once.
+pub(crate) fn next_source<const L: usize>(
+    sources: &NumberSet<L>,
+    marked: &[bool],
+    fingers: Fingers,
+) -> Option<FrameNo>
+    requires few { fingers.free ≤ 4096 }
+    requires room { fingers.free ≤ sources.now.bound }
+    requires marked { fingers.free ≤ 512 * length marked.now }
+    ensures { result ≡ lowest (λ frame. nat_le fingers.migrate frame && (not (is_marked marked.now frame) && set.contains sources.now.members frame)) fingers.free }
+{
+    let mut next = fingers.migrate;
+    while next < fingers.free {
+        let frame = sources.at_or_after(next)?;
+        if frame >= fingers.free {
+            return None;
+        }
+        if !is_marked(marked, frame as usize) {
+            return FrameNo::new(frame);
+        }
+        next = (frame / 512 + 1) * 512;
+    }
+    None
+}
+
+/// The highest free frame above a source and below the free finger, in an unmarked pageblock. It passes over the rest of a marked
+/// pageblock at once.
+pub(crate) fn next_target<const L: usize>(
+    free: &NumberSet<L>,
+    marked: &[bool],
+    fingers: Fingers,
+    source: FrameNo,
+) -> Option<FrameNo>
+    requires few { fingers.free ≤ 4096 }
+    requires room { fingers.free ≤ free.now.bound }
+    requires marked { fingers.free ≤ 512 * length marked.now }
+    ensures { result ≡ highest (λ frame. nat_lt source frame && (not (is_marked marked.now frame) && set.contains free.now.members frame)) fingers.free }
+{
+    let mut end = fingers.free;
+    while end > source.get() + 1 {
+        let frame = last_below(free, end)?;
+        if frame <= source.get() {
+            return None;
+        }
+        if !is_marked(marked, frame as usize) {
+            return FrameNo::new(frame);
+        }
+        end = frame / 512 * 512;
+    }
+    None
+}
+
+/// The highest number of a set below an end, which may be its bound.
+#[inline(always)]
+fn last_below<const L: usize>(numbers: &NumberSet<L>, end: u32) -> Option<u32>
+    requires some { 0 < end }
+    requires within { end ≤ numbers.now.bound }
+    ensures { MatchOption result (NoneBelow (set.contains numbers.now.members) end) (IsPrevious (set.contains numbers.now.members) end) }
+{
+    let last = end - 1;
+    if numbers.contains(last) {
+        return Some(last);
+    }
+    numbers.before(last)
+}
