@@ -11,7 +11,7 @@ use Rattle.frame_core.specs.Order.{is_aligned}
 use Rattle.frame_core.proofs.Bounds.{count_from_short}
 use Rattle.frame_core.proofs.Lists.{slice_get_replicate}
 use Rattle.frame_core.proofs.Searches.{count_all, count_from_all, count_none, some_at, some_one, lowest_is, lowest_none}
-use Rattle.scan_core.specs.BlockCounts.{CountsEach, count_in_block, is_all_counted}
+use Rattle.scan_core.specs.FrameCounts.{CountsEach, count_in_block, is_all_counted}
 use Rattle.scan_core.specs.FrameSet.{Counts, all_of_block, is_run_of}
 use Rattle.scan_core.specs.Frames.{true_at}
 use Rattle.scan_core.specs.NumberSet.{all_from, in_run}

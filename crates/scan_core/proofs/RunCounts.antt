@@ -8,7 +8,7 @@ use Rattle.frame_core.specs.Below.{count_below, count_from}
 use Rattle.frame_core.proofs.Lists.{slice_get_set_same, slice_get_set_other}
 use Rattle.frame_core.proofs.Searches.{count_more, count_same, count_some, count_from_same, count_from_most}
 use Rattle.frame_core.proofs.Bounds.{count_most, count_from_short}
-use Rattle.scan_core.specs.BlockCounts.{CountsEach, count_in_block, recounted, with_fewer, with_more}
+use Rattle.scan_core.specs.FrameCounts.{CountsEach, count_in_block, recounted, with_fewer, with_more}
 use Rattle.scan_core.specs.FrameSet.{Counts}
 use Rattle.scan_core.specs.NumberSet.{in_run}
 use Rattle.scan_core.proofs.Seeing.{run_next, run_none}

@@ -2,7 +2,7 @@
 use Rattle.std.proofs.Common.{◌≡◌, ℕ, ◌+◌, ◌-◌, ◌*◌, ◌/◌, ◌%◌, ◌<◌, ◌≤◌, List, length, length-set, sym, ap, ◌∙◌, subst, slice_index, arith}
 use Rattle.std.specs.FinSet as set
 use Rattle.number_set.specs.Numbers.{Numbers}
-use Rattle.scan_core.specs.BlockCounts.{with_fewer, with_more}
+use Rattle.scan_core.specs.FrameCounts.{with_fewer, with_more}
 use Rattle.scan_core.specs.FrameSet.{Counts}
 use Rattle.scan_core.specs.FrameSetInside.{IsCounted}
 use Rattle.scan_core.specs.declared.frame_set.FrameSet.TheInside.{Inside}

@@ -13,7 +13,7 @@ use Rattle.frame_core.specs.declared.state.FrameState.TheVariants.{Free, Holds, 
 use Rattle.frame_core.proofs.Lists.{slice_get_set_same, slice_get_set_other, slice_get_replicate}
 use Rattle.frame_core.specs.Order.{is_aligned}
 use Rattle.number_set.specs.Numbers.{Numbers}
-use Rattle.scan_core.specs.BlockCounts.{CountsEach, recounted, with_fewer, with_more}
+use Rattle.scan_core.specs.FrameCounts.{CountsEach, recounted, with_fewer, with_more}
 use Rattle.scan_core.specs.Frames.{Frames, free_at, holds_at, huge_at, source_at, stuck_at, true_at, way_at, is_stuck_state, is_free_state, is_holding_state, is_huge_state, is_source_state, is_way_state}
 use Rattle.scan_core.specs.NumberSet.{all_from, in_run}
 use Rattle.scan_core.specs.Runs.{has_block, is_run, with_run}

@@ -8,7 +8,7 @@ use Rattle.std.proofs.lemmas.Option.{get_or_from_slice_get}
 use Rattle.frame_core.specs.Below.{count_below}
 use Rattle.frame_core.proofs.Lists.{slice_get_replicate}
 use Rattle.frame_core.proofs.Searches.{count_all, count_more, count_most, count_none, count_same}
-use Rattle.scan_core.specs.BlockCounts.{is_all_counted}
+use Rattle.scan_core.specs.FrameCounts.{is_all_counted}
 
 item_of : (counts : List ℕ) (blocks count block : ℕ) → counts ≡ replicate blocks count → block < length counts → slice_index counts block ≡ count
 item_of counts blocks count block are within =

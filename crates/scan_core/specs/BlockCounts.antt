@@ -1,29 +1,8 @@
 -- Counts of frames, one for each pageblock.
-use Rattle.std.specs.Prelude.{◌≡◌, ℕ, ◌+◌, ◌-◌, ◌*◌, ◌<◌, Bool, true, false, List, length, nat_eq, slice_get, slice_index, slice_set, Some}
-use Rattle.frame_core.specs.Below.{count_from}
+use Rattle.std.specs.Prelude.{◌≡◌, ℕ, ◌<◌, List, slice_get, Some}
+use Rattle.frame_core.specs.declared.state.FrameState.{FrameState}
+use Rattle.scan_core.specs.Frames.{free_in_block}
 
--- how many frames of a pageblock pass
-abbrev pub count_in_block : (ℕ → Bool) → ℕ → ℕ
-count_in_block p block = count_from p (512 * block) 512
-
--- each number is the count of the frames of its pageblock that pass
-abbrev pub CountsEach : List ℕ → (ℕ → Bool) → Type 0
-CountsEach counts p = (block : ℕ) → block < length counts → slice_get counts block ≡ Some (count_in_block p block)
-
--- whether all 512 frames of a pageblock are counted
-abbrev pub is_all_counted : List ℕ → ℕ → Bool
-is_all_counted counts block = nat_eq (slice_index counts block) 512
-
--- the counts with this many more frames in a pageblock
-abbrev pub with_more : List ℕ → ℕ → ℕ → List ℕ
-with_more counts block frames = slice_set counts block (slice_index counts block + frames)
-
--- the counts with this many fewer frames in a pageblock
-abbrev pub with_fewer : List ℕ → ℕ → ℕ → List ℕ
-with_fewer counts block frames = slice_set counts block (slice_index counts block - frames)
-
--- the counts after one frame of a pageblock, that passed or not, passes now or not
-abbrev pub recounted : Bool → Bool → List ℕ → ℕ → List ℕ
-recounted false true counts block = with_more counts block 1
-recounted true false counts block = with_fewer counts block 1
-recounted _ _ counts block = counts
+-- each of eight numbers is the count of the free frames of its pageblock
+pub record CountsFree (counts : List ℕ) (states : List FrameState) : Type 0 where
+  pub each : (block : ℕ) → block < 8 → slice_get counts block ≡ Some (free_in_block states block)

@@ -2,7 +2,7 @@
 use Rattle.std.specs.Prelude.{◌≡◌, ℕ, ◌*◌, ◌^◌, ◌≤◌, Bool, false, ◌&&◌, List, length}
 use Rattle.frame_core.specs.Below.{count_below}
 use Rattle.frame_core.specs.Order.{is_aligned}
-use Rattle.scan_core.specs.BlockCounts.{CountsEach}
+use Rattle.scan_core.specs.FrameCounts.{CountsEach}
 use Rattle.scan_core.specs.NumberSet.{all_from}
 
 -- whether all frames of a pageblock pass

@@ -2,7 +2,7 @@
 use Rattle.std.specs.Prelude.{◌≡◌, ℕ, ◌<◌, ◌≤◌, ◌*◌, ◌^◌, length, true, false, slice_get, Some}
 use Rattle.std.specs.FinSet as set
 use Rattle.frame_core.specs.declared.state.FrameState.TheVariants.{Free}
-use Rattle.scan_core.specs.BlockCounts.{CountsEach}
+use Rattle.scan_core.specs.FrameCounts.{CountsEach}
 use Rattle.scan_core.specs.Frames.{Frames, blocks_of, free_at, huge_at, source_at, stuck_at}
 use Rattle.scan_core.specs.Seen.{seen}
 use Rattle.scan_core.specs.declared.frames.Frames.TheInside.{Inside}

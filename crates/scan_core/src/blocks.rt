@@ -1,131 +1,135 @@
 //! Counts of frames, one for each pageblock.
 
-ghost use Rattle.std.specs.Prelude.{◌≡◌, ◌+◌, ◌<◌, ◌≤◌, ◌&&◌, not, length, nat_lt, replicate, slice_index, IfOk};
-ghost use Rattle.frame_core.specs.Below.{count_below, some_below};
-ghost use Rattle.scan_core.specs.Frames.{true_at};
-ghost use Rattle.scan_core.specs.BlockCounts.{is_all_counted, with_fewer, with_more};
+ghost use Rattle.std.specs.Prelude.{◌≡◌, ℕ, ◌+◌, ◌-◌, ◌<◌, ◌≤◌, length, slice_get, slice_index, slice_set, Some};
+ghost use Rattle.frame_core.specs.Below.{count_below, lowest};
+ghost use Rattle.scan_core.specs.Frames.{blocks_of, free_in_block, is_whole};
+ghost use Rattle.scan_core.specs.BlockCounts.{CountsFree};
+ghost use Rattle.scan_core.specs.FrameCounts.{is_all_counted};
 
-use frame_core::FixedVec;
-use std::alloc::{AllocError, Global};
+use crate::lists::is_free;
+use frame_core::{BlockNo, FrameState};
 use std::marker::Model;
 
-/// How many frames of each pageblock are counted, and of how many pageblocks all 512 frames are.
+/// How many frames of each of eight pageblocks are counted: the free ones, or the members of a set.
 #[derive(Drop)]
-pub(crate) struct BlockCounts {
-    counts: FixedVec<u32>,
-    whole: u32,
+pub struct BlockCounts {
+    counts: [u32; 8],
 }
 
 impl Model for BlockCounts {
-    ghost use Rattle.std.specs.Prelude.{◌≡◌, ◌≤◌, ℕ, List, length};
-    ghost use Rattle.frame_core.specs.Below.{count_below};
-    ghost use Rattle.scan_core.specs.BlockCounts.{is_all_counted};
+    ghost use Rattle.std.specs.Prelude.{◌≡◌, ℕ, List, length};
 
     ghost Value = { List ℕ };
 
-    ghost view = { λ c. c.counts.items };
+    ghost view = { λ c. c.counts };
 
-    ghost invariant = { λ c. (c.whole ≡ count_below (is_all_counted c.counts.items) (length c.counts.items)) × (length c.counts.items ≤ 32768) };
+    ghost invariant = { λ c. length c.counts ≡ 8 };
 }
 
 impl BlockCounts {
-    /// The counts of pageblocks in each of which no frame is counted, or an error where there is no memory for them.
-    pub(crate) fn empty(alloc: Global, blocks: u32) -> Result<Self, AllocError>
-        requires { blocks ≤ 32768 }
-        ensures { IfOk result (λ counts. counts ≡ replicate blocks 0) }
+    /// Counts of 0 for each pageblock.
+    pub fn new() -> Self
+        ensures len { length result ≡ 8 }
+        ensures none { (block : ℕ) → block < 8 → slice_get result block ≡ Some 0 }
     {
-        let counts = FixedVec::filled(alloc, 0, blocks as usize)?;
-        Ok(BlockCounts { counts, whole: 0 })
+        BlockCounts { counts: [0; 8] }
     }
 
-    /// The counts of pageblocks in each of which all frames are counted, or an error where there is no memory for them.
-    pub(crate) fn full(alloc: Global, blocks: u32) -> Result<Self, AllocError>
-        requires { blocks ≤ 32768 }
-        ensures { IfOk result (λ counts. counts ≡ replicate blocks 512) }
+    /// How many frames of each pageblock are free in a list of frame states.
+    pub fn of(frames: &[FrameState]) -> Self
+        ensures { CountsFree result frames.now }
     {
-        let counts = FixedVec::filled(alloc, 512, blocks as usize)?;
-        Ok(BlockCounts {
-            counts,
-            whole: blocks,
-        })
-    }
-
-    /// How many pageblocks there are.
-    #[inline]
-    pub(crate) fn len(&self) -> u32
-        ensures len { result ≡ length self.now }
-        ensures few { result ≤ 32768 }
-    {
-        self.counts.len() as u32
+        let mut counts = [0; 8];
+        for block in 0..8 {
+            counts[block] = free_in_block(frames, block);
+        }
+        BlockCounts { counts }
     }
 
     /// How many frames of a pageblock are counted.
-    #[inline(always)]
-    pub(crate) fn get(&self, block: u32) -> u32
-        requires { block < length self.now }
+    pub fn get(&self, block: BlockNo) -> u32
+        requires { block < 8 }
         ensures { result ≡ slice_index self.now block }
     {
-        self.counts[block as usize]
+        self.counts[block.get() as usize]
     }
 
-    /// Counts more frames in a pageblock. There may be 512 in it at most.
-    #[inline(always)]
-    pub(crate) fn more(&mut self, block: u32, frames: u32)
-        requires within { block < length self.old }
-        requires some { 0 < frames }
+    /// Counts this many more frames in a pageblock. There may be 512 in it at most.
+    pub fn more(&mut self, block: BlockNo, frames: u32)
+        requires block { block < 8 }
         requires most { slice_index self.old block + frames ≤ 512 }
-        ensures { self.new ≡ with_more self.old block frames }
+        ensures { self.new ≡ slice_set self.old block (slice_index self.old block + frames) }
     {
-        let count = self.get(block) + frames;
-        self.counts[block as usize] = count;
-        if count == 512 {
-            self.whole += 1;
-        }
+        self.counts[block.get() as usize] += frames;
     }
 
-    /// Counts fewer frames in a pageblock. At least as many have to be counted.
-    #[inline(always)]
-    pub(crate) fn fewer(&mut self, block: u32, frames: u32)
-        requires within { block < length self.old }
-        requires some { 0 < frames }
-        requires counted { frames ≤ slice_index self.old block }
-        requires most { slice_index self.old block ≤ 512 }
-        ensures { self.new ≡ with_fewer self.old block frames }
+    /// Counts this many fewer frames in a pageblock. At least as many have to be counted.
+    pub fn fewer(&mut self, block: BlockNo, frames: u32)
+        requires block { block < 8 }
+        requires least { frames ≤ slice_index self.old block }
+        ensures { self.new ≡ slice_set self.old block (slice_index self.old block - frames) }
     {
-        let count = self.get(block);
-        self.counts[block as usize] = count - frames;
-        if count == 512 {
-            self.whole -= 1;
-        }
+        self.counts[block.get() as usize] -= frames;
     }
 
-    /// Whether some frame is counted in a pageblock that isn't marked.
-    pub(crate) fn has_some_unmarked(&self, marked: &[bool]) -> bool
-        requires { length self.now ≤ length marked.now }
-        ensures { result ≡ some_below (λ block. not (true_at marked.now block) && nat_lt 0 (slice_index self.now block)) (length self.now) }
+    /// How many pageblocks have all of their 512 frames counted. Compiled by itself it compares the eight counts at once, which it
+    /// doesn't where it is inlined.
+    #[inline(never)]
+    pub fn whole(&self) -> u32
+        ensures count { result ≡ count_below (is_all_counted self.now) 8 }
     {
-        for block in 0..self.len() {
-            if self.is_counted_unmarked(block, marked) {
-                return true;
+        let mut whole = 0;
+        for block in 0..8 {
+            if self.counts[block] == 512 {
+                whole += 1;
             }
         }
-        false
+        whole
     }
 
-    /// Whether a pageblock isn't marked and a frame of it is counted.
-    fn is_counted_unmarked(&self, block: u32, marked: &[bool]) -> bool
-        requires within { block < length self.now }
-        requires marked { block < length marked.now }
-        ensures { result ≡ (not (true_at marked.now block) && nat_lt 0 (slice_index self.now block)) }
+    /// The lowest pageblock that has all of its frames counted, if there is one.
+    pub fn first(&self) -> Option<BlockNo>
+        ensures lowest { result ≡ lowest (is_all_counted self.now) 8 }
     {
-        !marked[block as usize] && self.get(block) > 0
+        for block in 0..8_u32 {
+            if self.counts[block as usize] == 512 {
+                return BlockNo::new(block);
+            }
+        }
+        None
     }
+}
 
-    /// How many pageblocks have all of their 512 frames counted.
-    #[inline(always)]
-    pub(crate) fn whole(&self) -> u32
-        ensures { result ≡ count_below (is_all_counted self.now) (length self.now) }
-    {
-        self.whole
+/// How many pageblocks have only free frames, in a list of 4,096 frame states at most. The counts of the list give the answer.
+pub fn whole_blocks(frames: &[FrameState]) -> u32
+    requires { length frames.now ≤ 4096 }
+    ensures { result ≡ count_below (is_whole frames.now) (blocks_of frames.now) }
+{
+    BlockCounts::of(frames).whole()
+}
+
+/// The lowest pageblock that has only free frames, if there is one, in a list of 4,096 frame states at most. The counts
+/// of the list give the answer.
+pub fn first_whole(frames: &[FrameState]) -> Option<BlockNo>
+    requires { length frames.now ≤ 4096 }
+    ensures { result ≡ lowest (is_whole frames.now) (blocks_of frames.now) }
+{
+    BlockCounts::of(frames).first()
+}
+
+/// How many frames of a pageblock are free.
+fn free_in_block(frames: &[FrameState], block: usize) -> u32
+    requires { block < 8 }
+    ensures count { result ≡ free_in_block frames.now block }
+{
+    let first = 512 * block;
+    let mut count = 0;
+    for k in 0..512 {
+        if let Some(state) = frames.get(first + k) {
+            if is_free(state) {
+                count += 1;
+            }
+        }
     }
+    count
 }

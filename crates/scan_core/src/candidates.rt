@@ -2,9 +2,9 @@
 
 ghost use Rattle.std.specs.Prelude.{◌≡◌, ℕ, ◌*◌, ◌/◌, ◌^◌, ◌<◌, ◌≤◌, not, true, false, length, nat_eq, replicate, slice_index, IfOk, if◌then◌else◌};
 ghost use Rattle.std.specs.FinSet as set;
-ghost use Rattle.scan_core.specs.BlockCounts.{recounted};
+ghost use Rattle.scan_core.specs.FrameCounts.{recounted};
 
-use crate::blocks::BlockCounts;
+use crate::frame_counts::FrameCounts;
 use frame_core::FrameNo;
 use number_set::NumberSet;
 use std::alloc::{AllocError, Global};
@@ -14,7 +14,7 @@ use std::alloc::{AllocError, Global};
 #[derive(Drop)]
 pub(crate) struct Candidates<const L: usize> {
     pub(crate) sources: NumberSet<L>,
-    pub(crate) stuck: BlockCounts,
+    pub(crate) stuck: FrameCounts,
 }
 
 impl<const L: usize> Candidates<L> {
@@ -28,7 +28,7 @@ impl<const L: usize> Candidates<L> {
         ensures stuck { IfOk result (λ c. c.stuck ≡ replicate blocks 0) }
     {
         let sources = NumberSet::open(alloc, 512 * blocks)?;
-        let stuck = BlockCounts::empty(alloc, blocks)?;
+        let stuck = FrameCounts::empty(alloc, blocks)?;
         Ok(Candidates { sources, stuck })
     }
 

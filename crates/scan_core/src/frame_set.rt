@@ -7,7 +7,7 @@ ghost use Rattle.frame_core.specs.Order.{is_aligned};
 ghost use Rattle.scan_core.specs.FrameSet.{all_of_block, is_run_of};
 ghost use Rattle.scan_core.specs.NumberSet.{all_from, in_run};
 
-use crate::blocks::BlockCounts;
+use crate::frame_counts::FrameCounts;
 use frame_core::{FrameNo, Order};
 use number_set::NumberSet;
 use std::alloc::{AllocError, Global};
@@ -18,7 +18,7 @@ use std::marker::Model;
 pub(crate) struct FrameSet<const L: usize> {
     numbers: NumberSet<L>,
     count: u32,
-    blocks: BlockCounts,
+    blocks: FrameCounts,
 }
 
 impl<const L: usize> Model for FrameSet<L> {
@@ -46,7 +46,7 @@ impl<const L: usize> FrameSet<L> {
     {
         let count = 512 * blocks;
         let numbers = NumberSet::filled(alloc, count)?;
-        let blocks = BlockCounts::full(alloc, blocks)?;
+        let blocks = FrameCounts::full(alloc, blocks)?;
         Ok(FrameSet {
             numbers,
             count,

@@ -7,15 +7,17 @@
 mod blocks;
 mod candidates;
 mod fingers;
+mod frame_counts;
 mod frame_set;
 mod frames;
 mod lists;
 mod pair;
 mod scanners;
 
+pub use blocks::{BlockCounts, first_whole, whole_blocks};
 pub use fingers::{Fingers, Step};
 pub use frames::Frames as FramesOf;
-pub use lists::{first_run, first_whole, whole_blocks};
+pub use lists::first_run;
 pub use pair::next_pair;
 
 /// The frames of a zone of eight pageblocks at most.

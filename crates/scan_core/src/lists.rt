@@ -1,12 +1,12 @@
 //! Questions about a list of frame states.
 
 ghost use Rattle.std.specs.Prelude.{◌≡◌, ◌+◌, ◌/◌, ◌<◌, ◌≤◌, length, Some};
-ghost use Rattle.frame_core.specs.Below.{count_below, count_from, lowest};
-ghost use Rattle.scan_core.specs.Frames.{blocks_of, free_at, is_free_state, is_whole};
+ghost use Rattle.frame_core.specs.Below.{count_from};
+ghost use Rattle.scan_core.specs.Frames.{free_at, is_free_state};
 ghost use Rattle.scan_core.specs.Pairs.{is_marked};
 ghost use Rattle.scan_core.specs.Runs.{first_run, is_run};
 
-use frame_core::{BlockNo, FrameNo, FrameState, Order};
+use frame_core::{FrameNo, FrameState, Order};
 
 /// The first frame of the lowest free block of an order, if there is one, in a list of 4,096 frame states at most.
 pub fn first_run(frames: &[FrameState], order: Order) -> Option<FrameNo>
@@ -16,33 +16,6 @@ pub fn first_run(frames: &[FrameState], order: Order) -> Option<FrameNo>
     for first in 0..frames.len() {
         if is_run(frames, first, order) {
             return FrameNo::new(first as u32);
-        }
-    }
-    None
-}
-
-/// How many pageblocks have only free frames, in a list of 4,096 frame states at most.
-pub fn whole_blocks(frames: &[FrameState]) -> u32
-    requires { length frames.now ≤ 4096 }
-    ensures { result ≡ count_below (is_whole frames.now) (blocks_of frames.now) }
-{
-    let mut whole = 0;
-    for block in 0..frames.len() / 512 {
-        if is_whole(frames, block) {
-            whole += 1;
-        }
-    }
-    whole
-}
-
-/// The lowest pageblock that has only free frames, if there is one, in a list of 4,096 frame states at most.
-pub fn first_whole(frames: &[FrameState]) -> Option<BlockNo>
-    requires { length frames.now ≤ 4096 }
-    ensures { result ≡ lowest (is_whole frames.now) (blocks_of frames.now) }
-{
-    for block in 0..frames.len() / 512 {
-        if is_whole(frames, block) {
-            return BlockNo::new(block as u32);
         }
     }
     None
@@ -74,14 +47,6 @@ fn is_run(frames: &[FrameState], first: usize, order: Order) -> bool
 {
     let count = order.frames() as usize;
     first % count == 0 && first + count <= frames.len() && count_free(frames, first, count) == count
-}
-
-/// Whether all 512 frames of a pageblock are free.
-fn is_whole(frames: &[FrameState], block: usize) -> bool
-    requires { block < blocks_of frames.now }
-    ensures { result ≡ is_whole frames.now block }
-{
-    count_free(frames, 512 * block, 512) == 512
 }
 
 /// How many of this many frames, from `first` upwards, are free.

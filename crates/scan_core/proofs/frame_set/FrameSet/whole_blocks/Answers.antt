@@ -3,7 +3,7 @@ use Rattle.std.specs.FinSet as set
 use Rattle.number_set.specs.Numbers.{Numbers}
 use Rattle.frame_core.specs.Below.{count_below}
 use Rattle.frame_core.proofs.Searches.{count_same}
-use Rattle.scan_core.specs.BlockCounts.{is_all_counted}
+use Rattle.scan_core.specs.FrameCounts.{is_all_counted}
 use Rattle.scan_core.specs.FrameSet.{all_of_block}
 use Rattle.scan_core.proofs.FrameSets.{full_by_counts}
 use Rattle.scan_core.proofs.frame_set.FrameSet.whole_blocks.Goals as goal

@@ -1,6 +1,6 @@
 use Rattle.std.proofs.Common.{refl, sym, ◌∙◌, ◌/◌, not, ap, arith}
 use Rattle.frame_core.specs.FixedVec.{with_item}
-use Rattle.scan_core.specs.BlockCounts.{recounted}
+use Rattle.scan_core.specs.FrameCounts.{recounted}
 use Rattle.scan_core.specs.Frames.{is_holding_state}
 use Rattle.scan_core.proofs.Masking.{other, twice}
 use Rattle.scan_core.proofs.Steps as step

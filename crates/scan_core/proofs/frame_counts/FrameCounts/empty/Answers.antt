@@ -1,5 +1,5 @@
 use Rattle.scan_core.proofs.Wholes.{none_whole, few_long}
-use Rattle.scan_core.proofs.blocks.BlockCounts.empty.Goals as goal
+use Rattle.scan_core.proofs.frame_counts.FrameCounts.empty.Goals as goal
 
 pub invariant_of-result : goal.invariant_of-result
 invariant_of-result c =

@@ -2,7 +2,7 @@ use Rattle.std.proofs.Common.{ℕ, ◌<◌, not, sym, length, slice_index, below
 use Rattle.std.specs.Prelude.{◌&&◌, nat_lt}
 use Rattle.frame_core.proofs.Searches.{some_at, none_some}
 use Rattle.scan_core.specs.Frames.{true_at}
-use Rattle.scan_core.proofs.blocks.BlockCounts.has_some_unmarked.Goals as goal
+use Rattle.scan_core.proofs.frame_counts.FrameCounts.has_some_unmarked.Goals as goal
 
 pub returns-then-is_counted_unmarked : goal.returns-then-is_counted_unmarked
 returns-then-is_counted_unmarked c =

@@ -1,9 +1,9 @@
 use Rattle.std.proofs.Common.{ℕ, ◌+◌, ◌<◌, List, ◌∙◌, ap, sym, length-set, slice_index, arith}
 use Rattle.frame_core.proofs.Searches.{count_most}
-use Rattle.scan_core.specs.BlockCounts.{is_all_counted}
+use Rattle.scan_core.specs.FrameCounts.{is_all_counted}
 use Rattle.std.specs.Prelude.{length, slice_set}
 use Rattle.scan_core.proofs.Wholes.{one_more_whole}
-use Rattle.scan_core.proofs.blocks.BlockCounts.more.Goals as goal
+use Rattle.scan_core.proofs.frame_counts.FrameCounts.more.Goals as goal
 
 pub overflow_add-self : goal.overflow_add-self
 overflow_add-self c =

@@ -1,5 +1,5 @@
 use Rattle.scan_core.proofs.Wholes.{all_whole, few_long}
-use Rattle.scan_core.proofs.blocks.BlockCounts.full.Goals as goal
+use Rattle.scan_core.proofs.frame_counts.FrameCounts.full.Goals as goal
 
 pub invariant_of-result : goal.invariant_of-result
 invariant_of-result c =

@@ -1,7 +1,7 @@
 use Rattle.std.proofs.Common.{ℕ, ◌-◌, ◌<◌, List, ap, length-set, slice_index, arith}
 use Rattle.std.specs.Prelude.{length}
 use Rattle.scan_core.proofs.Wholes.{one_fewer_whole}
-use Rattle.scan_core.proofs.blocks.BlockCounts.fewer.Goals as goal
+use Rattle.scan_core.proofs.frame_counts.FrameCounts.fewer.Goals as goal
 
 pub overflow_sub-self : goal.overflow_sub-self
 overflow_sub-self c =
