@@ -1,12 +1,9 @@
 -- The free frames of a list, and of each pageblock.
-use Rattle.std.proofs.Common.{◌≡◌, ℕ, ◌+◌, ◌*◌, ◌<◌, ◌≤◌, Bool, false, List, length, sym, ap, ◌∙◌, get_or, arith}
+use Rattle.std.proofs.Common.{◌≡◌, ℕ, ◌<◌, ◌≤◌, false, List, length, ap, get_or}
 use Rattle.std.specs.Prelude.{Some}
 use Rattle.std.proofs.lemmas.Option.{slice_get-get_or, slice_get_past}
 use Rattle.frame_core.specs.declared.state.FrameState.{FrameState}
 use Rattle.scan_core.specs.Frames.{is_free_state, free_at}
-
-pub free_at_item : (states : List FrameState) (frame : ℕ) (d : FrameState) → frame < length states → free_at states frame ≡ is_free_state (Some (get_or states frame d))
-free_at_item states frame d within = ap is_free_state (slice_get-get_or states frame d within)
 
 pub not_free_past : (states : List FrameState) (frame : ℕ) → length states ≤ frame → free_at states frame ≡ false
 not_free_past states frame past = ap is_free_state (slice_get_past states frame past)
