@@ -1,7 +1,6 @@
 -- The free frames of a list, and of each pageblock.
-use Rattle.std.proofs.Common.{◌≡◌, ℕ, ◌<◌, ◌≤◌, false, List, length, ap, get_or}
-use Rattle.std.specs.Prelude.{Some}
-use Rattle.std.proofs.lemmas.Option.{slice_get-get_or, slice_get_past}
+use Rattle.std.proofs.Common.{◌≡◌, ℕ, ◌≤◌, false, List, length, ap}
+use Rattle.std.proofs.lemmas.Option.{slice_get_past}
 use Rattle.frame_core.specs.declared.state.FrameState.{FrameState}
 use Rattle.scan_core.specs.Frames.{is_free_state, free_at}
 
