@@ -9,4 +9,4 @@ use Rattle.zone_tables.specs.declared.notes.Notes.TheInside.{Inside}
 pub record IsCounted (z : Inside) : Type 0 where
   pub few : length z.notes.items ≤ 4096
   pub in_use : z.in_use ≡ count_below (is_in_use z.notes.items) (length z.notes.items)
-  pub unused : (page : ℕ) → set.contains z.unused page ≡ (nat_lt page (length z.notes.items) && is_none (placement_of z.notes.items page))
+  pub unused : (page : ℕ) → set.contains z.unused.members page ≡ (nat_lt page (length z.notes.items) && is_none (placement_of z.notes.items page))

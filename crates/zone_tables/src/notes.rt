@@ -8,7 +8,7 @@ ghost use Rattle.zone_tables.specs.declared.note.PageNote.{PageNote as Noted};
 
 use crate::note::PageNote;
 use frame_core::{FixedVec, PageNo};
-use scan_core::NumberSet;
+use number_set::NumberSet;
 use state_core::Placement;
 use std::alloc::{AllocError, Global};
 use std::marker::Model;
@@ -20,7 +20,7 @@ pub struct Notes {
     /// How many page numbers are in use.
     in_use: u32,
     /// The page numbers that aren't in use.
-    unused: NumberSet,
+    unused: NumberSet<2>,
 }
 
 impl Model for Notes {
@@ -46,7 +46,7 @@ impl Notes {
         Ok(Notes {
             notes,
             in_use: 0,
-            unused: numbers_below(count),
+            unused: NumberSet::filled(alloc, count)?,
         })
     }
 
@@ -115,18 +115,6 @@ impl Notes {
     pub fn lowest_unused(&self) -> Option<PageNo>
         ensures { result ≡ lowest (λ page. is_none (placement_of self.now page)) (length self.now) }
     {
-        PageNo::new(self.unused.lowest()?)
+        PageNo::new(self.unused.first()?)
     }
-}
-
-/// The set of the numbers below a count.
-fn numbers_below(count: u32) -> NumberSet
-    requires { count ≤ 4096 }
-    ensures { (number : ℕ) → set.contains result number ≡ nat_lt number count }
-{
-    let mut numbers = NumberSet::new();
-    for number in 0..count {
-        numbers.insert(number);
-    }
-    numbers
 }
