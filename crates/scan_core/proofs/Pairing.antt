@@ -1,10 +1,10 @@
 -- What the scanners find is the pair, and where they find none there is none.
-use Rattle.std.proofs.Common.{◌≡◌, ℕ, ◌<◌, ◌≤◌, Bool, true, false, not, List, inl, inr, refl, sym, ap, ◌∙◌, arith}
-use Rattle.std.specs.Prelude.{Option, Some, None, nat_le, nat_lt, slice_get, ◌&&◌}
+use Rattle.std.proofs.Common.{◌≡◌, ℕ, ◌<◌, ◌≤◌, Bool, true, not, List, inl, inr, sym, ap, ◌∙◌, arith}
+use Rattle.std.specs.Prelude.{Some, None, nat_le, nat_lt, ◌&&◌}
 use Rattle.std.proofs.lemmas.Bool.{and_parts, ltb-true, leb-true, lt-ltb, le-leb, not-true}
 use Rattle.std.proofs.lemmas.Bool.Decides.{leb_tells}
 use Rattle.frame_core.specs.declared.state.FrameState.{FrameState}
-use Rattle.frame_core.specs.Below.{highest, lowest}
+use Rattle.frame_core.specs.Below.{highest}
 use Rattle.frame_core.proofs.Searches.{lowest_some, lowest_before, no_lowest}
 use Rattle.scan_core.specs.declared.fingers.Fingers.{Fingers}
 use Rattle.scan_core.specs.Frames.{free_at, holds_at, true_at}

@@ -25,7 +25,7 @@ use Rattle.scan_core.proofs.Masking.{clash}
 use Rattle.scan_core.proofs.Numbering.{member_insert, member_remove}
 use Rattle.scan_core.proofs.Orders.{one_block, some_frames}
 use Rattle.scan_core.proofs.RunCounts.{Adds, counted_less, counted_most, counted_some, each_fewer, each_more, length_recounted, recount, room_fewer, room_more}
-use Rattle.scan_core.proofs.Seeing.{length_seen, length_with_run, same_items, seen_get, seen_put, seen_held, seen_released, seen_none_held, seen_state, with_run_get, skipped, taken}
+use Rattle.scan_core.proofs.Seeing.{length_seen, same_items, seen_get, seen_put, seen_held, seen_released, seen_none_held, seen_state, with_run_get, skipped, taken}
 use Rattle.scan_core.proofs.Spanning.{both}
 
 free_kept : (h : Bool) (o : Option FrameState) → is_free_state (seen_state h o) ≡ true → o ≡ Some Free
@@ -423,15 +423,6 @@ module _ {L : ℕ} {now : Frames} (z : Inside L) (sound : IsSound z) (view : fra
         let stays = set_same z.kept.items frame (Holds is.0) within kept_is ∙ ap (λ k. slice_set z.kept.items k (Holds is.0)) (sym at) in
         (put z.kept movable z.free sources stuck (Holds is.0) said (not flag) (page_only was (seen_test is_holding_state page)).0 refl within stays flags
         (λ n. keep_if n frame (set.contains z.free.members) false (page_isnt_free page)) refl sources_put sources_same (page_is_stuck page) recounts).0
-
-    -- what is said of the page was known
-    pub sound_known : (movable : FixedVec Bool) (said : Bool) → holds_at now.states frame ≡ true → movable.items ≡ slice_set z.movable.items index said → said ≡ flag → IsSound (record z { movable = movable })
-    sound_known movable said page flags known =
-        sound_said movable z.candidates.sources z.candidates.stuck said page flags (λ n. keep_if n frame (set.contains z.candidates.sources.members) said (page_is_source page ∙ sym known)) refl (unchanged (not flag) ∙ ap (λ b. recounted (not flag) (not b) z.candidates.stuck (frame / 512)) (sym known))
-      where
-        unchanged : (b : Bool) → z.candidates.stuck ≡ recounted b b z.candidates.stuck (frame / 512)
-        unchanged true = refl
-        unchanged false = refl
 
 -- the frames of a block are handed out or taken back
 module _ {L : ℕ} {now : Frames} (z : Inside L) (sound : IsSound z) (view : frames_of z ≡ now) (first order : ℕ) where

@@ -1,5 +1,5 @@
 -- How many pageblocks have all of their frames counted.
-use Rattle.std.proofs.Common.{◌≡◌, ◌≢◌, ℕ, ◌+◌, ◌-◌, ◌<◌, ◌≤◌, Bool, true, false, List, length, length-set, inl, inr, sym, ap, ◌∙◌, slice_index, get_or-set_same, get_or-set_other, eq-eqb, replicate, arith}
+use Rattle.std.proofs.Common.{◌≡◌, ◌≢◌, ℕ, ◌+◌, ◌<◌, ◌≤◌, List, length, length-set, inl, inr, sym, ap, ◌∙◌, slice_index, get_or-set_same, get_or-set_other, eq-eqb, replicate, arith}
 use Rattle.std.specs.Prelude.{nat_eq, slice_get, slice_set}
 use Rattle.std.proofs.lemmas.Bool.{ne_eqb}
 use Rattle.std.proofs.lemmas.Bool.Decides.{eqb_tells}
@@ -7,7 +7,7 @@ use Rattle.std.proofs.lemmas.List.{length-replicate}
 use Rattle.std.proofs.lemmas.Option.{get_or_from_slice_get}
 use Rattle.frame_core.specs.Below.{count_below}
 use Rattle.frame_core.proofs.Lists.{slice_get_replicate}
-use Rattle.frame_core.proofs.Searches.{count_all, count_more, count_most, count_none, count_same}
+use Rattle.frame_core.proofs.Searches.{count_all, count_more, count_none, count_same}
 use Rattle.scan_core.specs.FrameCounts.{is_all_counted}
 
 item_of : (counts : List ℕ) (blocks count block : ℕ) → counts ≡ replicate blocks count → block < length counts → slice_index counts block ≡ count

@@ -1,4 +1,4 @@
-use Rattle.std.proofs.Common.{◌∙◌, sym, subst, ap, arith}
+use Rattle.std.proofs.Common.{sym, subst, ap, arith}
 use Rattle.scan_core.specs.Frames.{free_at}
 use Rattle.scan_core.specs.Pairs.{Finds}
 use Rattle.scan_core.specs.declared.fingers.Fingers.{Fingers}

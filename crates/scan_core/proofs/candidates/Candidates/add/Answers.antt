@@ -1,9 +1,9 @@
-use Rattle.std.proofs.Common.{◌∙◌, ap, refl}
+use Rattle.std.proofs.Common.{◌∙◌, ap}
 use Rattle.std.specs.Prelude.{nat_eq, ◌||◌}
 use Rattle.std.specs.FinSet as set
 use Rattle.number_set.specs.Numbers.{Numbers}
-use Rattle.scan_core.proofs.FrameSets.{insert_if, remove_if, keep_if}
-use Rattle.scan_core.proofs.Numbering.{member_insert, member_remove}
+use Rattle.scan_core.proofs.FrameSets.{insert_if}
+use Rattle.scan_core.proofs.Numbering.{member_insert}
 use Rattle.scan_core.proofs.candidates.Candidates.add.Goals as goal
 
 pub returns-then-movable-clause-sources : goal.returns-then-movable-clause-sources

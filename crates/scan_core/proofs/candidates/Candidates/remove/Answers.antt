@@ -2,8 +2,8 @@ use Rattle.std.proofs.Common.{◌∙◌, ap, refl}
 use Rattle.std.specs.Prelude.{nat_eq, not, false, ◌&&◌}
 use Rattle.std.specs.FinSet as set
 use Rattle.number_set.specs.Numbers.{Numbers}
-use Rattle.scan_core.proofs.FrameSets.{insert_if, remove_if, keep_if}
-use Rattle.scan_core.proofs.Numbering.{member_insert, member_remove}
+use Rattle.scan_core.proofs.FrameSets.{remove_if}
+use Rattle.scan_core.proofs.Numbering.{member_remove}
 use Rattle.scan_core.proofs.candidates.Candidates.remove.Goals as goal
 
 pub returns-then-movable-clause-sources : goal.returns-then-movable-clause-sources

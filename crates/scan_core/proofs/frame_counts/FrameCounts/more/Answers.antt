@@ -1,4 +1,4 @@
-use Rattle.std.proofs.Common.{ℕ, ◌+◌, ◌<◌, List, ◌∙◌, ap, sym, length-set, slice_index, arith}
+use Rattle.std.proofs.Common.{ℕ, ◌+◌, ◌<◌, List, ap, length-set, slice_index, arith}
 use Rattle.frame_core.proofs.Searches.{count_most}
 use Rattle.scan_core.specs.FrameCounts.{is_all_counted}
 use Rattle.std.specs.Prelude.{length, slice_set}

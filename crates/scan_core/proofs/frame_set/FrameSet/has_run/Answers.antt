@@ -1,4 +1,4 @@
-use Rattle.std.proofs.Common.{◌≡◌, ◌^◌, ◌/◌, ◌<◌, ap, sym, ◌∙◌, length, eq-eqb, arith}
+use Rattle.std.proofs.Common.{◌^◌, ◌/◌, ◌<◌, ap, sym, ◌∙◌, length, eq-eqb, arith}
 use Rattle.std.specs.FinSet as set
 use Rattle.number_set.specs.Numbers.{Numbers}
 use Rattle.std.proofs.lemmas.Bool.{lt-leb}

@@ -1,8 +1,6 @@
-use Rattle.std.proofs.Common.{◌<◌, ◌*◌, ◌^◌, ◌≡◌, length, true, ap, sym, ◌∙◌, arith}
-use Rattle.std.specs.Prelude.{not, ◌&&◌, ◌||◌}
+use Rattle.std.proofs.Common.{◌<◌, ◌*◌, length, ap, ◌∙◌, arith}
 use Rattle.std.specs.FinSet as set
 use Rattle.number_set.specs.Numbers.{Numbers}
-use Rattle.scan_core.specs.NumberSet.{in_run}
 use Rattle.scan_core.proofs.FrameSets.{inserts_one}
 use Rattle.scan_core.proofs.SetSteps.{more_fits, more_room, set_more}
 use Rattle.scan_core.proofs.frame_set.FrameSet.insert.Goals as goal

@@ -1,10 +1,7 @@
-use Rattle.std.proofs.Common.{refl, sym, ◌∙◌, ◌<◌, ◌≡◌, ◌^◌, true, false, not, length, length-set, ap, arith}
-use Rattle.std.specs.Prelude.{slice_set}
-use Rattle.std.specs.FinSet as set
-use Rattle.number_set.specs.Numbers.{Numbers}
+use Rattle.std.proofs.Common.{refl, sym, ◌∙◌, not, length, length-set, ap, arith}
 use Rattle.frame_core.specs.FixedVec.{with_item}
-use Rattle.frame_core.specs.declared.state.FrameState.TheVariants.{Free, Holds, Source, Target}
-use Rattle.scan_core.specs.Frames.{Frames, is_free_state, is_holding_state, is_way_state}
+use Rattle.frame_core.specs.declared.state.FrameState.TheVariants.{Free}
+use Rattle.scan_core.specs.Frames.{is_holding_state}
 use Rattle.scan_core.proofs.Steps as step
 use Rattle.scan_core.proofs.frames.Frames.empty.Goals as goal
 

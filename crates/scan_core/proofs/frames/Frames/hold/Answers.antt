@@ -1,10 +1,8 @@
-use Rattle.std.proofs.Common.{◌^◌, ◌+◌, ◌≤◌, ◌*◌, ◌<◌, ◌%◌, ◌/◌, sym, ap, ◌∙◌, slice_index, arith}
-use Rattle.std.specs.Prelude.{not, ◌&&◌, ◌||◌}
+use Rattle.std.proofs.Common.{◌^◌, ◌%◌, ◌/◌, ap, ◌∙◌, slice_index, arith}
+use Rattle.std.specs.Prelude.{◌||◌}
 use Rattle.std.specs.FinSet as set
-use Rattle.scan_core.specs.FrameCounts.{with_fewer, with_more}
-use Rattle.scan_core.specs.Frames.{huge_at, is_free_state}
+use Rattle.scan_core.specs.FrameCounts.{with_more}
 use Rattle.scan_core.specs.NumberSet.{in_run}
-use Rattle.scan_core.proofs.FrameSets.{all_pass}
 use Rattle.scan_core.proofs.Orders.{no_rest}
 use Rattle.scan_core.proofs.Steps as step
 use Rattle.scan_core.proofs.frames.Frames.hold.Goals as goal

@@ -1,4 +1,4 @@
-use Rattle.std.proofs.Common.{◌≡◌, ◌∙◌, ◌*◌, ◌≤◌, ◌<◌, ℕ, Bool, not, length, sym, ap, arith, subst}
+use Rattle.std.proofs.Common.{◌∙◌, ℕ, Bool, not, sym, ap, arith, subst}
 use Rattle.std.specs.Prelude.{nat_lt, ◌&&◌}
 use Rattle.std.specs.FinSet as set
 use Rattle.frame_core.specs.Below.{highest}

@@ -12,6 +12,10 @@ use Rattle.scan_core.proofs.frames.Frames.state.Goals.{else-is_free-via-then-is_
 pub index-requires : goal.index-requires
 index-requires g c = omega (arith, c.requires, frames_kept c.self.inside c.self.invariant c.self.view_is, c.get.ensures.value)
 
+pub contains-requires : goal.contains-requires
+contains-requires g c =
+    (omega arith, omega (arith, c.requires, frames_kept c.self.inside c.self.invariant c.self.view_is, c.self.invariant.held_room, c.get-then-is_free.ensures.value))
+
 pub returns-then-contains : goal.returns-then-contains
 returns-then-contains g c =
     let z = c.self.inside in
