@@ -13,7 +13,7 @@ module _ {L : ℕ} (s : Inside L) (sound : IsCounted s) (numbers : Numbers) (fir
   block_low = omega (arith, low)
 
   module _ (adds : Adds (set.contains s.numbers.members) (set.contains numbers.members) first m) where
-    pub more_fits : s.count + m ≤ 4096
+    pub more_fits : s.count + m ≤ 16777216
     more_fits = omega (arith, count_room _ _ first m within adds s.blocks block_low s.count sound.counts, sound.few)
 
     pub more_room : slice_index s.blocks (number / 512) + m ≤ 512

@@ -13,4 +13,4 @@ frames_in s = record { members = s.numbers.members; bound = 512 * length s.block
 pub record IsCounted {L : ℕ} (s : Inside L) : Type 0 where
   pub counts : Counts s.count s.blocks (set.contains s.numbers.members)
   pub room : 512 * length s.blocks ≤ s.numbers.bound
-  pub few : 512 * length s.blocks ≤ 4096
+  pub few : 512 * length s.blocks ≤ 16777216

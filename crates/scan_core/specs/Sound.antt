@@ -16,7 +16,7 @@ pub record IsSound {L : ℕ} (z : Inside L) : Type 0 where
   pub whole : length z.kept.items ≡ 512 * blocks_of z.kept.items
   pub some : 0 < blocks_of z.kept.items
   pub levels : length z.kept.items ≤ 64 ^ L
-  pub few : length z.kept.items ≤ 4096
+  pub few : length z.kept.items ≤ 16777216
   pub movable : length z.movable.items ≡ length z.kept.items
   pub never_huge : (frame : ℕ) → huge_at z.kept.items frame ≡ false
   pub held : (frame : ℕ) → set.contains z.held.members frame ≡ true → slice_get z.kept.items frame ≡ Some Free

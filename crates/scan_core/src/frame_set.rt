@@ -40,7 +40,7 @@ impl<const L: usize> FrameSet<L> {
     pub(crate) fn full(alloc: Global, blocks: u32) -> Result<Self, AllocError>
         requires levels { (2 ≤ L) × (L ≤ 4) }
         requires room { 512 * blocks ≤ 64 ^ L }
-        requires few { 512 * blocks ≤ 4096 }
+        requires few { 512 * blocks ≤ 16777216 }
         ensures members { IfOk result (λ s. (frame : ℕ) → set.contains s.members frame ≡ nat_lt frame (512 * blocks)) }
         ensures bound { IfOk result (λ s. s.bound ≡ 512 * blocks) }
     {
@@ -134,7 +134,7 @@ impl<const L: usize> FrameSet<L> {
         ensures lowest { result ≡ lowest (set.contains self.now.members) self.now.bound }
         ensures member { IfSome result (λ frame. set.contains self.now.members frame ≡ true) }
     {
-        FrameNo::new(self.numbers.first()?)
+        FrameNo::in_any_zone(self.numbers.first()?)
     }
 
     /// How many pageblocks have all of their frames in the set.
@@ -152,7 +152,7 @@ impl<const L: usize> FrameSet<L> {
         for run in 0..512 * self.blocks.len() / frames {
             let first = run * frames;
             if self.has_run(first, order) {
-                return FrameNo::new(first);
+                return FrameNo::in_any_zone(first);
             }
         }
         None

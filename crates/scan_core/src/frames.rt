@@ -39,13 +39,12 @@ impl<const L: usize> Model for Frames<L> {
 }
 
 impl<const L: usize> Frames<L> {
-    /// The frames of this many pageblocks, 1 to 8, each frame free, or an error where there is no memory for them. No
+    /// The frames of this many pageblocks, each frame free, or an error where there is no memory for them. No
     /// other call takes memory.
     pub fn open(alloc: Global, blocks: u32) -> Result<Self, AllocError>
         requires levels { (2 ≤ L) × (L ≤ 4) }
         requires some { 0 < blocks }
         requires room { 512 * blocks ≤ 64 ^ L }
-        requires few { blocks ≤ 8 }
         ensures open { IfOk result (λ frames. frames ≡ all_free blocks) }
         ensures frames { IfOk result (λ frames. length frames.states ≡ 512 * blocks) }
     {
@@ -69,7 +68,6 @@ impl<const L: usize> Frames<L> {
         ensures len { result ≡ length self.now.states }
         ensures whole { result ≡ 512 * blocks_of self.now.states }
         ensures some { 0 < result }
-        ensures few { result ≤ 4096 }
         ensures levels { result ≤ 64 ^ L }
         ensures movable { length self.now.movable ≡ length self.now.states }
     {
@@ -81,7 +79,6 @@ impl<const L: usize> Frames<L> {
         ensures blocks { result ≡ blocks_of self.now.states }
         ensures frames { length self.now.states ≡ 512 * result }
         ensures some { 0 < result }
-        ensures few { result ≤ 8 }
         ensures levels { 512 * result ≤ 64 ^ L }
     {
         self.len() / 512

@@ -17,7 +17,7 @@ pub(crate) fn next_source<const L: usize>(
     marked: &[bool],
     fingers: Fingers,
 ) -> Option<FrameNo>
-    requires few { fingers.free ≤ 4096 }
+    requires few { fingers.free ≤ 16777216 }
     requires room { fingers.free ≤ sources.now.bound }
     requires marked { fingers.free ≤ 512 * length marked.now }
     ensures { result ≡ lowest (λ frame. nat_le fingers.migrate frame && (not (is_marked marked.now frame) && set.contains sources.now.members frame)) fingers.free }
@@ -29,7 +29,7 @@ pub(crate) fn next_source<const L: usize>(
             return None;
         }
         if !is_marked(marked, frame as usize) {
-            return FrameNo::new(frame);
+            return FrameNo::in_any_zone(frame);
         }
         next = (frame / 512 + 1) * 512;
     }
@@ -44,7 +44,7 @@ pub(crate) fn next_target<const L: usize>(
     fingers: Fingers,
     source: FrameNo,
 ) -> Option<FrameNo>
-    requires few { fingers.free ≤ 4096 }
+    requires few { fingers.free ≤ 16777216 }
     requires room { fingers.free ≤ free.now.bound }
     requires marked { fingers.free ≤ 512 * length marked.now }
     ensures { result ≡ highest (λ frame. nat_lt source frame && (not (is_marked marked.now frame) && set.contains free.now.members frame)) fingers.free }
@@ -56,7 +56,7 @@ pub(crate) fn next_target<const L: usize>(
             return None;
         }
         if !is_marked(marked, frame as usize) {
-            return FrameNo::new(frame);
+            return FrameNo::in_any_zone(frame);
         }
         end = frame / 512 * 512;
     }

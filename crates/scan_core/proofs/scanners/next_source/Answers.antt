@@ -16,7 +16,7 @@ returns-then-frame-fingers g c =
 
 pub returns-then-not-is_marked : goal.returns-then-not-is_marked
 returns-then-not-is_marked g c =
-    some_is _ c.in_ok-frame.frame (c.new.ensures.valid.1 (omega (arith, c.if-frame-fingers.false, c.requires.few))) c.new.ensures.value
+    some_is _ c.in_ok-frame.frame (c.in_any_zone.ensures.valid.1 (omega (arith, c.if-frame-fingers.false, c.requires.few))) c.in_any_zone.ensures.value
     ∙ sym (source_here c.args.marked.now (set.contains c.args.sources.now.members) c.args.fingers.migrate c.args.fingers.free c.loop-next.next c.loop-next.invariant.before c.in_ok-frame.frame c.in_ok-frame.ensures.next (omega (arith, c.if-frame-fingers.false)) c.loop-next.invariant.low (sym c.is_marked.ensures ∙ c.if-not-is_marked.true))
 
 pub loop-next-preserved : goal.loop-next-preserved

@@ -15,7 +15,7 @@ returns-then-frame-get g c =
 
 pub returns-then-not-is_marked : goal.returns-then-not-is_marked
 returns-then-not-is_marked g c =
-    some_is _ c.in_ok-frame.frame (c.new.ensures.valid.1 (omega (arith, c.in_ok-frame.ensures.below, c.loop-end.invariant.high, c.requires.few))) c.new.ensures.value
+    some_is _ c.in_ok-frame.frame (c.in_any_zone.ensures.valid.1 (omega (arith, c.in_ok-frame.ensures.below, c.loop-end.invariant.high, c.requires.few))) c.in_any_zone.ensures.value
     ∙ sym (target_here c.args.marked.now (set.contains c.args.free.now.members) c.args.source c.args.fingers.free c.loop-end.end c.loop-end.invariant.above c.in_ok-frame.frame c.in_ok-frame.ensures (omega (arith, c.if-frame-get.false, c.get-in-loop-end.ensures.value)) c.loop-end.invariant.high (sym c.is_marked.ensures ∙ c.if-not-is_marked.true))
 
 pub loop-end-preserved : goal.loop-end-preserved

@@ -18,7 +18,7 @@ returns-then-has_run g c =
     let p = set.contains c.args.self.now.members in
     let bound : 512 * c.len.result ≡ c.args.self.now.bound = omega (arith, ap (λ (s : Numbers). s.bound) c.self.view_is, c.len.ensures.len) in
     let within : c.loop-run.run * c.frames-frames.result < 512 * c.len.result = omega (arith, multiple_within p c.len.result c.args.order c.frames-frames.result c.frames-frames.ensures.low c.frames-frames.ensures.high c.frames-frames.ensures.value c.loop-run.run c.loop-run-test.true, some_frames c.args.order c.frames-frames.ensures.low c.frames-frames.ensures.high) in
-    some_is _ (c.loop-run.run * c.frames-frames.result) (c.new.ensures.valid.1 (omega (arith, within, c.len.ensures.len, c.self.invariant.few))) c.new.ensures.value
+    some_is _ (c.loop-run.run * c.frames-frames.result) (c.in_any_zone.ensures.valid.1 (omega (arith, within, c.len.ensures.len, c.self.invariant.few))) c.in_any_zone.ensures.value
     ∙ sym (run_lowest p c.len.result c.args.order c.frames-frames.result c.frames-frames.ensures.low c.frames-frames.ensures.high c.frames-frames.ensures.value c.loop-run.run within (sym c.has_run.ensures ∙ c.if-has_run.true) c.loop-run.invariant)
     ∙ ap (lowest (is_run_of p c.args.order)) bound
 

@@ -17,6 +17,6 @@ pub returns-clause-lowest : goal.returns-clause-lowest
 returns-clause-lowest g c =
     let found = c.in_ok-first.field-0 in
     let within : found < 512 * length c.self.inside.blocks = below_bound (set.contains c.self.inside.numbers.members) c.self.inside.count c.self.inside.blocks c.self.invariant.counts found c.in_ok-first.ensures.first.passes in
-    some_is _ found (c.new.ensures.valid.1 (omega (arith, within, c.self.invariant.few))) c.new.ensures.value
+    some_is _ found (c.in_any_zone.ensures.valid.1 (omega (arith, within, c.self.invariant.few))) c.in_any_zone.ensures.value
     ∙ sym (lowest_is (set.contains c.self.inside.numbers.members) (512 * length c.self.inside.blocks) found within c.in_ok-first.ensures.first.passes c.in_ok-first.ensures.first.before)
     ∙ ap (λ (s : Numbers). lowest (set.contains s.members) s.bound) c.self.view_is

@@ -10,7 +10,6 @@ returns g c =
       len = omega (arith, same, c.len.ensures);
       whole = omega (arith, same, c.len.ensures, c.self.invariant.whole);
       some = omega (arith, c.len.ensures, c.self.invariant.whole, c.self.invariant.some);
-      few = omega (arith, c.len.ensures, c.self.invariant.whole, c.self.invariant.few);
       levels = omega (arith, c.len.ensures, c.self.invariant.levels);
       movable = omega (arith, ap (λ (frames : Frames). length frames.movable) c.self.view_is, same, c.self.invariant.movable);
     }
