@@ -1,6 +1,6 @@
 -- An evacuation that isn't refused: what is known before it, and what is true after it.
 use Rattle.std.proofs.Common.{◌≡◌, ℕ, ◌+◌, ◌-◌, ◌*◌, ◌/◌, ◌^◌, ◌<◌, ◌≤◌, Bool, true, false, not, ◌&&◌, cond, length, refl, sym, ap, subst, ◌∙◌, arith}
-use Rattle.std.specs.Prelude.{Option, Some, None, nat_eq, nat_le}
+use Rattle.std.specs.Prelude.{Some, None, nat_eq, nat_le}
 use Rattle.std.proofs.lemmas.Bool.{and_parts, and_from, eq-eqb, eqb-true, leb-true, or_parts}
 use Rattle.frame_core.proofs.Searches.{count_from_all}
 use Rattle.frame_core.specs.Below.{count_from}

@@ -1,5 +1,4 @@
-use Rattle.std.proofs.Common.{◌≡◌, ◌∙◌, ◌+◌, ◌-◌, ◌^◌, ◌<◌, ℕ, ap, subst, sym, arith}
-use Rattle.std.specs.Prelude.{Some, None}
+use Rattle.std.proofs.Common.{◌∙◌, ◌+◌, ◌^◌, ◌<◌, ℕ, ap, subst, sym, arith}
 use Rattle.fewest_core.specs.Evacuation.{moved_away}
 use Rattle.fewest_core.specs.FewestMoves.{IsMove}
 use Rattle.state_core.specs.Isolating.{isolate_refusal}

@@ -1,4 +1,4 @@
-use Rattle.std.proofs.Common.{◌≡◌, ◌∙◌, ◌+◌, ◌^◌, ℕ, inl, inr, ap, subst, sym, arith}
+use Rattle.std.proofs.Common.{◌∙◌, ◌+◌, ◌^◌, inl, inr, ap, subst, sym, arith}
 use Rattle.std.specs.Prelude.{is_some}
 use Rattle.std.proofs.lemmas.Bool.Decides.{eqb_tells}
 use Rattle.fewest_core.specs.FewestMoves.{is_shut}
@@ -7,7 +7,7 @@ use Rattle.state_core.specs.Pairs.{holder}
 use Rattle.state_core.specs.Valid.{IsValidZone}
 use Rattle.state_core.specs.ZoneState.{is_used}
 use Rattle.zone_core.proofs.Emptying.{count_from-next, count_from-zero, shut_closes, unshut_opens, used_is}
-use Rattle.zone_core.proofs.Evacuated.{cost_is, open_is}
+use Rattle.zone_core.proofs.Evacuated.{open_is}
 use Rattle.zone_core.proofs.bare.BareZone.pages_of.Goals as goal
 use Rattle.zone_core.proofs.bare.BareZone.pages_of.Goals.{then-is_some, else-is_some}
 

@@ -1,4 +1,4 @@
-use Rattle.std.proofs.Common.{◌≡◌, ℕ, ◌+◌, ◌^◌, ◌<◌, ◌≤◌, false}
+use Rattle.std.proofs.Common.{◌≡◌, ℕ, ◌+◌, ◌<◌, ◌≤◌, false}
 use Rattle.fewest_core.specs.FewestMoves.{is_shut}
 use Rattle.frame_core.specs.Below.{count_from}
 use Rattle.state_core.specs.ZoneState.{is_used}
