@@ -27,8 +27,9 @@
  * - An open pool is closed in the end; otherwise its memory is lost.
  *
  * Three caps of a pool's life. The way out of each is to close the pool and open another.
- * - 2^32 - 1 isolations: each page that a round takes is isolated. After them compactd_isolate answers JOURNAL_FULL, compactd_move_pages
- *   stops so, and the scanners of compactd_compact don't meet. At 2 us a page that is 2.4 hours of steady compaction.
+ * - 2^32 - 1 isolations: each page that a round or an evacuation takes is isolated. After them compactd_isolate and compactd_evacuate answer
+ *   JOURNAL_FULL, compactd_move_pages stops so, and the scanners of compactd_compact don't meet. At 2 us a page that is 2.4 hours of steady
+ *   compaction.
  * - 2^53 recorded calls of a pool that keeps no journal; each word of compactd_read and compactd_write counts as one. After them recorded
  *   calls are refused as JOURNAL_FULL.
  * - A journal that is kept has the places that it was opened with. It can't be emptied.
@@ -428,6 +429,16 @@ uint32_t compactd_commit(compactd_pool *pool, const compactd_moving_page *page, 
 /* Ends the move of a page without a copy: the page is in its old frame, with its words.
  * Refused: CLOSED; STRANGER. */
 uint32_t compactd_put_back(compactd_pool *pool, const compactd_moving_page *page) COMPACTD_CALL;
+
+/* Evacuations. */
+
+/* Empties the run of 2^order frames, 8 to 512, from the frame `first` on, and gets how many pages went out of it. All of its frames are free
+ * then. The lowest page goes to the highest free frame outside of the run, in a pageblock that isn't marked, and so on; each is copied once.
+ * If a page goes, the latest round ends. No page may be moving, pinned or unmovable in the run, nor a frame of it marked or handed out.
+ * Refused: CLOSED; RANGE, also where the frame isn't a multiple of 2^order or the run goes past the pool; NO_BLOCK where a page or a frame of
+ * the run is so, or it has more pages than there are such frames for them; JOURNAL_FULL where there aren't two places for each page, or
+ * 2^32 - 1 pages would have been isolated before the last one. */
+uint32_t compactd_evacuate(compactd_pool *pool, uint32_t first, uint32_t order, uint32_t *moved) COMPACTD_CALL;
 
 #ifdef __cplusplus
 }
