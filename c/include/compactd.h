@@ -103,7 +103,7 @@ enum compactd_refusal {
     COMPACTD_PIN_FULL = 8,      /* the page has 255 pins already */
     COMPACTD_NOT_PINNED = 9,    /* the page has no pin */
     COMPACTD_PINNED = 10,       /* the page has a pin and this is its last address */
-    COMPACTD_NO_BLOCK = 11,     /* no block of this order has only free frames */
+    COMPACTD_NO_BLOCK = 11,     /* no block of this order has only free frames, or the run can't be emptied */
     COMPACTD_NOT_HUGE = 12,     /* no block of this order that begins at this frame is handed out */
     COMPACTD_STRANGER = 13,     /* no such page is moving in this pool, or its words differ */
     COMPACTD_MEMORY = 14,       /* there isn't enough memory */
@@ -131,7 +131,7 @@ COMPACTD_IN_HEADER const char *compactd_refusal_text(uint32_t refusal)
     case COMPACTD_PIN_FULL: return "the page has 255 pins already";
     case COMPACTD_NOT_PINNED: return "the page has no pin";
     case COMPACTD_PINNED: return "the page has a pin and this is its last address";
-    case COMPACTD_NO_BLOCK: return "no block of this order has only free frames";
+    case COMPACTD_NO_BLOCK: return "no block of this order has only free frames, or the run can't be emptied";
     case COMPACTD_NOT_HUGE: return "no block of this order that begins at this frame is handed out";
     case COMPACTD_STRANGER: return "no such page is moving in this pool, or its words differ";
     case COMPACTD_MEMORY: return "there isn't enough memory";
@@ -432,12 +432,12 @@ uint32_t compactd_put_back(compactd_pool *pool, const compactd_moving_page *page
 
 /* Evacuations. */
 
-/* Empties the run of 2^order frames, 8 to 512, from the frame `first` on, and gets how many pages went out of it. All of its frames are free
- * then. The lowest page goes to the highest free frame outside of the run, in a pageblock that isn't marked, and so on; each is copied once.
- * If a page goes, the latest round ends. No page may be moving, pinned or unmovable in the run, nor a frame of it marked or handed out.
- * Refused: CLOSED; RANGE, also where the frame isn't a multiple of 2^order or the run goes past the pool; NO_BLOCK where a page or a frame of
- * the run is so, or it has more pages than there are such frames for them; JOURNAL_FULL where there aren't two places for each page, or
- * 2^32 - 1 pages would have been isolated before the last one. */
+/* Empties the run of 2^order frames that begins at a frame, and gets how many pages were moved out of it. All frames of the run are free then,
+ * so a block may be handed out there. The lowest page goes to the highest free frame that is outside of the run and in no marked pageblock,
+ * the next page to the next of these frames below, and so on. Each page is copied once. Where a page is moved, the latest round ends.
+ * Refused: CLOSED; RANGE, also where the frame isn't a multiple of 2^order or the run goes past the pool; NO_BLOCK where a frame of the run is
+ * in a marked pageblock, in a block that is handed out, or taken up by a page that is moving, pinned or unmovable, or where there are fewer
+ * frames to go to than pages; JOURNAL_FULL where there aren't two places for each page, or fewer isolations are left than pages. */
 uint32_t compactd_evacuate(compactd_pool *pool, uint32_t first, uint32_t order, uint32_t *moved) COMPACTD_CALL;
 
 #ifdef __cplusplus
