@@ -385,31 +385,37 @@ static void map_into(compactd_pool *pool, uint32_t vpage, uint32_t at)
     OK(compactd_store(pool, 0, 0, vpage, 7, 10 + vpage));
 }
 
-/* Three pages in the frames 8 to 15, and one in the highest frame: what keeps the pages there, and then they go. The frames that they leave
- * can be handed out. */
+/* Three pages in the frames 8 to 15, and one in the highest frame. What keeps them there: a pin, a mark, a page that is moving, from or to. */
+static void runs_that_stay(compactd_pool *pool, uint32_t page_words)
+{
+    map_into(pool, 0, 9);
+    map_into(pool, 1, 12);
+    map_into(pool, 2, 15);
+    map_into(pool, 3, 1023);
+    empties(pool, 16, 4, 0);
+    OK(compactd_pin(pool, 0, 0, 1));
+    stays(pool, 8, 3);
+    stays(pool, 0, 9);
+    OK(compactd_unpin(pool, 0, 0, 1));
+    OK(compactd_mark(pool, 0));
+    stays(pool, 8, 3);
+    OK(compactd_unmark(pool, 0));
+    OK(compactd_begin_round(pool));
+    OK(compactd_isolate(pool, &page, words, page_words)); /* from frame 9 to frame 1022 */
+    stays(pool, 8, 3);
+    stays(pool, 1016, 3);
+    OK(compactd_put_back(pool, &page));
+    is_in_frame(pool, 0, 9);
+}
+
+/* They go while a round is begun, which goes on then, and the frames that they leave are handed out. Then all pages go down. */
 static void evacuations(uint32_t page_words)
 {
     compactd_pool pool = {0};
 
     OK(compactd_open(&pool, page_words, 2));
-    map_into(&pool, 0, 9);
-    map_into(&pool, 1, 12);
-    map_into(&pool, 2, 15);
-    map_into(&pool, 3, 1023);
-    empties(&pool, 16, 4, 0);
-    OK(compactd_pin(&pool, 0, 0, 1));
-    stays(&pool, 8, 3);
-    stays(&pool, 0, 9);
-    is_in_frame(&pool, 0, 9);
-    OK(compactd_unpin(&pool, 0, 0, 1));
-    OK(compactd_mark(&pool, 0));
-    stays(&pool, 8, 3);
-    OK(compactd_unmark(&pool, 0));
-    OK(compactd_begin_round(&pool));
-    OK(compactd_isolate(&pool, &page, words, page_words)); /* from frame 9 to frame 1022 */
-    stays(&pool, 8, 3);
-    stays(&pool, 1016, 3);
-    OK(compactd_put_back(&pool, &page));
+    runs_that_stay(&pool, page_words);
+    map_into(&pool, 4, 3);
     OK(compactd_begin_round(&pool));
     empties(&pool, 32, 5, 0);
     OK(compactd_quiet(&pool, &is_so));
@@ -421,24 +427,27 @@ static void evacuations(uint32_t page_words)
     is_in_frame(&pool, 3, 1023);
     OK(compactd_quiet(&pool, &is_so));
     HOLDS(!is_so);
-    moves(&pool, 1, 0, COMPACTD_MET); /* the round has ended */
-    OK(compactd_free_runs(&pool, 9, &runs));
-    HOLDS(runs == 1);
+    moves(&pool, 2, 1, COMPACTD_MET);
+    is_in_frame(&pool, 4, 1019);
     OK(compactd_audit(&pool, &round_counts));
-    HOLDS(round_counts.isolated == 4 && round_counts.moved == 3 && round_counts.back == 1);
+    HOLDS(round_counts.isolated == 5 && round_counts.moved == 4 && round_counts.back == 1);
     OK(compactd_take_order(&pool, 9, &frame));
     HOLDS(frame == 0);
     stays(&pool, 8, 3); /* handed out */
     OK(compactd_give_order(&pool, 0, 9));
     OK(compactd_mark(&pool, 0));
-    empties(&pool, 1016, 3, 4); /* down, and into no frame of a marked pageblock */
-    is_in_frame(&pool, 0, 1014);
-    is_in_frame(&pool, 3, 1012);
-    is_in_frame(&pool, 2, 1015);
+    stays(&pool, 512, 9); /* no frame outside of it is in an unmarked pageblock */
+    empties(&pool, 1016, 3, 5);
+    is_in_frame(&pool, 4, 1015);
+    is_in_frame(&pool, 3, 1011);
+    OK(compactd_unmark(&pool, 0));
+    empties(&pool, 512, 9, 5);
+    is_in_frame(&pool, 3, 511);
+    is_in_frame(&pool, 4, 507);
     OK(compactd_close(&pool));
 }
 
-/* A full pool but for a frame of each pageblock, whose pages can't go anywhere. One page can, of a run that has no other. */
+/* A pool with few free frames: fewer than a run has pages, or all of them in the run. */
 static void evacuations_of_a_full_pool(uint32_t page_words)
 {
     compactd_pool pool = {0};
@@ -448,19 +457,19 @@ static void evacuations_of_a_full_pool(uint32_t page_words)
     for (at = 0; at < 1024; at++)
         OK(compactd_map(&pool, 0, 0, at, 0, &frame));
     stays(&pool, 0, 3);
-    for (at = 1; at < 9; at++)
+    for (at = 1; at < 8; at++)
         OK(compactd_unmap(&pool, 0, 0, at));
-    stays(&pool, 512, 3); /* eight pages, and no frame below 8 but seven of them */
+    stays(&pool, 0, 3);
+    stays(&pool, 512, 3);
     OK(compactd_unmap(&pool, 0, 0, 520));
-    stays(&pool, 0, 9);
     empties(&pool, 0, 3, 1);
     OK(compactd_look(&pool, 0, 0, &info));
     HOLDS(info.frame == 520);
     empties(&pool, 512, 3, 8);
     OK(compactd_look(&pool, 0, 512, &info));
-    HOLDS(info.frame == 8);
-    OK(compactd_look(&pool, 0, 513, &info));
     HOLDS(info.frame == 7);
+    OK(compactd_look(&pool, 0, 519, &info));
+    HOLDS(info.frame == 0);
     OK(compactd_close(&pool));
 }
 

@@ -13,8 +13,8 @@ use crate::calls::{CLOSED, told};
 use crate::pool::Pool;
 
 /// Empties a run of 2^order frames, which is aligned to its size, and gets how many pages went out of it. Each page goes to the highest free
-/// frame of an unmarked pageblock outside of the run, the lowest page first, and is copied once. The latest round ends with the first of
-/// them.
+/// frame of an unmarked pageblock outside of the run, the lowest page first, and is copied once. The latest round isn't quiet
+/// after the first of them.
 ///
 /// Refused as RANGE where a number is out of its range or no block of this order can begin at the frame. Refused as NO_BLOCK where a frame
 /// of the run is in a marked pageblock, handed out, or of a page that is moving, pinned or unmovable, and where fewer frames are free outside
