@@ -367,8 +367,8 @@ uint32_t compactd_look(compactd_pool *pool, uint32_t space, uint32_t vpage, comp
 uint32_t compactd_marked(compactd_pool *pool, uint32_t block, compactd_bool *marked) COMPACTD_CALL;
 
 /* Gets whether the latest round is quiet: it started with no moving page and no obstacle outside marked pageblocks, and only loads, stores
- * and moves of rounds followed. An obstacle is a page that has a pin or is unmovable, or a block that is handed out. When the scanners of a quiet
- * round have met and no page is moving, the pool is packed: in the pageblocks that aren't marked, each free frame is below each page.
+ * and moves of rounds followed. An obstacle is a page that has a pin or is unmovable, or a block that is handed out. When the scanners of a
+ * quiet round have met and no page is moving, the pool is packed: in the pageblocks that aren't marked, each free frame is below each page.
  * Refused: CLOSED. */
 uint32_t compactd_quiet(compactd_pool *pool, compactd_bool *quiet) COMPACTD_CALL;
 
@@ -432,13 +432,13 @@ uint32_t compactd_put_back(compactd_pool *pool, const compactd_moving_page *page
 
 /* Evacuations. */
 
-/* Empties the run of 2^order frames that begins at a frame, and gets how many pages were moved out of it. All frames of the run are free then,
- * so a block may be handed out there. The lowest page goes to the highest free frame that is outside of the run and in no marked pageblock,
- * the next page to the next of these frames below, and so on. Each page is copied once. Where a page is moved, the latest round isn't
- * quiet any more; it may go on.
- * Refused: CLOSED; RANGE, also where the frame isn't a multiple of 2^order or the run goes past the pool; NO_BLOCK where a frame of the run is
- * in a marked pageblock, in a block that is handed out, or taken up by a page that is moving, pinned or unmovable, or where there are fewer
- * frames to go to than pages; JOURNAL_FULL where there aren't two places for each page, or fewer isolations are left than pages. */
+/* Empties the run of 2^order frames that begins at a frame, and gets how many pages were moved out of it. All frames of the run are free
+ * then, so a block may be handed out there. The lowest page goes to the highest free frame that is outside of the run and in no marked
+ * pageblock, the next page to the next of these frames below, and so on. Each page is copied once. Where a page is moved, the latest round
+ * isn't quiet any more; it may go on.
+ * Refused: CLOSED; RANGE, also where the frame isn't a multiple of 2^order or the run goes past the pool; NO_BLOCK where a frame of the run
+ * is in a marked pageblock, in a block that is handed out, or taken up by a page that is moving, pinned or unmovable, or where there are
+ * fewer frames to go to than pages; JOURNAL_FULL where there aren't two places for each page, or fewer isolations are left than pages. */
 uint32_t compactd_evacuate(compactd_pool *pool, uint32_t first, uint32_t order, uint32_t *moved) COMPACTD_CALL;
 
 #ifdef __cplusplus

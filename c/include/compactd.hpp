@@ -441,8 +441,8 @@ public:
 
     // Evacuations.
 
-    // Empties the run of 2^order frames that begins at a frame, and returns how many pages were moved out of it, each by one copy. All frames
-    // of the run are free then. Where a page is moved, the latest round isn't quiet any more.
+    // Empties the run of 2^order frames that begins at a frame, and returns how many pages were moved out of it, each by one copy. All
+    // frames of the run are free then. Where a page is moved, the latest round isn't quiet any more.
     std::uint32_t evacuate(std::uint32_t first, std::uint32_t order = 9)
     {
         std::uint32_t moved = 0;

@@ -385,7 +385,8 @@ static void map_into(compactd_pool *pool, uint32_t vpage, uint32_t at)
     OK(compactd_store(pool, 0, 0, vpage, 7, 10 + vpage));
 }
 
-/* Three pages in the frames 8 to 15, and one in the highest frame. What keeps them there: a pin, a mark, a page that is moving, from or to. */
+/* Three pages in the frames 8 to 15, and one in the highest frame. A pin keeps them there, a mark, and a page that leaves a frame of a run
+ * or comes to one. */
 static void runs_that_stay(compactd_pool *pool, uint32_t page_words)
 {
     map_into(pool, 0, 9);

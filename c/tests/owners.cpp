@@ -259,7 +259,7 @@ void questions()
     HOLDS(kept.describe().page_words == 8 && kept.describe().places == 77);
     HOLDS(pool.free_runs(9) == 3 && pool.free_runs(0) == 0 && pool.fragmentation(9) == -1000);
     HOLDS(refusal([&] { pool.free_runs(10); }) == COMPACTD_RANGE && refusal([&] { pool.fragmentation(10); }) == COMPACTD_RANGE);
-    HOLDS(std::string(Error(COMPACTD_NO_BLOCK).what()) == "compactd: no block of this order has only free frames, or the run can't be emptied");
+    HOLDS(std::string(Error(COMPACTD_NOT_HUGE).what()) == "compactd: no block of this order that begins at this frame is handed out");
     HOLDS(std::string(Error(15).what()) == "compactd: unknown refusal");
 }
 

@@ -93,9 +93,9 @@ impl Pool {
         Slice { moved, stopped }
     }
 
-    /// Empties the run of `2^order` frames, order 3 to 9, that begins at a frame, and returns how many pages were moved out of it. All frames
-    /// of the run are free then. The lowest page goes to the highest free frame outside of the run, in a pageblock that isn't marked, and so
-    /// on; each page is copied once. Where a page is moved, the latest round isn't quiet any more.
+    /// Empties the run of `2^order` frames, order 3 to 9, that begins at a frame, and returns how many pages were moved out of it. All
+    /// frames of the run are free then. The lowest page goes to the highest free frame that is outside of the run and in no marked
+    /// pageblock, and so on; each page is copied once. Where a page is moved, the latest round isn't quiet any more.
     ///
     /// ```
     /// # use compactd::{Address, Error, PageSize, Pool};

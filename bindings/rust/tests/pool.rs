@@ -122,7 +122,7 @@ fn empties_a_run() {
         pool.map_at(0, Address::new(0, page), false, 6 + page).unwrap();
     }
     pool.store(0, Address::new(0, 1), 7, 5).unwrap();
-    assert_eq!((pool.evacuate(0, 10), pool.evacuate(4, 3), pool.evacuate(512, 3)), (Err(Error::Range), Err(Error::Range), Err(Error::Range)));
+    assert_eq!([(0, 10), (4, 3), (512, 3)].map(|(first, order)| pool.evacuate(first, order)), [Err(Error::Range); 3]);
     pool.pin(0, Address::new(0, 1)).unwrap();
     assert_eq!((pool.evacuate(0, 3), pool.evacuate(8, 3), pool.evacuate(8, 3)), (Err(Error::NoBlock), Ok(1), Ok(0)));
     pool.unpin(0, Address::new(0, 1)).unwrap();

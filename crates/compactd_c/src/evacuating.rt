@@ -12,13 +12,13 @@ ghost use Rattle.state_core.specs.ZoneState.{ZoneState};
 use crate::calls::{CLOSED, told};
 use crate::pool::Pool;
 
-/// Empties a run of 2^order frames, which is aligned to its size, and gets how many pages went out of it. Each page goes to the highest free
-/// frame of an unmarked pageblock outside of the run, the lowest page first, and is copied once. The latest round isn't quiet
-/// after the first of them.
+/// Empties a run of 2^order frames, which is aligned to its size, and gets how many pages went out of it. Each page goes to the highest
+/// free frame of an unmarked pageblock outside of the run, the lowest page first, and is copied once. The latest round isn't quiet after
+/// the first of them.
 ///
 /// Refused as RANGE where a number is out of its range or no block of this order can begin at the frame. Refused as NO_BLOCK where a frame
-/// of the run is in a marked pageblock, handed out, or of a page that is moving, pinned or unmovable, and where fewer frames are free outside
-/// of the run, in unmarked pageblocks, than the run has pages. Refused as JOURNAL_FULL, or as CLOSED.
+/// of the run is in a marked pageblock, handed out, or of a page that is moving, pinned or unmovable, and where fewer frames are free
+/// outside of the run, in unmarked pageblocks, than the run has pages. Refused as JOURNAL_FULL, or as CLOSED.
 #[unsafe(no_mangle)]
 pub extern "C" fn compactd_evacuate(
     pool: &mut Pool,
