@@ -20,12 +20,7 @@ use crate::pool::Pool;
 /// of the run is in a marked pageblock, handed out, or of a page that is moving, pinned or unmovable, and where fewer frames are free
 /// outside of the run, in unmarked pageblocks, than the run has pages. Refused as JOURNAL_FULL, or as CLOSED.
 #[unsafe(no_mangle)]
-pub extern "C" fn compactd_evacuate(
-    pool: &mut Pool,
-    first: u32,
-    order: u32,
-    moved: &mut u32,
-) -> u32
+pub extern "C" fn compactd_evacuate(pool: &mut Pool, first: u32, order: u32, moved: &mut u32) -> u32
     ensures answer { result ≡ answer pool.old.zone (λ z. ranged (is_block first order) (evacuate_refusal z first order)) }
     ensures zone { pool.new.zone ≡ left pool.old.zone (λ z. ranged (is_block first order) (evacuate_refusal z first order)) (λ z. evacuated z first (2 ^ order)) }
     ensures moved { (z : ZoneState) → pool.old.zone ≡ Some z → result ≡ 0 → moved.new ≡ cost z (2 ^ order) (first / 2 ^ order) }
