@@ -3,7 +3,7 @@
 ghost use Rattle.std.specs.Prelude.{◌≡◌, ◌+◌, ◌/◌, ◌^◌, IsTrue, Some};
 ghost use Rattle.compactd_c.specs.Answers.{answer, left};
 ghost use Rattle.compactd_c.specs.Asked.{is_block, ranged};
-ghost use Rattle.fewest_core.specs.Evacuation.{evacuate_refusal, evacuated};
+ghost use Rattle.fewest_core.specs.Evacuation.{evacuate_refusal, evacuated, IsCarriedOut};
 ghost use Rattle.fewest_core.specs.FewestMoves.{cost};
 ghost use Rattle.frame_core.specs.Moves.{moved as pages_moved};
 ghost use Rattle.state_core.specs.HandingOut.{is_run};
@@ -26,8 +26,9 @@ pub extern "C" fn compactd_evacuate(pool: &mut Pool, first: u32, order: u32, mov
     ensures moved { (z : ZoneState) → pool.old.zone ≡ Some z → result ≡ 0 → moved.new ≡ cost z (2 ^ order) (first / 2 ^ order) }
     // So many moves of pages are in the records of the zone that it leaves.
     ensures records { (z : ZoneState) → pool.old.zone ≡ Some z → result ≡ 0 → pages_moved (evacuated z first (2 ^ order)).records ≡ pages_moved z.records + moved.new }
-    // All frames of the run are free.
+    // All frames of the run are free, and the pages are as they were, but for the frames of those that went.
     ensures empty { (z : ZoneState) → pool.new.zone ≡ Some z → result ≡ 0 → IsTrue (is_run z order first) }
+    ensures carried { (old new : ZoneState) → pool.old.zone ≡ Some old → pool.new.zone ≡ Some new → result ≡ 0 → IsCarriedOut first (2 ^ order) old new }
     ensures kept { ¬ (result ≡ 0) → moved.new ≡ moved.old }
 {
     let Some(zone) = pool.zone() else {

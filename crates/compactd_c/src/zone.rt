@@ -2,7 +2,7 @@
 
 ghost use Rattle.std.specs.Prelude.{◌≡◌, ◌+◌, ◌≤◌, ◌↔◌, ◌&&◌, ◌/◌, ◌^◌, nat_lt, true, ℕ, false, length, reverse, slice_get, is_some, Some, None, IsTrue, IsOk, IfOk, IfErr, OnOk, OnErr, IfSome};
 ghost use Rattle.std.specs.Result.{result_err};
-ghost use Rattle.fewest_core.specs.Evacuation.{evacuate_refusal, evacuated};
+ghost use Rattle.fewest_core.specs.Evacuation.{evacuate_refusal, evacuated, IsCarriedOut};
 ghost use Rattle.fewest_core.specs.FewestMoves.{cost};
 ghost use Rattle.frame_core.specs.Moves.{moved, out};
 ghost use Rattle.frame_core.specs.declared.record.Cause.{Cause};
@@ -415,6 +415,7 @@ impl Zone {
         ensures ok { OnOk result (self.new ≡ evacuated self.old first (2 ^ order)) }
         ensures moved { IfOk result (λ pages. moved self.new.records ≡ moved self.old.records + pages) }
         ensures empty { OnOk result (IsTrue (is_run self.new order first)) }
+        ensures carried { OnOk result (IsCarriedOut first (2 ^ order) self.old self.new) }
     {
         let (first, order) = block(first, order).ok_or(ZoneError::Range)?;
         match &mut self.kind {
