@@ -24,7 +24,7 @@ pub extern "C" fn compactd_evacuate(pool: &mut Pool, first: u32, order: u32, mov
     ensures answer { result ≡ answer pool.old.zone (λ z. ranged (is_block first order) (evacuate_refusal z first order)) }
     ensures zone { pool.new.zone ≡ left pool.old.zone (λ z. ranged (is_block first order) (evacuate_refusal z first order)) (λ z. evacuated z first (2 ^ order)) }
     ensures moved { (z : ZoneState) → pool.old.zone ≡ Some z → result ≡ 0 → moved.new ≡ cost z (2 ^ order) (first / 2 ^ order) }
-    // So many moves of pages are in the records of the zone that it leaves.
+    // The records of the zone that it leaves have so many moves more.
     ensures records { (z : ZoneState) → pool.old.zone ≡ Some z → result ≡ 0 → pages_moved (evacuated z first (2 ^ order)).records ≡ pages_moved z.records + moved.new }
     // All frames of the run are free, and the pages are as they were, but for the frames of those that went.
     ensures empty { (z : ZoneState) → pool.new.zone ≡ Some z → result ≡ 0 → IsTrue (is_run z order first) }
