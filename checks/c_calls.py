@@ -1,11 +1,11 @@
 """Random calls of the library for C are answered as by the machine of `checks/machine.py`.
 
 A million calls are made through `libcompactd.so` and beside them on the machine, with pages of both sizes, with a journal and without one,
-among them rounds, slices of rounds, and pages that are moved by hand. After each the number of its refusal is compared, and what it
-tells; where it is refused, what it would have told has to be untouched. The reserved words of a structure have to be 0 once a call has
-filled it, and are random in those that a call is given. Numbers are also out of their ranges. All refusals come up but those of a pool
-that is closed, open already or can't have its memory, which `checks/c_exports.py` tries. At the end the records of each pool are compared
-too."""
+among them rounds, slices of rounds, pages that are moved by hand, and runs that are emptied. After each the number of its refusal is
+compared, and what it tells; where it is refused, what it would have told has to be untouched. The reserved words of a structure have to
+be 0 once a call has filled it, and are random in those that a call is given. Numbers are also out of their ranges. All refusals come up
+but those of a pool that is closed, open already or can't have its memory, which `checks/c_exports.py` tries. At the end the records of
+each pool are compared too."""
 
 import collections
 import ctypes
@@ -108,6 +108,7 @@ ARGUMENTS = {
     "compact": [told(byte)],
     "begin_round": [],
     "move_pages": [u32, told(u32), told(u32)],
+    "evacuate": [u32, u32, told(u32)],
     "isolate": [told(MovingPage), told(u64), size],
     "commit": [told(MovingPage), told(u64), size, told(byte)],
     "put_back": [told(MovingPage)],
@@ -174,6 +175,8 @@ class Chooser:
         order = self.order()
         return self.number(self.frames >> min(order, 9), 4096) << min(order, 9), order
 
+    evacuate = give_order
+
     def mark(self):
         return (self.number(self.blocks, 8),)
 
@@ -227,7 +230,7 @@ OFTEN = {
     **dict.fromkeys(["map", "load", "store", "unmap"], 200),
     **dict.fromkeys(["map_at", "share", "look", "write", "read"], 60),
     **dict.fromkeys(["pin", "unpin"], 40),
-    **dict.fromkeys(["take_order", "give_order", "read_block", "write_block"], 15),
+    **dict.fromkeys(["take_order", "give_order", "read_block", "write_block", "evacuate"], 15),
     **dict.fromkeys(["mark", "unmark", "marked", "info", "quiet", "audit", "describe", "free_runs", "fragmentation"], 5),
     **dict.fromkeys(["isolate", "commit"], 20),
     "next_moving": 10,

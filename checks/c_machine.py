@@ -41,11 +41,15 @@ class Zone(machine.Zone):
         stays = is_page and (held.unmovable or held.pins > 0)
         return not self.is_marked(frame) and (stays or held is not None and not is_page)
 
-    def take_next(self):
-        page = super().take_next()
-        if page is not None:
-            self.note(8, number=page.serial, other=None)
+    def isolate(self, source, target):
+        page = super().isolate(source, target)
+        self.note(8, number=page.serial, other=None)
         return page
+
+    def evacuate(self, first, order):
+        moved = super().evacuate(first, order)
+        self.is_quiet &= moved == 0
+        return moved
 
     def end_move(self, page, is_moved, cause=1):
         self.note(9 if is_moved else 10, number=page.serial, other=0 if is_moved else cause)
@@ -255,6 +259,10 @@ class ByMachine:
     def move_pages(self, most):
         moved, stopped = self.zone.move_pages(most)
         return moved, STOPPED[stopped]
+
+    def evacuate(self, first, order):
+        need_order(order)
+        return self.zone.evacuate(first, order)
 
     def isolate(self, count):
         """The serial of the next page, its flags and its words."""

@@ -285,13 +285,16 @@ class Zone:
         if pair is None:
             return None
         source, target = pair
+        self.low, self.high = source + 1, target
+        return self.isolate(source, target)
+
+    def isolate(self, source, target):
         page = self.frames[source]
         page.serial, page.target = self.serials, target
         self.frames[target] = page
         self.moving[page.serial] = page
         self.serials += 1
         self.places -= 1
-        self.low, self.high = source + 1, target
         return page
 
     def end_move(self, page, is_moved):
@@ -355,6 +358,19 @@ class Zone:
                 return moved, "met"
             self.end_move(page, True)
         return most, None
+
+    def evacuate(self, first, order):
+        """Empties a run of frames, the lowest page first: each goes to the highest free frame outside. How many they are."""
+        self.need_frames(first, 2**order)
+        run = range(first, first + 2**order)
+        sources = [frame for frame in run if self.frames[frame] is not None]
+        targets = [frame for frame in range(self.size) if frame not in run and self.can_take(frame)]
+        if any(map(self.is_marked, run)) or not all(map(self.can_move, sources)) or len(sources) > len(targets):
+            raise Refused(11)
+        self.need_places(2 * len(sources))
+        for source, target in zip(sources, reversed(targets)):
+            self.end_move(self.isolate(source, target), True)
+        return len(sources)
 
     def compact(self):
         if self.is_open:

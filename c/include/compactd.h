@@ -27,8 +27,9 @@
  * - An open pool is closed in the end; otherwise its memory is lost.
  *
  * Three caps of a pool's life. The way out of each is to close the pool and open another.
- * - 2^32 - 1 isolations: each page that a round takes is isolated. After them compactd_isolate answers JOURNAL_FULL, compactd_move_pages
- *   stops so, and the scanners of compactd_compact don't meet. At 2 us a page that is 2.4 hours of steady compaction.
+ * - 2^32 - 1 isolations: each page that a round or an evacuation takes is isolated. After them compactd_isolate and compactd_evacuate answer
+ *   JOURNAL_FULL, compactd_move_pages stops so, and the scanners of compactd_compact don't meet. At 2 us a page that is 2.4 hours of steady
+ *   compaction.
  * - 2^53 recorded calls of a pool that keeps no journal; each word of compactd_read and compactd_write counts as one. After them recorded
  *   calls are refused as JOURNAL_FULL.
  * - A journal that is kept has the places that it was opened with. It can't be emptied.
@@ -102,7 +103,7 @@ enum compactd_refusal {
     COMPACTD_PIN_FULL = 8,      /* the page has 255 pins already */
     COMPACTD_NOT_PINNED = 9,    /* the page has no pin */
     COMPACTD_PINNED = 10,       /* the page has a pin and this is its last address */
-    COMPACTD_NO_BLOCK = 11,     /* no block of this order has only free frames */
+    COMPACTD_NO_BLOCK = 11,     /* no block of this order has only free frames, or the run can't be emptied */
     COMPACTD_NOT_HUGE = 12,     /* no block of this order that begins at this frame is handed out */
     COMPACTD_STRANGER = 13,     /* no such page is moving in this pool, or its words differ */
     COMPACTD_MEMORY = 14,       /* there isn't enough memory */
@@ -130,7 +131,7 @@ COMPACTD_IN_HEADER const char *compactd_refusal_text(uint32_t refusal)
     case COMPACTD_PIN_FULL: return "the page has 255 pins already";
     case COMPACTD_NOT_PINNED: return "the page has no pin";
     case COMPACTD_PINNED: return "the page has a pin and this is its last address";
-    case COMPACTD_NO_BLOCK: return "no block of this order has only free frames";
+    case COMPACTD_NO_BLOCK: return "no block of this order has only free frames, or the run can't be emptied";
     case COMPACTD_NOT_HUGE: return "no block of this order that begins at this frame is handed out";
     case COMPACTD_STRANGER: return "no such page is moving in this pool, or its words differ";
     case COMPACTD_MEMORY: return "there isn't enough memory";
@@ -366,8 +367,8 @@ uint32_t compactd_look(compactd_pool *pool, uint32_t space, uint32_t vpage, comp
 uint32_t compactd_marked(compactd_pool *pool, uint32_t block, compactd_bool *marked) COMPACTD_CALL;
 
 /* Gets whether the latest round is quiet: it started with no moving page and no obstacle outside marked pageblocks, and only loads, stores
- * and moves followed. An obstacle is a page that has a pin or is unmovable, or a block that is handed out. When the scanners of a quiet
- * round have met and no page is moving, the pool is packed: in the pageblocks that aren't marked, each free frame is below each page.
+ * and moves of rounds followed. An obstacle is a page that has a pin or is unmovable, or a block that is handed out. When the scanners of a
+ * quiet round have met and no page is moving, the pool is packed: in the pageblocks that aren't marked, each free frame is below each page.
  * Refused: CLOSED. */
 uint32_t compactd_quiet(compactd_pool *pool, compactd_bool *quiet) COMPACTD_CALL;
 
@@ -428,6 +429,17 @@ uint32_t compactd_commit(compactd_pool *pool, const compactd_moving_page *page, 
 /* Ends the move of a page without a copy: the page is in its old frame, with its words.
  * Refused: CLOSED; STRANGER. */
 uint32_t compactd_put_back(compactd_pool *pool, const compactd_moving_page *page) COMPACTD_CALL;
+
+/* Evacuations. */
+
+/* Empties the run of 2^order frames that begins at a frame, and gets how many pages were moved out of it. All frames of the run are free
+ * then, so a block may be handed out there. The lowest page goes to the highest free frame that is outside of the run and in no marked
+ * pageblock, the next page to the next of these frames below, and so on. Each page is copied once. Where a page is moved, the latest round
+ * isn't quiet any more; it may go on.
+ * Refused: CLOSED; RANGE, also where the frame isn't a multiple of 2^order or the run goes past the pool; NO_BLOCK where a frame of the run
+ * is in a marked pageblock, in a block that is handed out, or taken up by a page that is moving, pinned or unmovable, or where there are
+ * fewer frames to go to than pages; JOURNAL_FULL where there aren't two places for each page, or fewer isolations are left than pages. */
+uint32_t compactd_evacuate(compactd_pool *pool, uint32_t first, uint32_t order, uint32_t *moved) COMPACTD_CALL;
 
 #ifdef __cplusplus
 }

@@ -439,6 +439,17 @@ public:
     // Ends the move of a page without a copy: the page is in its old frame.
     void put_back(const compactd_moving_page &page) { detail::done(compactd_put_back(raw(), &page)); }
 
+    // Evacuations.
+
+    // Empties the run of 2^order frames that begins at a frame, and returns how many pages were moved out of it, each by one copy. All
+    // frames of the run are free then. Where a page is moved, the latest round isn't quiet any more.
+    std::uint32_t evacuate(std::uint32_t first, std::uint32_t order = 9)
+    {
+        std::uint32_t moved = 0;
+        detail::done(compactd_evacuate(raw(), first, order, &moved));
+        return moved;
+    }
+
 private:
     // Whether a call was done; where it was refused as `none`, there is nothing to get.
     static bool is_there(std::uint32_t answer, std::uint32_t none)

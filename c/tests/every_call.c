@@ -71,6 +71,8 @@ static void closed(compactd_pool *pool)
     moved = stopped = 7;
     IS(CLOSED, compactd_move_pages(pool, 1, &moved, &stopped));
     HOLDS(moved == 7 && stopped == 7);
+    IS(CLOSED, compactd_evacuate(pool, 0, 9, &moved));
+    HOLDS(moved == 7);
     IS(CLOSED, compactd_isolate(pool, &page, words, 8));
     IS(CLOSED, compactd_commit(pool, &page, words, 8, &is_so));
     IS(CLOSED, compactd_put_back(pool, &page));
@@ -117,6 +119,16 @@ static void ranges(compactd_pool *pool, uint32_t page_words)
     IS(RANGE, compactd_fragmentation(pool, far, &fragmentation));
     IS(RANGE, compactd_next_moving(pool, 4096, &page, &move));
     IS(RANGE, compactd_next_moving(pool, far, &page, &move));
+    moved = 7;
+    IS(RANGE, compactd_evacuate(pool, 0, 2, &moved));
+    IS(RANGE, compactd_evacuate(pool, 0, 10, &moved));
+    IS(RANGE, compactd_evacuate(pool, 0, far, &moved));
+    IS(RANGE, compactd_evacuate(pool, 4, 3, &moved));
+    IS(RANGE, compactd_evacuate(pool, 256, 9, &moved));
+    IS(RANGE, compactd_evacuate(pool, 512, 3, &moved));
+    IS(RANGE, compactd_evacuate(pool, 4096, 3, &moved));
+    IS(RANGE, compactd_evacuate(pool, far - 7, 3, &moved));
+    HOLDS(moved == 7);
     IS(RANGE, compactd_isolate(pool, &page, words, page_words - 1));
     IS(RANGE, compactd_commit(pool, &page, words, 1, &is_so));
 }
@@ -350,6 +362,140 @@ static void slices_of_a_journal(uint32_t page_words)
     OK(compactd_close(&pool));
 }
 
+/* An evacuation of this run moves as many pages as these. */
+static void empties(compactd_pool *pool, uint32_t first, uint32_t order, uint32_t wanted)
+{
+    moved = 7;
+    OK(compactd_evacuate(pool, first, order, &moved));
+    HOLDS(moved == wanted);
+}
+
+/* An evacuation of this run is refused as NO_BLOCK, and writes nothing. */
+static void stays(compactd_pool *pool, uint32_t first, uint32_t order)
+{
+    moved = 7;
+    IS(NO_BLOCK, compactd_evacuate(pool, first, order, &moved));
+    HOLDS(moved == 7);
+}
+
+/* Maps a page with a word of its own into this frame. */
+static void map_into(compactd_pool *pool, uint32_t vpage, uint32_t at)
+{
+    OK(compactd_map_at(pool, 0, 0, vpage, 0, at));
+    OK(compactd_store(pool, 0, 0, vpage, 7, 10 + vpage));
+}
+
+/* Three pages in the frames 8 to 15, and one in the highest frame. A pin keeps them there, a mark, and a page that leaves a frame of a run
+ * or comes to one. */
+static void runs_that_stay(compactd_pool *pool, uint32_t page_words)
+{
+    map_into(pool, 0, 9);
+    map_into(pool, 1, 12);
+    map_into(pool, 2, 15);
+    map_into(pool, 3, 1023);
+    empties(pool, 16, 4, 0);
+    OK(compactd_pin(pool, 0, 0, 1));
+    stays(pool, 8, 3);
+    stays(pool, 0, 9);
+    OK(compactd_unpin(pool, 0, 0, 1));
+    OK(compactd_mark(pool, 0));
+    stays(pool, 8, 3);
+    OK(compactd_unmark(pool, 0));
+    OK(compactd_begin_round(pool));
+    OK(compactd_isolate(pool, &page, words, page_words)); /* from frame 9 to frame 1022 */
+    stays(pool, 8, 3);
+    stays(pool, 1016, 3);
+    OK(compactd_put_back(pool, &page));
+    is_in_frame(pool, 0, 9);
+}
+
+/* They go while a round is begun, which goes on then, and the frames that they leave are handed out. Then all pages go down. */
+static void evacuations(uint32_t page_words)
+{
+    compactd_pool pool = {0};
+
+    OK(compactd_open(&pool, page_words, 2));
+    runs_that_stay(&pool, page_words);
+    map_into(&pool, 4, 3);
+    OK(compactd_begin_round(&pool));
+    empties(&pool, 32, 5, 0);
+    OK(compactd_quiet(&pool, &is_so));
+    HOLDS(is_so); /* no page was moved */
+    empties(&pool, 8, 3, 3);
+    is_in_frame(&pool, 0, 1022);
+    is_in_frame(&pool, 1, 1021);
+    is_in_frame(&pool, 2, 1020);
+    is_in_frame(&pool, 3, 1023);
+    OK(compactd_quiet(&pool, &is_so));
+    HOLDS(!is_so);
+    moves(&pool, 2, 1, COMPACTD_MET);
+    is_in_frame(&pool, 4, 1019);
+    OK(compactd_audit(&pool, &round_counts));
+    HOLDS(round_counts.isolated == 5 && round_counts.moved == 4 && round_counts.back == 1);
+    OK(compactd_take_order(&pool, 9, &frame));
+    HOLDS(frame == 0);
+    stays(&pool, 8, 3); /* handed out */
+    OK(compactd_give_order(&pool, 0, 9));
+    OK(compactd_mark(&pool, 0));
+    stays(&pool, 512, 9); /* no frame outside of it is in an unmarked pageblock */
+    empties(&pool, 1016, 3, 5);
+    is_in_frame(&pool, 4, 1015);
+    is_in_frame(&pool, 3, 1011);
+    OK(compactd_unmark(&pool, 0));
+    empties(&pool, 512, 9, 5);
+    is_in_frame(&pool, 3, 511);
+    is_in_frame(&pool, 4, 507);
+    OK(compactd_close(&pool));
+}
+
+/* A pool with few free frames: fewer than a run has pages, or all of them in the run. */
+static void evacuations_of_a_full_pool(uint32_t page_words)
+{
+    compactd_pool pool = {0};
+    uint32_t at;
+
+    OK(compactd_open(&pool, page_words, 2));
+    for (at = 0; at < 1024; at++)
+        OK(compactd_map(&pool, 0, 0, at, 0, &frame));
+    stays(&pool, 0, 3);
+    for (at = 1; at < 8; at++)
+        OK(compactd_unmap(&pool, 0, 0, at));
+    stays(&pool, 0, 3);
+    stays(&pool, 512, 3);
+    OK(compactd_unmap(&pool, 0, 0, 520));
+    empties(&pool, 0, 3, 1);
+    OK(compactd_look(&pool, 0, 0, &info));
+    HOLDS(info.frame == 520);
+    empties(&pool, 512, 3, 8);
+    OK(compactd_look(&pool, 0, 512, &info));
+    HOLDS(info.frame == 7);
+    OK(compactd_look(&pool, 0, 519, &info));
+    HOLDS(info.frame == 0);
+    OK(compactd_close(&pool));
+}
+
+/* A journal with places for three pages and for two moves. */
+static void evacuations_of_a_journal(uint32_t page_words)
+{
+    compactd_pool pool = {0};
+    uint32_t at;
+
+    OK(compactd_open_journal(&pool, page_words, 1, 7));
+    for (at = 7; at < 10; at++)
+        OK(compactd_map_at(&pool, 0, 0, at, 0, at));
+    moved = 7;
+    IS(JOURNAL_FULL, compactd_evacuate(&pool, 0, 4, &moved));
+    HOLDS(moved == 7);
+    empties(&pool, 8, 3, 2);
+    OK(compactd_record_at(&pool, 5, &record));
+    HOLDS(record.kind == COMPACTD_WAS_ISOLATED && record.number == 1);
+    OK(compactd_record_at(&pool, 6, &record));
+    HOLDS(record.kind == COMPACTD_WAS_MOVED && record.number == 1);
+    empties(&pool, 8, 3, 0);
+    IS(JOURNAL_FULL, compactd_evacuate(&pool, 0, 3, &moved));
+    OK(compactd_close(&pool));
+}
+
 /* Two moving pages whose serials and numbers nobody kept are found, from any frame on, and put back. */
 static void lost(compactd_pool *pool, uint32_t page_words)
 {
@@ -508,6 +654,9 @@ static void both_sizes(uint32_t page_words)
     journal(page_words);
     slices(page_words);
     slices_of_a_journal(page_words);
+    evacuations(page_words);
+    evacuations_of_a_full_pool(page_words);
+    evacuations_of_a_journal(page_words);
     every_number_of_blocks(page_words);
 }
 

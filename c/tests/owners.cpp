@@ -209,6 +209,25 @@ void slices()
     HOLDS(slice.moved == 2 && slice.stopped == COMPACTD_MET && pool.load(0, low, 1) == 9);
 }
 
+// A run with two pages, which can't be emptied while one of them is moving.
+void evacuations()
+{
+    Pool pool = with_round();
+    Moving page = pool.isolate();
+    HOLDS(refusal([&] { pool.evacuate(0, 3); }) == COMPACTD_NO_BLOCK);
+    page.put_back();
+    HOLDS(refusal([&] { pool.evacuate(0); }) == COMPACTD_NO_BLOCK); // the whole pool
+    HOLDS(refusal([&] { pool.evacuate(512); }) == COMPACTD_RANGE && refusal([&] { pool.evacuate(0, 2); }) == COMPACTD_RANGE);
+    HOLDS(pool.evacuate(0, 3) == 2 && pool.evacuate(0, 3) == 0 && pool.take_huge(3).first() == 0);
+    HOLDS(pool.look(low).frame == 511 && pool.look(high).frame == 510 && pool.load(0, low, 1) == 9 && pool.audit().moved == 2);
+    const Pool other = std::move(pool);
+    HOLDS(refusal([&] { pool.evacuate(0, 3); }) == COMPACTD_CLOSED && other.info().pages == 2);
+    pool = Pool(PageSize::bytes64, 1, 3);
+    pool.map(0, low);
+    pool.map(0, high);
+    HOLDS(refusal([&] { pool.evacuate(0, 3); }) == COMPACTD_JOURNAL_FULL && pool.look(low).frame == 0);
+}
+
 // A page whose carrier goes is put back, also by an exception, by another page that takes its place, and where another ended its move.
 void carriers_that_go()
 {
@@ -240,7 +259,7 @@ void questions()
     HOLDS(kept.describe().page_words == 8 && kept.describe().places == 77);
     HOLDS(pool.free_runs(9) == 3 && pool.free_runs(0) == 0 && pool.fragmentation(9) == -1000);
     HOLDS(refusal([&] { pool.free_runs(10); }) == COMPACTD_RANGE && refusal([&] { pool.fragmentation(10); }) == COMPACTD_RANGE);
-    HOLDS(std::string(Error(COMPACTD_NO_BLOCK).what()) == "compactd: no block of this order has only free frames");
+    HOLDS(std::string(Error(COMPACTD_NOT_HUGE).what()) == "compactd: no block of this order that begins at this frame is handed out");
     HOLDS(std::string(Error(15).what()) == "compactd: unknown refusal");
 }
 
@@ -265,6 +284,7 @@ int main()
     pages_in_a_buffer();
     moving_pages();
     slices();
+    evacuations();
     carriers_that_go();
     questions();
     journals();

@@ -99,6 +99,8 @@ static void make_rounds(compactd_pool *pool, uint32_t page_words)
     made(compactd_isolate(pool, &page, words, page_words));
     made(compactd_put_back(pool, &page));
     made(compactd_move_pages(pool, 3, &moved, &stopped));
+    made(compactd_evacuate(pool, 0, 4, &moved));
+    made(compactd_evacuate(pool, 0, 9, &moved));
     made(compactd_compact(pool, &is_so));
 }
 

@@ -92,8 +92,9 @@ impl Pool {
     }
 
     /// Whether the latest round is quiet: it started with no moving page and no obstacle outside marked pageblocks, and only loads, stores
-    /// and moves followed. An obstacle is a page that has a pin or is unmovable, or a block that is handed out. When the scanners of a quiet
-    /// round have met and no page is moving, the pool is packed: in the pageblocks that aren't marked, each free frame is below each page.
+    /// and moves of rounds followed. An obstacle is a page that has a pin or is unmovable, or a block that is handed out. When the scanners
+    /// of a quiet round have met and no page is moving, the pool is packed: in the pageblocks that aren't marked, each free frame is below
+    /// each page.
     pub fn quiet(&mut self) -> bool {
         let mut quiet = false;
         is_done(unsafe { raw::compactd_quiet(&mut self.raw, &mut quiet) });

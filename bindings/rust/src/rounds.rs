@@ -23,7 +23,7 @@ pub enum Stopped {
     JournalFull,
 }
 
-/// Rounds.
+/// Rounds and evacuations.
 impl Pool {
     /// Makes a whole round on this thread: it moves the lowest page that can be moved to the highest free frame, and so on until its two
     /// scanners meet.
@@ -91,6 +91,32 @@ impl Pool {
             _ => Some(Stopped::JournalFull),
         };
         Slice { moved, stopped }
+    }
+
+    /// Empties the run of `2^order` frames, order 3 to 9, that begins at a frame, and returns how many pages were moved out of it. All
+    /// frames of the run are free then. The lowest page goes to the highest free frame that is outside of the run and in no marked
+    /// pageblock, and so on; each page is copied once. Where a page is moved, the latest round isn't quiet any more.
+    ///
+    /// ```
+    /// # use compactd::{Address, Error, PageSize, Pool};
+    /// # fn main() -> Result<(), Error> {
+    /// # let mut pool = Pool::open(PageSize::Bytes64, 1)?;
+    /// pool.map_at(0, Address::new(0, 0), false, 9)?;
+    /// pool.map_at(0, Address::new(0, 1), false, 12)?;
+    /// assert_eq!(pool.evacuate(8, 3)?, 2);
+    /// assert_eq!(pool.free_runs(8)?, 1);
+    /// # Ok(())
+    /// # }
+    /// ```
+    ///
+    /// Refused as [`Error::Range`], also where the frame isn't a multiple of `2^order` or the run goes past the pool; as [`Error::NoBlock`]
+    /// where a frame of the run is in a marked pageblock, in a block that is handed out, or taken up by a page that is moving, pinned or
+    /// unmovable, or where there are fewer frames to go to than pages; or as [`Error::JournalFull`] where there aren't two places for each
+    /// page, or fewer isolations are left than pages.
+    pub fn evacuate(&mut self, first: u32, order: u32) -> Result<u32, Error> {
+        let mut moved = 0;
+        done(unsafe { raw::compactd_evacuate(&mut self.raw, first, order, &mut moved) })?;
+        Ok(moved)
     }
 
     /// Isolates the next page of the round, which is moving from then on; None where the scanners have met. It allocates the words.

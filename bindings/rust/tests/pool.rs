@@ -116,6 +116,24 @@ fn moves_pages_in_slices() {
 }
 
 #[test]
+fn empties_a_run() {
+    let mut pool = Pool::open_journal(PageSize::Bytes64, 1, 12).unwrap();
+    for page in 0..3 {
+        pool.map_at(0, Address::new(0, page), false, 6 + page).unwrap();
+    }
+    pool.store(0, Address::new(0, 1), 7, 5).unwrap();
+    assert_eq!([(0, 10), (4, 3), (512, 3)].map(|(first, order)| pool.evacuate(first, order)), [Err(Error::Range); 3]);
+    pool.pin(0, Address::new(0, 1)).unwrap();
+    assert_eq!((pool.evacuate(0, 3), pool.evacuate(8, 3), pool.evacuate(8, 3)), (Err(Error::NoBlock), Ok(1), Ok(0)));
+    pool.unpin(0, Address::new(0, 1)).unwrap();
+    assert_eq!(pool.evacuate(0, 9), Err(Error::NoBlock));
+    assert_eq!((pool.journal(), pool.evacuate(0, 3)), ((8, 4), Ok(2)));
+    let places = [0, 1, 2].map(|page| pool.look(Address::new(0, page)).unwrap().place);
+    assert_eq!(places, [(510, false), (509, true), (511, false)].map(|(frame, dirty)| Place::At { frame, unmovable: false, dirty }));
+    assert_eq!((pool.evacuate(504, 3), pool.journal(), pool.free_runs(8)), (Err(Error::JournalFull), (12, 0), Ok(1)));
+}
+
+#[test]
 fn moves_slices_beside_other_threads() {
     let mut pool = pool();
     for page in 0..100 {

@@ -1,13 +1,16 @@
 //! A zone whose pages have one of two sizes.
 
-ghost use Rattle.std.specs.Prelude.{◌≡◌, ◌+◌, ◌≤◌, ◌↔◌, ◌&&◌, nat_lt, true, ℕ, false, length, reverse, slice_get, is_some, Some, None, IsTrue, IsOk, IfOk, IfErr, OnOk, OnErr, IfSome};
+ghost use Rattle.std.specs.Prelude.{◌≡◌, ◌+◌, ◌≤◌, ◌↔◌, ◌&&◌, ◌/◌, ◌^◌, nat_lt, true, ℕ, false, length, reverse, slice_get, is_some, Some, None, IsTrue, IsOk, IfOk, IfErr, OnOk, OnErr, IfSome};
 ghost use Rattle.std.specs.Result.{result_err};
+ghost use Rattle.fewest_core.specs.Evacuation.{evacuate_refusal, evacuated, IsCarriedOut};
+ghost use Rattle.fewest_core.specs.FewestMoves.{cost};
 ghost use Rattle.frame_core.specs.Moves.{moved, out};
 ghost use Rattle.frame_core.specs.declared.record.Cause.{Cause};
 ghost use Rattle.state_core.specs.Access.{access_refusal, value_at, loaded, stored};
 ghost use Rattle.state_core.specs.Bulk.{bulk_refusal, values_at, loaded_all, stored_all};
 ghost use Rattle.state_core.specs.Contents.{contents_refusal, contents_from, contents_written};
 ghost use Rattle.state_core.specs.Ending.{committed, ended_as, put_back_to_source};
+ghost use Rattle.state_core.specs.HandingOut.{is_run};
 ghost use Rattle.state_core.specs.Isolating.{isolate_refusal, next_state};
 ghost use Rattle.state_core.specs.Looking.{look_of, info_of};
 ghost use Rattle.state_core.specs.Marking.{marked_of};
@@ -401,6 +404,23 @@ impl Zone {
         match &mut self.kind {
             Kind::Small(zone) => zone.move_pages(most),
             Kind::Large(zone) => zone.move_pages(most),
+        }
+    }
+
+    /// Empties a run of frames, and answers how many pages went out of it.
+    pub(crate) fn evacuate(&mut self, first: u32, order: u32) -> Result<u32, ZoneError>
+        ensures refused { result_err result ≡ ranged (is_block first order) (evacuate_refusal self.old first order) }
+        ensures err { OnErr result (self.new ≡ self.old) }
+        ensures pages { IfOk result (λ pages. pages ≡ cost self.old (2 ^ order) (first / 2 ^ order)) }
+        ensures ok { OnOk result (self.new ≡ evacuated self.old first (2 ^ order)) }
+        ensures moved { IfOk result (λ pages. moved self.new.records ≡ moved self.old.records + pages) }
+        ensures empty { OnOk result (IsTrue (is_run self.new order first)) }
+        ensures carried { OnOk result (IsCarriedOut first (2 ^ order) self.old self.new) }
+    {
+        let (first, order) = block(first, order).ok_or(ZoneError::Range)?;
+        match &mut self.kind {
+            Kind::Small(zone) => zone.evacuate(first, order),
+            Kind::Large(zone) => zone.evacuate(first, order),
         }
     }
 
