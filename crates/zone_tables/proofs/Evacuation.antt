@@ -164,6 +164,7 @@ pub record Leaving {W : ℕ} (z changed : Inside W) (v : ZoneState) (m : Move) (
   pub history : changed.history ≡ record (told (told z.history (Isolate (isolated v.records) m.page)) (Moved (isolated v.records))) { round = None }
   -- what stayed as it was
   pub frames_same : changed.tables.frames ≡ z.tables.frames
+  pub size_same : changed.tables.entries.size ≡ z.tables.entries.size
   pub rest_same : record changed { frames = z.frames; tables = z.tables; words = z.words; notes = z.notes; moves = z.moves; history = z.history } ≡ z
 
 module _ {W : ℕ} {z changed : Inside W} {v : ZoneState} {m : Move} {note : PageNote} (known : Leaving z changed v m note) where
@@ -280,6 +281,7 @@ module _ {W : ℕ} {z changed : Inside W} {v : ZoneState} {m : Move} {note : Pag
         orders = ap (λ (y : Inside W). length y.handed_out) known.rest_same ∙ sound.orders;
         cleared = ap (λ (y : Inside W). length y.cleared) known.rest_same ∙ sound.cleared;
         tables = known.frames_same ∙ sound.tables;
+        size = known.size_same ∙ sound.size;
         frames = frames_fit v after m.page old new gets z.frames.states changed.frames.states sound.frames frames_placed;
         movable = movable_fit v after m.page old new gets z.frames.movable changed.frames.movable (can_move v m.page) sound.movable movable_placed refl (λ q ne. refl);
         entries = entries_fit;

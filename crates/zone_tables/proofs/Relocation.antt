@@ -12,6 +12,7 @@ use Rattle.frame_core.specs.declared.state.FrameState.{FrameState}
 use Rattle.frame_core.specs.declared.record.Record.{Record}
 use Rattle.frame_core.specs.History.{page_at}
 use Rattle.table_core.specs.declared.entry.Entry.TheVariants.{Absent}
+use Rattle.table_core.specs.declared.entry.Entry.{Entry}
 use Rattle.table_core.specs.Tables.{EntryTable, entry_at, Replaces}
 use Rattle.frame_core.specs.Words.{words_of}
 use Rattle.zone_tables.specs.declared.note.PageNote.{PageNote}

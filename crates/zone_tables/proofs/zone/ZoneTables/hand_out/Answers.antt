@@ -1,4 +1,4 @@
-use Rattle.std.proofs.Common.{◌∙◌}
+use Rattle.std.proofs.Common.{arith, ◌∙◌}
 use Rattle.state_core.specs.HandingOut.{block_taken}
 use Rattle.state_core.proofs.Facts.{spare}
 use Rattle.zone_tables.proofs.Facts.{is_sound, Becomes}
@@ -9,7 +9,7 @@ use Rattle.zone_tables.proofs.zone.ZoneTables.hand_out.Goals.{After-note}
 
 pub hold-requires : goal.hold-requires
 hold-requires g c =
-    blocks.run_seen c.self.inside.frames.states c.args.self.now (is_sound c.self.view_is c.self.invariant).frames c.args.order c.args.first ∙ c.requires.run
+    (omega arith, blocks.run_seen c.self.inside.frames.states c.args.self.now (is_sound c.self.view_is c.self.invariant).frames c.args.order c.args.first ∙ c.requires.run)
 
 pub take-requires-clause-clear : goal.take-requires-clause-clear
 take-requires-clause-clear g c =

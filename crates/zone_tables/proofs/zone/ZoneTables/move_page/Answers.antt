@@ -31,10 +31,10 @@ pub arrive-requires : goal.arrive-requires
 arrive-requires g c = away.some_moving c.self.view_is c.self.invariant _ c.requires.may_move c.requires.accepted c.isolate-serial.new.self c.isolate-serial.ensures.noted
 
 pub empty-requires : goal.empty-requires
-empty-requires g c = away.source_holds c.self.view_is c.self.invariant _ c.requires.may_move c.requires.accepted
+empty-requires g c = (omega arith, away.source_holds c.self.view_is c.self.invariant _ c.requires.may_move c.requires.accepted)
 
 pub fill-requires : goal.fill-requires
-fill-requires g c = away.target_free_then c.self.view_is c.self.invariant _ c.requires.may_move c.requires.accepted c.empty.new.self c.empty.ensures.state
+fill-requires g c = (omega arith, away.target_free_then c.self.view_is c.self.invariant _ c.requires.may_move c.requires.accepted c.empty.new.self c.empty.ensures.state)
 
 pub to_migration-requires-clause-within : goal.to_migration-requires-clause-within
 to_migration-requires-clause-within g c = away.source_listed c.self.view_is c.self.invariant _ c.requires.may_move c.requires.accepted
@@ -122,6 +122,7 @@ leaving c =
       moves = c.arrive.ensures ∙ ap (λ (ms : Moves). record ms { moved = ms.moved + 1 }) c.isolate-serial.ensures.noted;
       history = c.end_round.ensures ∙ (λ i. record (c.note-2.ensures i) { round = None }) ∙ (λ i. record (told (c.note.ensures i) (Moved (serial i))) { round = None }) ∙ (λ i. record (told (told z.history (Isolate (serial i) c.args.page)) (Moved (isolated c.args.self.now.records))) { round = None });
       frames_same = c.to_present.ensures.frames ∙ c.to_migration.ensures.frames;
+      size_same = c.to_present.ensures.size ∙ c.to_migration.ensures.size;
       rest_same = refl;
     }
 

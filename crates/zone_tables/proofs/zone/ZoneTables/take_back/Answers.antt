@@ -1,3 +1,4 @@
+use Rattle.std.proofs.Common.{arith}
 use Rattle.state_core.specs.HandingOut.{block_given}
 use Rattle.state_core.proofs.Facts.{spare}
 use Rattle.zone_tables.proofs.Facts.{is_sound, Becomes}
@@ -7,13 +8,16 @@ use Rattle.zone_tables.proofs.zone.ZoneTables.take_back.Given.{Over}
 use Rattle.zone_tables.proofs.zone.ZoneTables.take_back.Goals as goal
 use Rattle.zone_tables.proofs.zone.ZoneTables.take_back.Goals.{After-note}
 
-pub release-requires-clause-block : goal.release-requires-clause-block
-release-requires-clause-block g c =
-    blocks.give_block c.self.inside c.args.self.now (is_sound c.self.view_is c.self.invariant) c.self.view_is c.args.first c.args.order (order_held _ c.args.order c.requires.held)
-
-pub release-requires-clause-huge : goal.release-requires-clause-huge
-release-requires-clause-huge g c =
-    blocks.give_huge c.self.inside c.args.self.now (is_sound c.self.view_is c.self.invariant) c.self.view_is c.args.first c.args.order (order_held _ c.args.order c.requires.held)
+pub release-requires : goal.release-requires
+release-requires g c =
+    let sound = is_sound c.self.view_is c.self.invariant in
+    let held = order_held _ c.args.order c.requires.held in (
+      omega arith,
+      (
+        blocks.give_block c.self.inside c.args.self.now sound c.self.view_is c.args.first c.args.order held,
+        blocks.give_huge c.self.inside c.args.self.now sound c.self.view_is c.args.first c.args.order held,
+      ),
+    )
 
 pub give-requires-clause-here : goal.give-requires-clause-here
 give-requires-clause-here g c =

@@ -1,4 +1,4 @@
-use Rattle.std.proofs.Common.{ap}
+use Rattle.std.proofs.Common.{arith, ap}
 use Rattle.state_core.specs.declared.placement.Placement.TheVariants.{At}
 use Rattle.state_core.proofs.Facts.{not_none, spare}
 use Rattle.scan_core.specs.Frames.{is_holding_state}
@@ -11,7 +11,7 @@ use Rattle.zone_tables.proofs.zone.ZoneTables.unmap_last.Goals.{After-note}
 
 pub empty-requires : goal.empty-requires
 empty-requires g c =
-    ap is_holding_state (held_by c.self.inside.frames.states c.args.self.now (is_sound c.self.view_is c.self.invariant).frames c.args.page c.args.frame c.requires.here)
+    (omega arith, ap is_holding_state (held_by c.self.inside.frames.states c.args.self.now (is_sound c.self.view_is c.self.invariant).frames c.args.page c.args.frame c.requires.here))
 
 pub remove-requires : goal.remove-requires
 remove-requires g c = record { used = use_seen c.self.inside c.self.view_is c.args.page (not_none _ (At c.args.frame) c.requires.here) }
