@@ -56,6 +56,14 @@ impl Entries {
         self.size
     }
 
+    /// How many addresses there are.
+    #[inline]
+    pub fn len(&self) -> usize
+        ensures { result ≡ length self.now.entries.list }
+    {
+        self.frames.len()
+    }
+
     /// What the address at a place of the list names.
     pub fn get(&self, place: usize) -> Entry
         requires { place < length self.now.entries.list }

@@ -3,7 +3,7 @@
 ghost use Rattle.std.specs.Prelude.{◌≡◌, ◌≢◌, ◌<◌, ◌*◌, IfSome, IfNone};
 ghost use Rattle.frame_core.specs.Address.{InRange};
 ghost use Rattle.frame_core.specs.declared.place.Address.{Address as Named};
-ghost use Rattle.table_core.specs.Tables.{InTable, is_in_table, place_of};
+ghost use Rattle.table_core.specs.Tables.{InTable, place_of};
 
 use frame_core::{Address, SpaceNo, VPage};
 
@@ -20,16 +20,6 @@ impl Size {
         ensures { result ≡ self.spaces * self.pages }
     {
         self.spaces as usize * self.pages as usize
-    }
-
-    /// Whether an address is one of them.
-    #[inline]
-    pub fn has(self, address: &Address) -> bool
-        ensures value { result ≡ is_in_table self.spaces self.pages address.now }
-        ensures range { InRange address.now }
-    {
-        let (space, vpage) = (address.space.get(), address.vpage.get());
-        space < self.spaces && vpage < self.pages
     }
 
     /// The place of an address among them: the spaces stand one after the other.

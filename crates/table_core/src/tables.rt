@@ -57,8 +57,12 @@ impl Tables {
         ensures range { InRange address }
     {
         let size = self.entries.size();
-        if size.has(&address) {
-            self.entries.get(size.place_of(&address))
+        if address.vpage.get() >= size.pages {
+            return Entry::Absent;
+        }
+        let place = size.place_of(&address);
+        if place < self.entries.len() {
+            self.entries.get(place)
         } else {
             Entry::Absent
         }
