@@ -1,7 +1,7 @@
-"""A zone has no type that has an allocator, but for its lists, its ground of words and the box of its tables.
+"""A zone has no type that has an allocator, but for its lists, its sets of numbers, its ground of words and the box of its tables.
 
-The crates of a zone name no type of the standard library that has one, but in the lines of `LINES`: in the file of `FixedVec`, for the box
-of a zone's tables, and where a ground keeps its allocation, which no function lends. Rows and grounds are vectors over that allocation,
+The crates of a zone name no type of the standard library that has one, but in the lines of `LINES`: in the file of `FixedVec`, for the words
+of a set of numbers, for the box of a zone's tables, and where a ground keeps its allocation, which no function lends. Rows and grounds are vectors over that allocation,
 whose allocator `Lodged` has no memory to give. What these crates bring in of the standard library is listed here, by its parts too
 (`core`, `std_alloc`), and so are the crates that they use. `Global`,
 the type of the allocator, stands where it is brought in and as the type of a function's parameter, and nowhere else. So no field has
@@ -17,7 +17,7 @@ import runs
 import sources
 from launch import program
 
-ZONE = "row_core frame_core table_core scan_core state_core zone_tables zone_core".split()
+ZONE = "row_core number_set frame_core table_core scan_core state_core fewest_core zone_tables zone_core".split()
 PARTS = {"core", "std_alloc", "std_heap"}  # of the standard library
 BESIDE = {"arrayvec", "bitflags", "thiserror"}  # the other crates that they use: none of their types has an allocator
 LINES = {
@@ -40,6 +40,24 @@ LINES = {
         "fn rows_of_each_size_come_back(rt: HostRuntime) {\n",
         "fn a_part_is_copied(rt: HostRuntime) {\n",
         "fn a_thousand_grounds_are_opened_and_closed(rt: HostRuntime) {\n",
+    ),
+    "crates/number_set/src/tests.rt": (
+        '    let mut table = Vec::from_elem(alloc, false, bound as usize).expect(rt, "memory");\n',
+        "fn two_levels_answer_as_a_table(rt: HostRuntime) {\n",
+        "fn three_levels_answer_as_a_table(rt: HostRuntime) {\n",
+        "fn four_levels_answer_as_a_table(rt: HostRuntime) {\n",
+        "fn two_levels_turn_runs(rt: HostRuntime) {\n",
+        '    let mut table = Vec::from_elem(rt.alloc(), true, 4_096).expect(&rt, "memory");\n',
+        "fn three_levels_turn_runs(rt: HostRuntime) {\n",
+        '    let mut table = Vec::from_elem(rt.alloc(), true, 20_000).expect(&rt, "memory");\n',
+        "fn four_levels_turn_runs(rt: HostRuntime) {\n",
+        '    let mut table = Vec::from_elem(rt.alloc(), true, 300_000).expect(&rt, "memory");\n',
+    ),
+    "crates/number_set/src/number_set.rt": ("    words: Vec<u64>,\n",),
+    "crates/number_set/src/upper_levels.rt": ("    words: Vec<u64>,\n",),
+    "crates/number_set/src/words.rt": (
+        "pub(crate) fn open(alloc: Global, count: u32) -> Result<Vec<u64>, AllocError>\n",
+        "    Vec::from_elem(alloc, 0u64, count as usize)\n",
     ),
     "crates/frame_core/src/fixed_vec.rt": (
         "    list: Vec<T>,\n",

@@ -47,7 +47,8 @@ evacuate_refusal z first order =
     else if not (has_room_for_moves z (cost z (2 ^ order) (first / 2 ^ order))) then Some JournalFull
     else None
 
--- the zone after a move that no round makes: the latest round has ended, since frames change on both sides of its fingers
+-- the zone after a move that no round makes: the latest round is forgotten, so that it isn't quiet any more, since frames change on both
+-- sides of its fingers
 abbrev pub moved_away : ZoneState → Move → ZoneState
 moved_away z m = record (after_move z m) { round = None }
 

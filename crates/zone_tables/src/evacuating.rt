@@ -52,7 +52,7 @@ impl<const W: usize> ZoneTables<W> {
     }
 
     /// Moves a page that rests in a frame to a free one at once: it is isolated under the next serial, its words are copied, and
-    /// its move ends. The latest round ends with it, since frames change on both sides of its fingers.
+    /// its move ends. The latest round isn't quiet any more, since frames change on both sides of its fingers; it may go on.
     pub fn move_page(&mut self, page: PageNo, source: FrameNo, target: FrameNo)
         requires may_move { IsMove self.old (record { page = page; source = source; target = target }) }
         requires accepted { isolate_refusal self.old ≡ None }
@@ -69,6 +69,6 @@ impl<const W: usize> ZoneTables<W> {
         self.notes.place(page, Placement::At(target));
         self.history.note(Record::Isolate { serial, page });
         self.history.note(Record::Moved { serial });
-        self.history.end_round();
+        self.history.forget_round();
     }
 }

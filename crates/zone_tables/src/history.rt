@@ -111,8 +111,8 @@ impl History {
         self.quiet = calm;
     }
 
-    /// Notes that the latest round has ended, if there was one.
-    pub fn end_round(&mut self)
+    /// Forgets how the latest round began, so that it isn't quiet any more.
+    pub fn forget_round(&mut self)
         ensures { self.new ≡ record self.old { round = None } }
     {
         self.round = None;

@@ -16,8 +16,8 @@ use state_core::ZoneError;
 
 impl<const W: usize> BareZone<W> {
     /// Empties a run of frames, and answers how many pages went out of it. Each page goes to the highest free frame of an unmarked
-    /// pageblock outside of the run, the lowest page first, and is copied once, from frame to frame. The latest round ends with the
-    /// first of them.
+    /// pageblock outside of the run, the lowest page first, and is copied once, from frame to frame. From the first of them on the latest
+    /// round isn't quiet any more; it may go on between its fingers.
     ///
     /// Refused as Range where no block of this order can begin at the frame. Refused as NoBlock where a frame of the run is in a marked
     /// pageblock, handed out, or of a page that is moving, pinned or unmovable, and where fewer frames are free outside of the run, in

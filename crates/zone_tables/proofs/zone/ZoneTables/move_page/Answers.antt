@@ -19,7 +19,7 @@ use Rattle.zone_tables.proofs.MoveEnds.{left_settled}
 use Rattle.zone_tables.proofs.Tables.{note_within, placement_seen}
 use Rattle.zone_tables.proofs.zone.ZoneTables.move_page.Given.{Over}
 use Rattle.zone_tables.proofs.zone.ZoneTables.move_page.Goals as goal
-use Rattle.zone_tables.proofs.zone.ZoneTables.move_page.Goals.{After-end_round}
+use Rattle.zone_tables.proofs.zone.ZoneTables.move_page.Goals.{After-forget_round}
 
 pub isolate-serial-requires-clause-within : goal.isolate-serial-requires-clause-within
 isolate-serial-requires-clause-within g c = away.source_page c.self.view_is c.self.invariant _ c.requires.may_move c.requires.accepted
@@ -84,26 +84,26 @@ pub note-requires : goal.note-requires
 note-requires g c = omega (arith, away.room_for_two c.self.view_is c.self.invariant _ c.requires.may_move c.requires.accepted)
 
 -- the note of the page before it went
-abbrev noted : {g : Over} → After-end_round g → PageNote
+abbrev noted : {g : Over} → After-forget_round g → PageNote
 noted c = get_or c.self.inside.notes c.args.page unused_note
 
-note_is : {g : Over} (c : After-end_round g) → slice_get c.self.inside.notes c.args.page ≡ Some (noted c)
+note_is : {g : Over} (c : After-forget_round g) → slice_get c.self.inside.notes c.args.page ≡ Some (noted c)
 note_is c =
     let used = not_none _ (At c.args.source) c.requires.may_move.here in
     slice_get-get_or c.self.inside.notes c.args.page unused_note (note_within c.self.inside c.args.self.now (is_sound c.self.view_is c.self.invariant) c.args.page used)
 
 -- the fields after the call
-abbrev after : {g : Over} → After-end_round g → Inside g.row.W
+abbrev after : {g : Over} → After-forget_round g → Inside g.row.W
 after c = record c.self.inside {
   frames = c.fill.new.self;
   tables = c.to_present.new.self;
   words = c.copy.new.self;
   notes = c.place.new.self;
   moves = c.arrive.new.self;
-  history = c.end_round.new.self;
+  history = c.forget_round.new.self;
 }
 
-leaving : {g : Over} (c : After-end_round g) → Leaving c.self.inside (after c) c.args.self.now (record { page = c.args.page; source = c.args.source; target = c.args.target }) (noted c)
+leaving : {g : Over} (c : After-forget_round g) → Leaving c.self.inside (after c) c.args.self.now (record { page = c.args.page; source = c.args.source; target = c.args.target }) (noted c)
 leaving c =
     let z = c.self.inside in
     let serial = c.isolate-serial.ensures.serial ∙ (is_sound c.self.view_is c.self.invariant).moves.isolated in
@@ -120,7 +120,7 @@ leaving c =
       words = c.copy.ensures.copied;
       notes = c.place.ensures (noted c) (note_is c);
       moves = c.arrive.ensures ∙ ap (λ (ms : Moves). record ms { moved = ms.moved + 1 }) c.isolate-serial.ensures.noted;
-      history = c.end_round.ensures ∙ (λ i. record (c.note-2.ensures i) { round = None }) ∙ (λ i. record (told (c.note.ensures i) (Moved (serial i))) { round = None }) ∙ (λ i. record (told (told z.history (Isolate (serial i) c.args.page)) (Moved (isolated c.args.self.now.records))) { round = None });
+      history = c.forget_round.ensures ∙ (λ i. record (c.note-2.ensures i) { round = None }) ∙ (λ i. record (told (c.note.ensures i) (Moved (serial i))) { round = None }) ∙ (λ i. record (told (told z.history (Isolate (serial i) c.args.page)) (Moved (isolated c.args.self.now.records))) { round = None });
       frames_same = c.to_present.ensures.frames ∙ c.to_migration.ensures.frames;
       size_same = c.to_present.ensures.size ∙ c.to_migration.ensures.size;
       rest_same = refl;
