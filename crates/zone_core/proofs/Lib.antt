@@ -12,6 +12,7 @@ pub mod Moves
 mod OneThread
 pub mod Packed
 pub mod Records
+mod Picking
 pub mod RoundsKept
 pub mod Same
 pub mod Scanner
