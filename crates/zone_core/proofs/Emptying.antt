@@ -25,10 +25,10 @@ use Rattle.fewest_core.proofs.Evacuation.{as_many_out}
 use Rattle.fewest_core.proofs.Moves.{others_same, shut_once, stays_free, stays_used, target_used, used_at, used_not_free}
 use Rattle.fewest_core.proofs.Reached.{own_if_valid, rests_at, source_unused, stays_vacant, used_before}
 
-in_run : (first size frame : ℕ) → first ≤ frame → frame < first + size → is_in_run first size frame ≡ true
+pub in_run : (first size frame : ℕ) → first ≤ frame → frame < first + size → is_in_run first size frame ≡ true
 in_run first size frame low high = and_from (nat_le first frame) _ (le-leb first frame low) (lt-ltb frame (first + size) high)
 
-run_bounds : (first size frame : ℕ) → is_in_run first size frame ≡ true → (first ≤ frame) × (frame < first + size)
+pub run_bounds : (first size frame : ℕ) → is_in_run first size frame ≡ true → (first ≤ frame) × (frame < first + size)
 run_bounds first size frame e = let parts = and_parts (nat_le first frame) _ e in (leb-true first frame parts.0, ltb-true frame (first + size) parts.1)
 
 -- the highest number that passes

@@ -1,11 +1,16 @@
 -- A walk over the runs of a zone finds the open one that is next in rank.
-use Rattle.std.proofs.Common.{◌≡◌, ◌≢◌, ℕ, suc, ◌+◌, ◌*◌, ◌/◌, ◌<◌, ◌≤◌, Bool, true, false, not, ◌&&◌, ◌||◌, length, inl, inr, refl, sym, ap, ◌∙◌, arith}
-use Rattle.std.specs.Prelude.{Option, Some, None, is_some, IfSome, nat_eq, nat_le, nat_lt}
-use Rattle.std.proofs.lemmas.Bool.{and_parts, and_from, both_ways, cases_Bool, false_from_ne_true, lt-ltb, ltb-true}
+use Rattle.std.proofs.Common.{◌≡◌, ◌≢◌, ℕ, suc, ◌+◌, ◌-◌, ◌*◌, ◌/◌, ◌^◌, ◌<◌, ◌≤◌, Bool, true, false, not, ◌&&◌, ◌||◌, List, length, inl, inr, refl, sym, ap, subst, ◌∙◌, arith}
+use Rattle.std.specs.Prelude.{Option, Some, None, is_some, IfSome, nat_eq, nat_le, nat_lt, slice_index, slice_set}
+use Rattle.std.proofs.lemmas.Bool.{and_parts, and_from, both_ways, cases_Bool, eq-eqb, false_from_ne_true, le-leb, lt-ltb, ltb-true}
 use Rattle.std.proofs.lemmas.Bool.Decides.{eqb_tells, leb_tells}
-use Rattle.frame_core.proofs.Searches.{count_most}
+use Rattle.frame_core.proofs.Searches.{count_from_most, count_most}
 use Rattle.frame_core.specs.Below.{count_below}
-use Rattle.state_core.specs.ZoneState.{ZoneState, frame_count}
+use Rattle.std.proofs.lemmas.List.{get_or-set_other, get_or-set_same}
+use Rattle.std.proofs.lemmas.Nat.{pow_pos}
+use Rattle.frame_core.specs.Order.{is_aligned}
+use Rattle.state_core.specs.HandingOut.{has_block}
+use Rattle.state_core.proofs.Runs.{quotient}
+use Rattle.state_core.specs.ZoneState.{ZoneState, frame_count, is_used}
 use Rattle.fewest_core.specs.FewestMoves.{cost, costs, is_open, least, run_count}
 use Rattle.fewest_core.specs.Reservation.{goes_before, rank}
 use Rattle.fewest_core.proofs.Costs.{costs_counted}
@@ -14,10 +19,10 @@ use Rattle.zone_core.specs.declared.bare.reserving.OpenRun.{OpenRun}
 use Rattle.zone_core.specs.Reserving.{is_after, is_ahead, is_before, next_rank, IsOpenRun}
 
 module _ (z : ZoneState) (size : ℕ) where
-  abbrev opened : ℕ → Bool
+  abbrev pub opened : ℕ → Bool
   opened = is_open z size
 
-  abbrev before : ℕ → ℕ → Bool
+  abbrev pub before : ℕ → ℕ → Bool
   before = goes_before (cost z size)
 
   -- by the pages of two open runs, as by their costs
@@ -25,7 +30,7 @@ module _ (z : ZoneState) (size : ℕ) where
   before_same a b p q = λ i. nat_lt (p.pages i) (q.pages i) || (nat_eq (p.pages i) (q.pages i) && nat_lt a.number b.number)
 
   -- whether a run goes after the last one
-  abbrev after : Option OpenRun → ℕ → Bool
+  abbrev pub after : Option OpenRun → ℕ → Bool
   after None k = true
   after (Some last) k = before last.number k
 
@@ -34,11 +39,11 @@ module _ (z : ZoneState) (size : ℕ) where
   after_same r (Some last) ok is = before_same last r ok is
 
   -- of the first k runs, this is the first open one after the last
-  record IsBest (last : Option OpenRun) (k : ℕ) (r : OpenRun) : Type 0 where
-    run : IsOpenRun z size r
-    below : r.number < k
-    later : after last r.number ≡ true
-    first : (j : ℕ) → j < k → opened j ≡ true → after last j ≡ true → before j r.number ≡ false
+  pub record IsBest (last : Option OpenRun) (k : ℕ) (r : OpenRun) : Type 0 where
+    pub run : IsOpenRun z size r
+    pub below : r.number < k
+    pub later : after last r.number ≡ true
+    pub first : (j : ℕ) → j < k → opened j ≡ true → after last j ≡ true → before j r.number ≡ false
 
   -- what the walk has found among the first k runs
   abbrev pub IsNext : Option OpenRun → ℕ → Option OpenRun → Type 0
@@ -98,7 +103,7 @@ module _ (z : ZoneState) (size : ℕ) where
   }
 
   -- among all runs, what is found is next in rank
-  abbrev runs : ℕ
+  abbrev pub runs : ℕ
   runs = run_count z size
 
   counted : length (costs z size) ≡ count_below opened runs
@@ -140,6 +145,76 @@ module _ (z : ZoneState) (size : ℕ) where
         let out = false_from_ne_true _ (λ p. absurd (omega (arith, more.3, (picks_parts opened (cost z size) runs n more.0 p).1))) in
         both_ways _ (is more.0 more.1 more.2) (after_left last ok more.0 more.1 more.2 out)))
 
+  pub found_all : (last : Option OpenRun) → IfSome last (IsOpenRun z size) → (next : Option OpenRun) → IsNext last runs next → IfSome next (λ r. rank z size r.number ≡ next_rank z size last)
+  found_all last ok None is = tt
+  found_all last ok (Some r) is = found_ranked last ok r is
+
   -- one run more costs what it has pages
   pub least_next : (r : OpenRun) (n : ℕ) → IsOpenRun z size r → rank z size r.number ≡ n → least (n + 1) z size ≡ least n z size + r.pages
   least_next r n is at = least_more opened (cost z size) runs n r.number is.within is.opened at ∙ ap (λ (k : ℕ). least n z size + k) (sym is.pages)
+
+run_fits : (size frames number : ℕ) → number < frames / size → size * number + size ≤ frames
+run_fits size frames number h =
+    let more = frames / size - (number + 1) in
+    let all : size * (frames / size) ≤ frames = omega arith in
+    let split : size * (frames / size) ≡ size * number + size + size * more = ap (λ (k : ℕ). size * k) (sum_is (frames / size) number h) ∙ spread size number more in
+    omega (arith, all, split) where
+  sum_is : (q number : ℕ) → number < q → q ≡ number + 1 + (q - (number + 1))
+  sum_is q number h = omega (arith, h)
+
+  spread : (size a b : ℕ) → size * (a + 1 + b) ≡ size * a + size + size * b
+  spread size a b = omega arith
+
+-- a run of a zone, by its first frame
+module _ (z : ZoneState) (order number : ℕ) (within : number < run_count z (2 ^ order)) where
+  pub start_within : 2 ^ order * number + 2 ^ order ≤ frame_count z
+  start_within = run_fits (2 ^ order) (frame_count z) number within
+
+  pub start_number : (2 ^ order * number) / 2 ^ order ≡ number
+  start_number = quotient (2 ^ order * number) (2 ^ order) number (omega arith) (omega (arith, pow_pos order))
+
+  pub start_block : has_block z order (2 ^ order * number) ≡ true
+  start_block = and_from (is_aligned order (2 ^ order * number)) _
+      (eq-eqb _ _ (ap (λ (k : ℕ). k * 2 ^ order) start_number ∙ swapped (2 ^ order) number)) (le-leb _ _ start_within) where
+    swapped : (a b : ℕ) → b * a ≡ a * b
+    swapped a b = omega arith
+
+-- the first n of these frames are those of the runs of the ranks below n
+pub record IsPickedUpto (z : ZoneState) (order : ℕ) (firsts : List ℕ) (n : ℕ) : Type 0 where
+  pub block : (place : ℕ) → place < n → has_block z order (slice_index firsts place) ≡ true
+  pub opened : (place : ℕ) → place < n → is_open z (2 ^ order) (slice_index firsts place / 2 ^ order) ≡ true
+  pub ranked : (place : ℕ) → place < n → rank z (2 ^ order) (slice_index firsts place / 2 ^ order) ≡ place
+
+module _ (z : ZoneState) (order : ℕ) (firsts : List ℕ) (n : ℕ) where
+  pub picks_none : IsPickedUpto z order firsts 0
+  picks_none = record { block = λ place h. absurd (omega (arith, h)); opened = λ place h. absurd (omega (arith, h)); ranked = λ place h. absurd (omega (arith, h)) }
+
+  module _ (is : IsPickedUpto z order firsts n) (within : n < length firsts) (r : OpenRun) (run : IsOpenRun z (2 ^ order) r) (first : ℕ) (at : first ≡ 2 ^ order * r.number) (next : rank z (2 ^ order) r.number ≡ n) where
+    here : slice_index (slice_set firsts n first) n ≡ first
+    here = get_or-set_same firsts n first 0 within
+
+    there : (place : ℕ) → place ≢ n → slice_index (slice_set firsts n first) place ≡ slice_index firsts place
+    there place apart = get_or-set_other firsts n place first 0 apart
+
+    number_is : first / 2 ^ order ≡ r.number
+    number_is = ap (λ (k : ℕ). k / 2 ^ order) at ∙ start_number z order r.number run.within
+
+    by_place : (P : ℕ → ℕ → Type 0) → P n first → ((place : ℕ) → place < n → P place (slice_index firsts place)) → (place : ℕ) → place < n + 1 → P place (slice_index (slice_set firsts n first) place)
+    by_place P last old place h = elim (eqb_tells place n) [
+      | inl same ↦ subst (λ (k : ℕ). P k (slice_index (slice_set firsts n first) k)) (sym same.1) (subst (P n) (sym here) last)
+      | inr other ↦ subst (P place) (sym (there place other.1)) (old place (omega (arith, h, other.1)))
+    ]
+
+    pub picks_more : IsPickedUpto z order (slice_set firsts n first) (n + 1)
+    picks_more = record {
+      block = by_place (λ place k. has_block z order k ≡ true) (ap (has_block z order) at ∙ start_block z order r.number run.within) is.block;
+      opened = by_place (λ place k. is_open z (2 ^ order) (k / 2 ^ order) ≡ true) (ap (is_open z (2 ^ order)) number_is ∙ run.opened) is.opened;
+      ranked = by_place (λ place k. rank z (2 ^ order) (k / 2 ^ order) ≡ place) (ap (rank z (2 ^ order)) number_is ∙ next) is.ranked;
+    }
+
+-- the pages of the cheapest runs are no more than their frames
+pub pages_fit : (z : ZoneState) (size pages n : ℕ) (r : OpenRun) → IsOpenRun z size r → pages ≤ size * n → nat_lt n (length (costs z size)) ≡ true → (pages + r.pages ≤ size * (n + 1)) × (pages + r.pages ≤ frame_count z)
+pages_fit z size pages n r run few there =
+    let most : r.pages ≤ size = omega (arith, run.pages, count_from_most (is_used z) (size * r.number) size) in
+    let low : n < run_count z size = omega (arith, ltb-true _ _ there, costs_counted (is_open z size) (cost z size) (run_count z size), count_most (is_open z size) (run_count z size)) in
+    (omega (arith, most, few), omega (arith, most, few, run_fits size (frame_count z) n low))
