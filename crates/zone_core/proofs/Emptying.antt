@@ -104,6 +104,10 @@ module _ (z : ZoneState) (law : IsValidZone z) (frame : ℕ) where
           vacant = vacant;
         }
 
+-- the frame that takes a page is in the zone
+pub found_within : (is_in : ℕ → Bool) (z : ZoneState) (target : ℕ) → highest_beside is_in z ≡ Some target → target < frame_count z
+found_within is_in z target found = (highest_found (is_beside is_in z) (frame_count z) target found).0
+
 -- how many of the first n frames that pass are taken up by a page
 abbrev pub pages_below : (ℕ → Bool) → ZoneState → ℕ → ℕ
 pages_below is_in z n = count_below (λ frame. is_in frame && is_used z frame) n

@@ -1,11 +1,13 @@
 pub mod Alone
 pub mod ByHand
 pub mod Calls
+mod Clearing
 pub mod Coming
 pub mod Emptying
 pub mod Ending
 mod Evacuated
 mod Evacuating
+mod HandingOut
 mod InTurn
 mod MadeAs
 pub mod Moves

@@ -1,7 +1,7 @@
 -- A walk over the runs of a zone finds the open one that is next in rank.
-use Rattle.std.proofs.Common.{◌≡◌, ◌≢◌, ℕ, suc, ◌+◌, ◌-◌, ◌*◌, ◌/◌, ◌^◌, ◌<◌, ◌≤◌, Bool, true, false, not, ◌&&◌, ◌||◌, List, length, inl, inr, refl, sym, ap, subst, ◌∙◌, arith}
+use Rattle.std.proofs.Common.{◌≡◌, ◌≢◌, ℕ, zero, suc, ◌+◌, ◌-◌, ◌*◌, ◌/◌, ◌^◌, ◌<◌, ◌≤◌, Bool, true, false, not, ◌&&◌, ◌||◌, List, length, inl, inr, refl, sym, ap, subst, ◌∙◌, arith}
 use Rattle.std.specs.Prelude.{Option, Some, None, is_some, IfSome, nat_eq, nat_le, nat_lt, slice_index, slice_set}
-use Rattle.std.proofs.lemmas.Bool.{and_parts, and_from, both_ways, cases_Bool, eq-eqb, false_from_ne_true, le-leb, lt-ltb, ltb-true}
+use Rattle.std.proofs.lemmas.Bool.{and_parts, and_from, both_ways, cases_Bool, eq-eqb, false_from_ne_true, le-leb, leb-true, lt-ltb, ltb-true}
 use Rattle.std.proofs.lemmas.Bool.Decides.{eqb_tells, leb_tells}
 use Rattle.frame_core.proofs.Searches.{count_from_most, count_most}
 use Rattle.frame_core.specs.Below.{count_below}
@@ -218,3 +218,14 @@ pages_fit z size pages n r run few there =
     let most : r.pages ≤ size = omega (arith, run.pages, count_from_most (is_used z) (size * r.number) size) in
     let low : n < run_count z size = omega (arith, ltb-true _ _ there, costs_counted (is_open z size) (cost z size) (run_count z size), count_most (is_open z size) (run_count z size)) in
     (omega (arith, most, few), omega (arith, most, few, run_fits size (frame_count z) n low))
+
+-- runs that are open fit into the zone
+pub runs_fit : (z : ZoneState) (size n : ℕ) → 0 < size → nat_le n (length (costs z size)) ≡ true → (n ≤ frame_count z) × (size * n ≤ frame_count z)
+runs_fit z size n some few = by_count n (omega (arith, leb-true _ _ few, costs_counted (is_open z size) (cost z size) (run_count z size), count_most (is_open z size) (run_count z size))) where
+  no_less : (k : ℕ) → k ≤ size * k
+  no_less zero = omega arith
+  no_less (suc k) = omega (arith, some, no_less k)
+
+  by_count : (n : ℕ) → n ≤ run_count z size → (n ≤ frame_count z) × (size * n ≤ frame_count z)
+  by_count zero h = let none : size * 0 ≡ 0 = omega arith in (omega arith, omega (arith, none))
+  by_count (suc k) h = let fits = run_fits size (frame_count z) k (omega (arith, h)) in (omega (arith, fits, some, no_less k), omega (arith, fits))

@@ -141,7 +141,7 @@ fn frame_at(first: FrameNo, place: u32) -> FrameNo
 }
 
 /// Whether a frame is in a run.
-fn is_in_run(first: FrameNo, order: Order, frame: FrameNo) -> bool
+pub(crate) fn is_in_run(first: FrameNo, order: Order, frame: FrameNo) -> bool
     ensures { result ≡ is_in_run first (2 ^ order) frame }
 {
     first.get() <= frame.get() && frame.get() < first.get() + order.frames()
