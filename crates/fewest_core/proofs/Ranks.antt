@@ -34,7 +34,7 @@ module _ (cost_at : ℕ → ℕ) where
   tell a b (inr level) = lower_first a b level.0 level.1
 
   pub no_dearer : (a b : ℕ) → before a b ≡ true → cost_at a ≤ cost_at b
-  no_dearer a b e = elim (told a b e) [ | inl less ↦ omega (arith, less) | inr level ↦ omega (arith, level.0) ]
+  no_dearer a b e = elim (told a b e) [ inl less ↦ omega (arith, less) | inr level ↦ omega (arith, level.0) ]
 
   joined : (a b c : ℕ) → IsBefore a b → IsBefore b c → IsBefore a c
   joined a b c (inl x) (inl y) = inl (omega (arith, x, y))
@@ -46,7 +46,7 @@ module _ (cost_at : ℕ → ℕ) where
   before_trans a b c x y = tell a c (joined a b c (told a b x) (told b c y))
 
   pub not_itself : (a : ℕ) → before a a ≡ false
-  not_itself a = false_from_ne_true _ (λ e. elim (told a a e) [ | inl less ↦ absurd (omega (arith, less)) | inr level ↦ absurd (omega (arith, level.1)) ])
+  not_itself a = false_from_ne_true _ (λ e. elim (told a a e) [ inl less ↦ absurd (omega (arith, less)) | inr level ↦ absurd (omega (arith, level.1)) ])
 
   pub either : (a b : ℕ) → a ≢ b → (before a b ≡ true) ⊎ (before b a ≡ true)
   either a b apart = elim (leb_tells (cost_at a) (cost_at b)) [
@@ -65,26 +65,45 @@ module _ (cost_at : ℕ → ℕ) where
   first_of p zero some = cc
   first_of p (suc n) some = elim (cases_Bool (p n)) [
     | inr out ↦
-        (let rest = first_of p n (elim (or_cases (p n) _ some) [ | inl is ↦ absurd (both_ways _ out is) | inr below ↦ below ]) in
-        (rest.0, omega (arith, rest.1), rest.2, λ k h is. elim (eqb_tells k n) [
-          | inl at ↦ absurd (both_ways _ out (ap p (sym at.1) ∙ is))
-          | inr other ↦ rest.3 k (omega (arith, h, other.1)) is
-        ]))
+        (let rest = first_of p n (elim (or_cases (p n) _ some) [ inl is ↦ absurd (both_ways _ out is) | inr below ↦ below ]) in (
+          rest.0,
+          omega (arith, rest.1),
+          rest.2,
+          λ k h is. elim (eqb_tells k n) [
+            | inl at ↦ absurd (both_ways _ out (ap p (sym at.1) ∙ is))
+            | inr other ↦ rest.3 k (omega (arith, h, other.1)) is
+          ],
+        ))
     | inl is ↦ elim (cases_Bool (some_below p n)) [
-      | inr none ↦ (n, omega arith, is, λ k h q. elim (eqb_tells k n) [
-        | inl at ↦ ap (λ (m : ℕ). before m n) at.1 ∙ not_itself n
-        | inr other ↦ absurd (both_ways _ (some_none p n none k (omega (arith, h, other.1))) q)
-      ])
+      | inr none ↦ (
+        n,
+        omega arith,
+        is,
+        λ k h q. elim (eqb_tells k n) [
+          | inl at ↦ ap (λ (m : ℕ). before m n) at.1 ∙ not_itself n
+          | inr other ↦ absurd (both_ways _ (some_none p n none k (omega (arith, h, other.1))) q)
+        ],
+      )
       | inl below ↦
           (let rest = first_of p n below in elim (cases_Bool (before n rest.0)) [
-            | inl ahead ↦ (n, omega arith, is, λ k h q. false_from_ne_true _ (λ e. elim (eqb_tells k n) [
-              | inl at ↦ both_ways _ (not_itself n) (ap (λ (m : ℕ). before m n) (sym at.1) ∙ e)
-              | inr other ↦ both_ways _ (rest.3 k (omega (arith, h, other.1)) q) (before_trans k n rest.0 e ahead)
-            ]))
-            | inr late ↦ (rest.0, omega (arith, rest.1), rest.2, λ k h q. elim (eqb_tells k n) [
-              | inl at ↦ ap (λ (m : ℕ). before m rest.0) at.1 ∙ late
-              | inr other ↦ rest.3 k (omega (arith, h, other.1)) q
-            ])
+            | inl ahead ↦ (
+              n,
+              omega arith,
+              is,
+              λ k h q. false_from_ne_true _ (λ e. elim (eqb_tells k n) [
+                | inl at ↦ both_ways _ (not_itself n) (ap (λ (m : ℕ). before m n) (sym at.1) ∙ e)
+                | inr other ↦ both_ways _ (rest.3 k (omega (arith, h, other.1)) q) (before_trans k n rest.0 e ahead)
+              ]),
+            )
+            | inr late ↦ (
+              rest.0,
+              omega (arith, rest.1),
+              rest.2,
+              λ k h q. elim (eqb_tells k n) [
+                | inl at ↦ ap (λ (m : ℕ). before m rest.0) at.1 ∙ late
+                | inr other ↦ rest.3 k (omega (arith, h, other.1)) q
+              ],
+            )
           ])
     ]
   ]
@@ -224,11 +243,13 @@ module _ (passes : ℕ → Bool) (cost_at : ℕ → ℕ) (runs : ℕ) where
     by_most (suc n) within =
         let r = of_rank n (all_picked n (omega (arith, within))) (omega (arith, within)) in
         picked_least passes cost_at (picks (suc n)) (cost_at r.0) runs
-        (λ k e. (let parts = picks_parts (suc n) k e in
-          (parts.0, elim (leb_tells (cost_at k) (cost_at r.0)) [
+        (λ k e. (let parts = picks_parts (suc n) k e in (
+          parts.0,
+          elim (leb_tells (cost_at k) (cost_at r.0)) [
             | inl low ↦ low.1
             | inr high ↦ absurd (omega (arith, rank_grows r.0 k r.1 r.2 (cheaper_first cost_at r.0 k high.1), parts.1, r.3))
-          ])))
+          ],
+        )))
         (λ k h out is. elim (leb_tells (cost_at r.0) (cost_at k)) [
           | inl high ↦ high.1
           | inr low ↦ absurd (both_ways _ out (picks_from (suc n) k is (omega (arith, rank_grows k r.0 h is (cheaper_first cost_at k r.0 low.1), r.3))))

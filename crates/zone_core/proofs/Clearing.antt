@@ -1,12 +1,12 @@
 -- The picked runs are emptied: what is known before, while and after.
-use Rattle.std.proofs.Common.{◌≡◌, ◌≢◌, ℕ, zero, suc, ◌+◌, ◌-◌, ◌*◌, ◌/◌, ◌^◌, ◌<◌, ◌≤◌, Bool, true, false, not, ◌&&◌, ◌||◌, cond, List, [], ◌∷◌, length, inl, inr, refl, sym, ap, subst, ◌∙◌, arith}
-use Rattle.std.specs.Prelude.{Option, Some, None, nat_eq, nat_le, nat_lt, slice_index}
+use Rattle.std.proofs.Common.{◌≡◌, ℕ, zero, suc, ◌+◌, ◌-◌, ◌*◌, ◌/◌, ◌^◌, ◌<◌, ◌≤◌, Bool, true, false, not, ◌&&◌, cond, List, [], ◌∷◌, length, inl, inr, refl, sym, ap, subst, ◌∙◌, arith}
+use Rattle.std.specs.Prelude.{Option, Some, None, nat_eq, nat_le, slice_index}
 use Rattle.std.specs.List.{list_any}
-use Rattle.std.proofs.lemmas.Bool.{and_from, and_left, and_parts, both_ways, cases_Bool, cond-false, cond-true, eq-eqb, eqb-true, false_from_ne_true, leb-true, not-false, not-true, or_cases, or_parts}
-use Rattle.std.proofs.lemmas.Bool.Decides.{eqb_tells, leb_tells}
+use Rattle.std.proofs.lemmas.Bool.{and_from, and_left, and_parts, both_ways, cases_Bool, cond-false, cond-true, eq-eqb, eqb-true, false_from_ne_true, leb-true, or_cases, or_parts}
+use Rattle.std.proofs.lemmas.Bool.Decides.{leb_tells}
 use Rattle.std.proofs.lemmas.List.Folds.{list_any_at}
 use Rattle.std.proofs.lemmas.Nat.{pow_pos}
-use Rattle.frame_core.proofs.Searches.{count_from_all, count_from_same, count_none, count_same}
+use Rattle.frame_core.proofs.Searches.{count_from_all, count_from_same, count_same}
 use Rattle.frame_core.specs.Below.{count_below, count_from, highest}
 use Rattle.frame_core.specs.Moves.{isolated, moved, out}
 use Rattle.frame_core.specs.Order.{is_aligned}
@@ -40,7 +40,7 @@ any_found p [] e = cc
 any_found p (x ∷ xs) e = elim (cases_Bool (p x)) [
   | inl is ↦ (0, omega arith, is)
   | inr none ↦
-      (let rest = any_found p xs (elim (or_cases (p x) _ e) [ | inl is ↦ absurd (both_ways _ none is) | inr there ↦ there ]) in
+      (let rest = any_found p xs (elim (or_cases (p x) _ e) [ inl is ↦ absurd (both_ways _ none is) | inr there ↦ there ]) in
       (suc rest.0, omega (arith, rest.1), rest.2))
 ]
 
@@ -133,9 +133,9 @@ module _ (z : ZoneState) (order : ℕ) (firsts : List ℕ) (picked : ArePicked z
   pub in_chosen_run : (frame : ℕ) → is_in frame ≡ chosen (frame / size)
   in_chosen_run frame = both_same (is_in frame) (chosen (frame / size))
       (λ e. let at = any_found (λ k. is_in_run k size frame) firsts e in
-        list_any_at (λ k. nat_eq (k / size) (frame / size)) firsts at.0 0 at.1 (eq-eqb _ _ (sym (number_of at.0 frame at.1 at.2))))
+      list_any_at (λ k. nat_eq (k / size) (frame / size)) firsts at.0 0 at.1 (eq-eqb _ _ (sym (number_of at.0 frame at.1 at.2))))
       (λ e. let at = any_found (λ k. nat_eq (k / size) (frame / size)) firsts e in
-        list_any_at (λ k. is_in_run k size frame) firsts at.0 0 at.1 (in_of_number at.0 frame at.1 (eqb-true _ _ at.2)))
+      list_any_at (λ k. is_in_run k size frame) firsts at.0 0 at.1 (in_of_number at.0 frame at.1 (eqb-true _ _ at.2)))
 
   chosen_at : (run : ℕ) → chosen run ≡ true → (i : ℕ) × (i < n) × (first i / size ≡ run)
   chosen_at run e = let at = any_found (λ k. nat_eq (k / size) run) firsts e in (at.0, at.1, eqb-true _ _ at.2)
@@ -146,11 +146,11 @@ module _ (z : ZoneState) (order : ℕ) (firsts : List ℕ) (picked : ArePicked z
   chosen_picked : ((i : ℕ) → i < n → (run : ℕ) × (run < runs) × (is_open z size run ≡ true) × (rank z size run ≡ i)) → (run : ℕ) → run < runs → chosen run ≡ is_picked z size n run
   chosen_picked all run h = both_same (chosen run) (is_picked z size n run)
       (λ e. let at = chosen_at run e in
-        picks_from (is_open z size) (cost z size) runs n run (chosen_open run e).1 (omega (arith, ap (rank z size) at.2, picked.ranked at.0 at.1, at.1)))
+      picks_from (is_open z size) (cost z size) runs n run (chosen_open run e).1 (omega (arith, ap (rank z size) at.2, picked.ranked at.0 at.1, at.1)))
       (λ e. let parts = picks_parts (is_open z size) (cost z size) runs n run e in
-        let at = picked.ranked (rank z size run) parts.1 in
-        list_any_at (λ k. nat_eq (k / size) run) firsts (rank z size run) 0 parts.1
-          (eq-eqb _ _ (rank_alone (is_open z size) (cost z size) runs (first (rank z size run) / size) run (run_within (rank z size run) parts.1) h (picked.opened (rank z size run) parts.1) parts.0 at)))
+      let at = picked.ranked (rank z size run) parts.1 in
+      list_any_at (λ k. nat_eq (k / size) run) firsts (rank z size run) 0 parts.1
+      (eq-eqb _ _ (rank_alone (is_open z size) (cost z size) runs (first (rank z size run) / size) run (run_within (rank z size run) parts.1) h (picked.opened (rank z size run) parts.1) parts.0 at)))
 
   -- no two of the runs share a frame
   pub runs_apart : (a b frame : ℕ) → a < b → b < n → is_in_run (first a) size frame ≡ true → is_in_run (first b) size frame ≡ false
@@ -212,8 +212,8 @@ module _ (z : ZoneState) (order : ℕ) (firsts : List ℕ) (picked : ArePicked z
     spare_are =
         let room = past size runs chosen z chosen_open (frame_count z) fit over none_past in
         let less = count_within (is_spare size runs chosen z) (is_beside is_in z) (frame_count z) (λ frame h e.
-            let parts = and_parts (is_free_unmarked z frame) _ e in
-            and_from (not (is_in frame)) _ (ap not (in_chosen_run frame) ∙ parts.1) parts.0) in
+        let parts = and_parts (is_free_unmarked z frame) _ e in
+        and_from (not (is_in frame)) _ (ap not (in_chosen_run frame) ∙ parts.1) parts.0) in
         let whole : size * count_below chosen runs ≡ size * n = ap (λ (k : ℕ). size * k) chosen_count in
         omega (arith, room, less, whole, chosen_cost, leb-true _ _ can.1)
 
@@ -233,8 +233,9 @@ module _ (z : ZoneState) (order : ℕ) (firsts : List ℕ) (picked : ArePicked z
 
       pub all_free : (frame : ℕ) → is_in frame ≡ true → is_free v frame ≡ true
       all_free frame there =
-          let unheld = (or_parts (is_held v frame) _ (or_parts _ _ (is.unshut frame there)).1).0 in
-          and_from (not (is_used v frame)) (not (is_held v frame)) (ap not (is.empty frame there (omega (arith, in_zone frame there, all)))) (ap not unheld)
+          let unheld : is_held v frame ≡ false = (or_parts (is_held v frame) _ (or_parts _ _ (is.unshut frame there)).1).0 in
+          let done_here : frame < m = omega (arith, in_zone frame there, all) in
+          and_from (not (is_used v frame)) (not (is_held v frame)) (ap not (is.empty frame there done_here)) (ap not unheld)
 
       pub room_left : length (out v.records) + n ≤ v.room
       room_left = omega (arith, is.room, is.out_same, done, leb-true (length (out z.records) + 2 * least n z size + n) z.room places.0)

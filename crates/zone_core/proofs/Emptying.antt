@@ -285,7 +285,7 @@ module _ (is_in : ℕ → Bool) (old z : ZoneState) (frame : ℕ) (is : IsEmptyi
               let both = and_parts (not (is_in g)) (is_free_unmarked next g) e in
               let apart : g ≢ frame = λ same. both_ways _ (not-true _ both.0) (ap is_in same ∙ in_it) in
               both_ways _ (highest_last (is_beside is_in z) (frame_count z) target g found (omega (arith, low, other.1)) high)
-                  (and_from (not (is_in g)) (is_free_unmarked z g) both.0 (stays_free z m may_move_here g apart both.1)))
+              (and_from (not (is_in g)) (is_free_unmarked z g) both.0 (stays_free z m may_move_here g apart both.1)))
         ]
 
 -- the zone between two frames of a run that is emptied

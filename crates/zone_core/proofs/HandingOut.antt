@@ -1,11 +1,10 @@
 -- Blocks that are free and share no frame are handed out one after the other.
-use Rattle.std.proofs.Common.{◌≡◌, ◌≢◌, ℕ, zero, suc, ◌+◌, ◌-◌, ◌^◌, ◌<◌, ◌≤◌, Bool, true, false, ◌&&◌, List, length, inl, inr, refl, sym, ap, subst, ◌∙◌, arith}
+use Rattle.std.proofs.Common.{◌≡◌, ◌≢◌, ℕ, zero, suc, ◌+◌, ◌-◌, ◌^◌, ◌<◌, ◌≤◌, Bool, true, false, List, length, inl, inr, refl, sym, ap, subst, ◌∙◌, arith}
 use Rattle.std.specs.Prelude.{Some, nat_eq, slice_index}
 use Rattle.std.specs.FinMap as map
-use Rattle.std.proofs.lemmas.Bool.{and_from, and_parts, eq-eqb, both_ways, false_from_ne_true, lt-ltb}
+use Rattle.std.proofs.lemmas.Bool.{and_from, and_parts, both_ways, false_from_ne_true, lt-ltb}
 use Rattle.std.proofs.lemmas.Bool.Decides.{eqb_tells}
 use Rattle.frame_core.proofs.Searches.{count_from_same}
-use Rattle.frame_core.specs.Below.{count_from}
 use Rattle.frame_core.specs.Moves.{moved, out}
 use Rattle.state_core.proofs.Entries.{get_insert_other, get_insert_same}
 use Rattle.state_core.proofs.HandingOut.{free_taken_out}
@@ -46,8 +45,8 @@ module _ (z : ZoneState) (order : ℕ) (firsts : List ℕ) where
         let parts = and_parts (has_block v order (slice_index firsts place)) _ (is.free place (omega (arith, low)) h) in
         let same = count_from_same (is_free next) (is_free v) (slice_index firsts place) (2 ^ order) (λ frame from below. free_taken_out v (slice_index firsts n) order run_here frame (before frame (in_run (slice_index firsts place) (2 ^ order) frame from below))) in
         and_from (has_block v order (slice_index firsts place)) _ parts.0 (ap (λ (k : ℕ). nat_eq k (2 ^ order)) same ∙ parts.1) where
-      before : (frame : ℕ) → is_in_run (slice_index firsts place) (2 ^ order) frame ≡ true → is_in_run (slice_index firsts n) (2 ^ order) frame ≡ false
-      before frame there = false_from_ne_true _ (λ here. both_ways _ (apart n place frame (omega (arith, low)) h here) there)
+          before : (frame : ℕ) → is_in_run (slice_index firsts place) (2 ^ order) frame ≡ true → is_in_run (slice_index firsts n) (2 ^ order) frame ≡ false
+          before frame there = false_from_ne_true _ (λ here. both_ways _ (apart n place frame (omega (arith, low)) h here) there)
 
     pub handing_on : AreApart order firsts → (new : ZoneState) → new ≡ block_taken v (slice_index firsts n) order → IsValidZone new → IsHandingOut z order firsts new (n + 1)
     handing_on apart new step law = subst (λ (u : ZoneState). IsHandingOut z order firsts u (n + 1)) (sym step) (record {

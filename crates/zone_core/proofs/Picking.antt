@@ -1,8 +1,8 @@
 -- A walk over the runs of a zone finds the open one that is next in rank.
-use Rattle.std.proofs.Common.{◌≡◌, ◌≢◌, ℕ, zero, suc, ◌+◌, ◌-◌, ◌*◌, ◌/◌, ◌^◌, ◌<◌, ◌≤◌, Bool, true, false, not, ◌&&◌, ◌||◌, List, length, inl, inr, refl, sym, ap, subst, ◌∙◌, arith}
+use Rattle.std.proofs.Common.{◌≡◌, ◌≢◌, ℕ, zero, suc, ◌+◌, ◌-◌, ◌*◌, ◌/◌, ◌^◌, ◌<◌, ◌≤◌, Bool, true, false, ◌&&◌, ◌||◌, List, length, inl, inr, refl, sym, ap, subst, ◌∙◌, arith}
 use Rattle.std.specs.Prelude.{Option, Some, None, is_some, IfSome, nat_eq, nat_le, nat_lt, slice_index, slice_set}
-use Rattle.std.proofs.lemmas.Bool.{and_parts, and_from, both_ways, cases_Bool, eq-eqb, false_from_ne_true, le-leb, leb-true, lt-ltb, ltb-true}
-use Rattle.std.proofs.lemmas.Bool.Decides.{eqb_tells, leb_tells}
+use Rattle.std.proofs.lemmas.Bool.{and_from, both_ways, cases_Bool, eq-eqb, false_from_ne_true, le-leb, leb-true, lt-ltb, ltb-true}
+use Rattle.std.proofs.lemmas.Bool.Decides.{eqb_tells}
 use Rattle.frame_core.proofs.Searches.{count_from_most, count_most}
 use Rattle.frame_core.specs.Below.{count_below}
 use Rattle.std.proofs.lemmas.List.{get_or-set_other, get_or-set_same}
@@ -14,7 +14,7 @@ use Rattle.state_core.specs.ZoneState.{ZoneState, frame_count, is_used}
 use Rattle.fewest_core.specs.FewestMoves.{cost, costs, is_open, least, run_count}
 use Rattle.fewest_core.specs.Reservation.{goes_before, rank}
 use Rattle.fewest_core.proofs.Costs.{costs_counted}
-use Rattle.fewest_core.proofs.Ranks.{after_is, all_picked, before_trans, least_more, next_rank as first_has_rank, not_after, not_itself, of_rank, picks, picks_parts, rank_alone, rank_within}
+use Rattle.fewest_core.proofs.Ranks.{after_is, all_picked, before_trans, least_more, next_rank as first_has_rank, not_after, not_itself, of_rank, picks, picks_parts, rank_within}
 use Rattle.zone_core.specs.declared.bare.reserving.OpenRun.{OpenRun}
 use Rattle.zone_core.specs.Reserving.{is_after, is_ahead, is_before, next_rank, IsOpenRun}
 
@@ -159,11 +159,11 @@ run_fits size frames number h =
     let all : size * (frames / size) ≤ frames = omega arith in
     let split : size * (frames / size) ≡ size * number + size + size * more = ap (λ (k : ℕ). size * k) (sum_is (frames / size) number h) ∙ spread size number more in
     omega (arith, all, split) where
-  sum_is : (q number : ℕ) → number < q → q ≡ number + 1 + (q - (number + 1))
-  sum_is q number h = omega (arith, h)
+      sum_is : (q number : ℕ) → number < q → q ≡ number + 1 + (q - (number + 1))
+      sum_is q number h = omega (arith, h)
 
-  spread : (size a b : ℕ) → size * (a + 1 + b) ≡ size * a + size + size * b
-  spread size a b = omega arith
+      spread : (size a b : ℕ) → size * (a + 1 + b) ≡ size * a + size + size * b
+      spread size a b = omega arith
 
 -- a run of a zone, by its first frame
 module _ (z : ZoneState) (order number : ℕ) (within : number < run_count z (2 ^ order)) where
@@ -176,8 +176,8 @@ module _ (z : ZoneState) (order number : ℕ) (within : number < run_count z (2 
   pub start_block : has_block z order (2 ^ order * number) ≡ true
   start_block = and_from (is_aligned order (2 ^ order * number)) _
       (eq-eqb _ _ (ap (λ (k : ℕ). k * 2 ^ order) start_number ∙ swapped (2 ^ order) number)) (le-leb _ _ start_within) where
-    swapped : (a b : ℕ) → b * a ≡ a * b
-    swapped a b = omega arith
+        swapped : (a b : ℕ) → b * a ≡ a * b
+        swapped a b = omega arith
 
 -- the first n of these frames are those of the runs of the ranks below n
 pub record IsPickedUpto (z : ZoneState) (order : ℕ) (firsts : List ℕ) (n : ℕ) : Type 0 where
@@ -185,32 +185,29 @@ pub record IsPickedUpto (z : ZoneState) (order : ℕ) (firsts : List ℕ) (n : �
   pub opened : (place : ℕ) → place < n → is_open z (2 ^ order) (slice_index firsts place / 2 ^ order) ≡ true
   pub ranked : (place : ℕ) → place < n → rank z (2 ^ order) (slice_index firsts place / 2 ^ order) ≡ place
 
-module _ (z : ZoneState) (order : ℕ) (firsts : List ℕ) (n : ℕ) where
-  pub picks_none : IsPickedUpto z order firsts 0
-  picks_none = record { block = λ place h. absurd (omega (arith, h)); opened = λ place h. absurd (omega (arith, h)); ranked = λ place h. absurd (omega (arith, h)) }
+-- the next run is written after them
+module _ (z : ZoneState) (order : ℕ) (firsts : List ℕ) (n : ℕ) (is : IsPickedUpto z order firsts n) (within : n < length firsts) (r : OpenRun) (run : IsOpenRun z (2 ^ order) r) (first : ℕ) (at : first ≡ 2 ^ order * r.number) (next : rank z (2 ^ order) r.number ≡ n) where
+  here : slice_index (slice_set firsts n first) n ≡ first
+  here = get_or-set_same firsts n first 0 within
 
-  module _ (is : IsPickedUpto z order firsts n) (within : n < length firsts) (r : OpenRun) (run : IsOpenRun z (2 ^ order) r) (first : ℕ) (at : first ≡ 2 ^ order * r.number) (next : rank z (2 ^ order) r.number ≡ n) where
-    here : slice_index (slice_set firsts n first) n ≡ first
-    here = get_or-set_same firsts n first 0 within
+  there : (place : ℕ) → place ≢ n → slice_index (slice_set firsts n first) place ≡ slice_index firsts place
+  there place apart = get_or-set_other firsts n place first 0 apart
 
-    there : (place : ℕ) → place ≢ n → slice_index (slice_set firsts n first) place ≡ slice_index firsts place
-    there place apart = get_or-set_other firsts n place first 0 apart
+  number_is : first / 2 ^ order ≡ r.number
+  number_is = ap (λ (k : ℕ). k / 2 ^ order) at ∙ start_number z order r.number run.within
 
-    number_is : first / 2 ^ order ≡ r.number
-    number_is = ap (λ (k : ℕ). k / 2 ^ order) at ∙ start_number z order r.number run.within
+  by_place : (P : ℕ → ℕ → Type 0) → P n first → ((place : ℕ) → place < n → P place (slice_index firsts place)) → (place : ℕ) → place < n + 1 → P place (slice_index (slice_set firsts n first) place)
+  by_place P last old place h = elim (eqb_tells place n) [
+    | inl same ↦ subst (λ (k : ℕ). P k (slice_index (slice_set firsts n first) k)) (sym same.1) (subst (P n) (sym here) last)
+    | inr other ↦ subst (P place) (sym (there place other.1)) (old place (omega (arith, h, other.1)))
+  ]
 
-    by_place : (P : ℕ → ℕ → Type 0) → P n first → ((place : ℕ) → place < n → P place (slice_index firsts place)) → (place : ℕ) → place < n + 1 → P place (slice_index (slice_set firsts n first) place)
-    by_place P last old place h = elim (eqb_tells place n) [
-      | inl same ↦ subst (λ (k : ℕ). P k (slice_index (slice_set firsts n first) k)) (sym same.1) (subst (P n) (sym here) last)
-      | inr other ↦ subst (P place) (sym (there place other.1)) (old place (omega (arith, h, other.1)))
-    ]
-
-    pub picks_more : IsPickedUpto z order (slice_set firsts n first) (n + 1)
-    picks_more = record {
-      block = by_place (λ place k. has_block z order k ≡ true) (ap (has_block z order) at ∙ start_block z order r.number run.within) is.block;
-      opened = by_place (λ place k. is_open z (2 ^ order) (k / 2 ^ order) ≡ true) (ap (is_open z (2 ^ order)) number_is ∙ run.opened) is.opened;
-      ranked = by_place (λ place k. rank z (2 ^ order) (k / 2 ^ order) ≡ place) (ap (rank z (2 ^ order)) number_is ∙ next) is.ranked;
-    }
+  pub picks_more : IsPickedUpto z order (slice_set firsts n first) (n + 1)
+  picks_more = record {
+    block = by_place (λ place k. has_block z order k ≡ true) (ap (has_block z order) at ∙ start_block z order r.number run.within) is.block;
+    opened = by_place (λ place k. is_open z (2 ^ order) (k / 2 ^ order) ≡ true) (ap (is_open z (2 ^ order)) number_is ∙ run.opened) is.opened;
+    ranked = by_place (λ place k. rank z (2 ^ order) (k / 2 ^ order) ≡ place) (ap (rank z (2 ^ order)) number_is ∙ next) is.ranked;
+  }
 
 -- the pages of the cheapest runs are no more than their frames
 pub pages_fit : (z : ZoneState) (size pages n : ℕ) (r : OpenRun) → IsOpenRun z size r → pages ≤ size * n → nat_lt n (length (costs z size)) ≡ true → (pages + r.pages ≤ size * (n + 1)) × (pages + r.pages ≤ frame_count z)

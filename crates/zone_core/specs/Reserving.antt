@@ -1,7 +1,7 @@
 -- The walk over the open runs of a zone, in the order of their ranks.
 use Rattle.std.specs.Prelude.{◌≡◌, ℕ, ◌+◌, ◌<◌, Bool, true, nat_eq, nat_lt, ◌&&◌, ◌||◌, Option, Some, None}
 use Rattle.fewest_core.specs.FewestMoves.{cost, is_open, run_count}
-use Rattle.fewest_core.specs.Reservation.{goes_before, rank}
+use Rattle.fewest_core.specs.Reservation.{rank}
 use Rattle.state_core.specs.ZoneState.{ZoneState}
 use Rattle.zone_core.specs.declared.bare.reserving.OpenRun.{OpenRun}
 

@@ -15,8 +15,8 @@ ghost use Rattle.state_core.specs.ZoneState.{frame_count, is_free};
 ghost use Rattle.zone_core.specs.Reserving.{is_after, is_ahead, is_before, next_rank, IsOpenRun};
 ghost use Rattle.zone_core.specs.ZoneIdentity.{HasIdentity};
 
-use crate::bare::evacuating::is_in_run;
 use crate::bare::BareZone;
+use crate::bare::evacuating::is_in_run;
 use frame_core::{FrameNo, Order};
 use state_core::ZoneError;
 
@@ -268,8 +268,5 @@ fn run_start(order: Order, number: u32) -> FrameNo
     requires { 2 ^ order * number < 16777216 }
     ensures { result ≡ 2 ^ order * number }
 {
-    let Some(first) = FrameNo::in_any_zone(order.frames() * number) else {
-        unreachable!();
-    };
-    first
+    frame_no(order.frames() * number)
 }

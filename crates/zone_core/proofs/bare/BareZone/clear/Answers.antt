@@ -1,8 +1,7 @@
-use Rattle.std.proofs.Common.{◌≡◌, ◌∙◌, ◌+◌, ◌*◌, ◌^◌, ◌<◌, ℕ, ap, false, true, subst, sym, not, arith}
-use Rattle.std.proofs.lemmas.Bool.{not-false}
-use Rattle.fewest_core.specs.Evacuation.{is_beside, moved_away}
+use Rattle.std.proofs.Common.{◌≡◌, ◌∙◌, ◌+◌, ◌*◌, ◌^◌, ◌<◌, ℕ, ap, subst, sym, arith}
+use Rattle.fewest_core.specs.Evacuation.{moved_away}
 use Rattle.fewest_core.specs.FewestMoves.{IsMove}
-use Rattle.fewest_core.specs.Reservation.{highest_beside, is_in_runs}
+use Rattle.fewest_core.specs.Reservation.{is_in_runs}
 use Rattle.state_core.specs.Isolating.{isolate_refusal}
 use Rattle.state_core.specs.Pairs.{holder}
 use Rattle.state_core.specs.ZoneState.{ZoneState, frame_count}
@@ -18,7 +17,7 @@ loop-number-preserved-in_default g c =
     let is_in = is_in_runs c.args.firsts.now (2 ^ c.args.order) in
     let here = c.deref.ensures ∙ c.self.view_is in
     let none = sym (λ i. holder (here i) (c.frame_no-source.ensures i)) ∙ sym c.holder.ensures.holder ∙ c.in_default.is in
-    let there = ap is_in (sym c.frame_no-source.ensures) ∙ sym c.is_in_runs.ensures ∙ not-false c.is_in_runs.result c.if-not-is_in_runs.false in
+    let there = ap is_in (sym c.frame_no-source.ensures) ∙ sym c.is_in_runs.ensures ∙ c.if-not-is_in_runs.false in
     clears_none is_in c.args.self.now c.loop-number.self c.loop-number.number c.loop-number.top c.loop-number.invariant there none
 
 pub unreachable-requires : goal.unreachable-requires
@@ -26,7 +25,7 @@ unreachable-requires g c =
     let is_in = is_in_runs c.args.firsts.now (2 ^ c.args.order) in
     let here = c.deref.ensures ∙ c.self.view_is in
     let holds = sym (λ i. holder (here i) (c.frame_no-source.ensures i)) ∙ sym c.holder.ensures.holder ∙ c.in-Some.is in
-    let there = ap is_in (sym c.frame_no-source.ensures) ∙ sym c.is_in_runs.ensures ∙ not-false c.is_in_runs.result c.if-not-is_in_runs.false in
+    let there = ap is_in (sym c.frame_no-source.ensures) ∙ sym c.is_in_runs.ensures ∙ c.if-not-is_in_runs.false in
     let within : c.loop-number.number < frame_count c.args.self.now = omega (arith, c.loop-number-test.true, c.blocks-frames.ensures.blocks) in
     let part = c.loop-number.invariant in
     let all = enough c.args.self.now c.args.order c.args.firsts.now c.requires.picked c.requires.accepted in
@@ -39,7 +38,7 @@ move_page-requires g c =
     let here = c.deref.ensures ∙ c.self.view_is in
     let same = c.deref_mut.ensures.value ∙ c.self.view_is in
     let holds = sym (λ i. holder (here i) (c.frame_no-source.ensures i)) ∙ sym c.holder.ensures.holder ∙ c.in-Some.is in
-    let there = ap is_in (sym c.frame_no-source.ensures) ∙ sym c.is_in_runs.ensures ∙ not-false c.is_in_runs.result c.if-not-is_in_runs.false in
+    let there = ap is_in (sym c.frame_no-source.ensures) ∙ sym c.is_in_runs.ensures ∙ c.if-not-is_in_runs.false in
     let within : c.loop-number.number < frame_count c.args.self.now = omega (arith, c.loop-number-test.true, c.blocks-frames.ensures.blocks) in
     let part = c.loop-number.invariant in
     let all = enough c.args.self.now c.args.order c.args.firsts.now c.requires.picked c.requires.accepted in
@@ -60,7 +59,7 @@ loop-number-preserved g c =
     let here = c.deref.ensures ∙ c.self.view_is in
     let same = c.deref_mut.ensures.value ∙ c.self.view_is in
     let holds = sym (λ i. holder (here i) (c.frame_no-source.ensures i)) ∙ sym c.holder.ensures.holder ∙ c.in-Some.is in
-    let there = ap is_in (sym c.frame_no-source.ensures) ∙ sym c.is_in_runs.ensures ∙ not-false c.is_in_runs.result c.if-not-is_in_runs.false in
+    let there = ap is_in (sym c.frame_no-source.ensures) ∙ sym c.is_in_runs.ensures ∙ c.if-not-is_in_runs.false in
     let within : c.loop-number.number < frame_count c.args.self.now = omega (arith, c.loop-number-test.true, c.blocks-frames.ensures.blocks) in
     let part = c.loop-number.invariant in
     let all = enough c.args.self.now c.args.order c.args.firsts.now c.requires.picked c.requires.accepted in
@@ -68,8 +67,8 @@ loop-number-preserved g c =
     let below = found_within is_in c.loop-number.self c.in-Some-highest_beside.target found in
     subst (IsPartCleared is_in c.args.self.now c.move_page.new.self (c.loop-number.number + 1)) (sym c.get-top.ensures.value)
     (clears_one is_in c.args.self.now c.loop-number.self c.loop-number.number c.loop-number.top part there within all c.in-Some.page c.in-Some-highest_beside.target holds found below c.move_page.new.self
-      (c.move_page.ensures.step ∙ (λ i. moved_away (same i) (record { page = c.in-Some.page; source = c.frame_no-source.ensures i; target = c.in-Some-highest_beside.target })))
-      c.move_page.ensures.valid)
+    (c.move_page.ensures.step ∙ (λ i. moved_away (same i) (record { page = c.in-Some.page; source = c.frame_no-source.ensures i; target = c.in-Some-highest_beside.target })))
+    c.move_page.ensures.valid)
 
 pub returns-clause-free : goal.returns-clause-free
 returns-clause-free g c =

@@ -1,4 +1,5 @@
 use Rattle.std.proofs.Common.{◌∙◌, ◌<◌, length, ap, subst, sym, arith}
+use Rattle.std.proofs.lemmas.List.{get_or_default}
 use Rattle.state_core.specs.HandingOut.{block_taken, is_run}
 use Rattle.state_core.specs.Valid.{IsValidZone}
 use Rattle.state_core.specs.ZoneState.{ZoneState, has_room}
@@ -14,8 +15,8 @@ pub hand_out-requires : goal.hand_out-requires
 hand_out-requires g c =
     let v = c.loop-place.self-inside.tables.value in
     let same = c.deref_mut.ensures.value in
-    let first = c.index-firsts-place.ensures in
-    let within : c.loop-place.place < length c.args.firsts.now = omega (arith, c.loop-place-test.true) in (
+    let within : c.loop-place.place < length c.args.firsts.now = omega (arith, c.loop-place-test.true) in
+    let first = c.index-firsts-place.is ∙ get_or_default c.args.firsts.now c.loop-place.place c.index-firsts-place.result 0 within in (
       omega arith,
       (
         ap has_room same ∙ room_here c.args.self.now c.args.order c.args.firsts.now v c.loop-place.place c.loop-place.invariant within,
@@ -27,5 +28,6 @@ pub loop-place-preserved : goal.loop-place-preserved
 loop-place-preserved g c =
     let v = c.loop-place.self-inside.tables.value in
     let within : c.loop-place.place < length c.args.firsts.now = omega (arith, c.loop-place-test.true) in
+    let first = c.index-firsts-place.is ∙ get_or_default c.args.firsts.now c.loop-place.place c.index-firsts-place.result 0 within in
     handing_on c.args.self.now c.args.order c.args.firsts.now v c.loop-place.place c.loop-place.invariant within c.requires.apart c.hand_out.new.self
-    (c.hand_out.ensures.step ∙ (λ i. block_taken (c.deref_mut.ensures.value i) (c.index-firsts-place.ensures i) c.args.order)) c.hand_out.ensures.valid
+    (c.hand_out.ensures.step ∙ (λ i. block_taken (c.deref_mut.ensures.value i) (first i) c.args.order)) c.hand_out.ensures.valid

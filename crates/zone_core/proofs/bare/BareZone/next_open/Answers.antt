@@ -1,4 +1,4 @@
-use Rattle.std.proofs.Common.{◌≡◌, ◌∙◌, ◌*◌, ◌/◌, ◌^◌, ◌+◌, ◌<◌, ℕ, Bool, false, ◌&&◌, ap, refl, subst, sym, arith}
+use Rattle.std.proofs.Common.{◌≡◌, ◌∙◌, ◌*◌, ◌/◌, ◌^◌, ◌+◌, ◌<◌, ℕ, false, ◌&&◌, ap, refl, subst, sym, arith}
 use Rattle.std.specs.Prelude.{is_some}
 use Rattle.std.proofs.lemmas.Bool.{and_left, and_right}
 use Rattle.fewest_core.specs.FewestMoves.{cost, is_open, run_count}
@@ -6,7 +6,6 @@ use Rattle.state_core.specs.HandingOut.{has_block}
 use Rattle.zone_core.specs.declared.bare.reserving.OpenRun.{OpenRun}
 use Rattle.zone_core.specs.Reserving.{is_after, is_ahead, IsOpenRun}
 use Rattle.zone_core.proofs.Picking.{found_all, found_there, start_block, start_number, walk_keeps, walk_shut, walk_takes, IsNext}
-use Rattle.zone_core.proofs.bare.BareZone.next_open.Given.{Over}
 use Rattle.zone_core.proofs.bare.BareZone.next_open.Goals as goal
 use Rattle.zone_core.proofs.bare.BareZone.next_open.Goals.{then-is_after+then-is_ahead, else-is_after, else-is_after-via-then-is_after+else-is_ahead, else-is_after-via-else-is_after}
 

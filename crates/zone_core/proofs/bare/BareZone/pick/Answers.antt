@@ -1,4 +1,4 @@
-use Rattle.std.proofs.Common.{◌^◌, ◌<◌, length, length-set, ◌∙◌, arith}
+use Rattle.std.proofs.Common.{◌<◌, length, length-set, ◌∙◌, arith}
 use Rattle.zone_core.proofs.Picking.{picks_more}
 use Rattle.zone_core.proofs.bare.BareZone.pick.Goals as goal
 

@@ -1,5 +1,5 @@
 use Rattle.std.proofs.Common.{◌≡◌, ◌∙◌, ◌^◌, ℕ, ap, length, subst, sym, arith}
-use Rattle.std.specs.Prelude.{Some, None, slice_index}
+use Rattle.std.specs.Prelude.{slice_index}
 use Rattle.std.specs.FinMap as map
 use Rattle.fewest_core.specs.Evacuation.{IsCarriedFrom}
 use Rattle.fewest_core.specs.FewestMoves.{least}
