@@ -19,7 +19,7 @@ pub struct Notes {
     /// How many page numbers are in use.
     in_use: u32,
     /// The page numbers that aren't in use.
-    unused: NumberSet<2>,
+    unused: NumberSet<4>,
 }
 
 impl Model for Notes {
@@ -38,7 +38,7 @@ impl Model for Notes {
 impl Notes {
     /// The notes of this many numbers, none of which is in use, or an error where there is no memory for them. No other call takes memory.
     pub fn open(alloc: Global, count: u32) -> Result<Self, AllocError>
-        requires { count ≤ 4096 }
+        requires { count ≤ 16777216 }
         ensures { IfOk result (λ notes. notes ≡ replicate count unused_note) }
     {
         let notes = FixedVec::filled(alloc, PageNote::unused(), count as usize)?;
