@@ -151,7 +151,6 @@ pub record Resident {W : ℕ} (z : Inside W) (v : ZoneState) (address : Address)
   pub held : holder v frame ≡ Some page
   pub within : frame < frame_count v
   pub row_within : frame < length z.words
-  pub note_within : page < length z.notes
 
 module _ {W : ℕ} {z : Inside W} {v : ZoneState} (view : state_of z ≡ v) (invariant : IsSound z (state_of z)) {address : Address} {frame : ℕ} (at : placement_at v address ≡ Some (At frame)) where
   pub resident : (page : ℕ) × Resident z v address frame page
@@ -168,7 +167,6 @@ module _ {W : ℕ} {z : Inside W} {v : ZoneState} (view : state_of z ≡ v) (inv
           held = holder_at v sound.valid page.0 frame page.2;
           within = within;
           row_within = omega (arith, within, sound.words.count);
-          note_within = omega (arith, sound.valid.pages.numbered page.0 used, sound.notes.count);
         },
       )
 
