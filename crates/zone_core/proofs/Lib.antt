@@ -8,6 +8,7 @@ mod Evacuated
 mod Evacuating
 mod InTurn
 mod MadeAs
+mod MaximalRuns
 pub mod Moves
 mod OneThread
 pub mod Packed
