@@ -119,6 +119,7 @@ impl<const W: usize> BareZone<W> {
     /// Whether a frame may take a page of a run: it is outside of the run, and free, in an unmarked pageblock.
     fn is_spare(&self, first: FrameNo, order: Order, frame: u32) -> bool
         requires within { frame < frame_count self.now }
+        requires few { frame < 16777216 }
         ensures { result ≡ is_spare first (2 ^ order) self.now frame }
     {
         let Some(frame) = FrameNo::in_any_zone(frame) else {
