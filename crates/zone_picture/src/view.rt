@@ -11,7 +11,7 @@ use zone_core::{Info, Zone};
 /// A pageblock as it is drawn: its number, what each of its 512 frames is used for, and whether it is marked.
 #[derive(Drop, PartialEq)]
 pub struct Pageblock {
-    pub number: u32,
+    pub number: u16,
     pub cells: Vec<Cell>,
     pub marked: bool,
 }
@@ -33,7 +33,7 @@ impl View {
         let mut blocks = Vec::new(alloc);
         for number in 0..frames.blocks() {
             blocks.push(Pageblock {
-                number,
+                number: number as u16,
                 cells: cells_of(alloc, frames, number)?,
                 marked: is_marked(zone, number),
             })?;
