@@ -152,8 +152,8 @@ impl<const L: usize> FrameSet<L> {
         self.blocks.whole()
     }
 
-    /// The first frame of the lowest block of this order whose frames are all members, if there is one. However many frames there are,
-    /// it looks at two words of each level of a set at most.
+    /// The first frame of the lowest block of this order whose frames are all members, if there is one. It looks at two words of each
+    /// level of a set at most.
     pub(crate) fn first_run(&self, order: Order) -> Option<FrameNo>
         ensures { result ≡ lowest (is_run_of (set.contains self.now.members) order) self.now.bound }
     {

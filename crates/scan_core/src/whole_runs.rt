@@ -15,6 +15,9 @@ use std::alloc::{AllocError, Global};
 ///
 /// The numbers are those of a heap: the pageblocks are numbered from `blocks` on, and block `n` has the halves `2 * n` and `2 * n + 1`.
 /// So the blocks of each order stand together, in the order of their frames, and one set has room for those of all orders.
+///
+/// A frame that comes into the set or goes out of it looks at the eight frames that it stands with. Only where these are all in does it
+/// look at blocks: at one of each order, up to the first that isn't whole.
 #[derive(Drop)]
 pub(crate) struct WholeRuns<const L: usize> {
     pub(crate) numbers: NumberSet<L>,
@@ -123,7 +126,8 @@ impl<const L: usize> WholeRuns<L> {
         self.numbers.contains(2 * number) && self.numbers.contains(2 * number + 1)
     }
 
-    /// The first frame of the lowest block of this order, if there is one. It looks at two words of each level of the numbers at most.
+    /// The first frame of the lowest block of this order, if there is one. However many blocks there are, it looks at two words of each
+    /// level of the numbers at most.
     pub(crate) fn first(&self, order: Order) -> Option<u32>
         requires { IsOpen self.now }
         ensures { (p : ℕ → Bool) → HasWholeRuns self.now p → result ≡ lowest (is_run_of p order) (512 * self.now.blocks) }
