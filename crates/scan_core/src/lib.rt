@@ -13,6 +13,7 @@ mod frames;
 mod lists;
 mod pair;
 mod scanners;
+mod whole_runs;
 
 pub use blocks::{BlockCounts, first_whole, whole_blocks};
 pub use fingers::{Fingers, Step};
