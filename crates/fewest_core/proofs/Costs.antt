@@ -43,6 +43,15 @@ length_inserted : (c : ℕ) (xs : List ℕ) → length (inserted c xs) ≡ suc (
 length_inserted c [] = refl
 length_inserted c (x ∷ xs) = by_le (λ (ys : List ℕ). length ys ≡ suc (suc (length xs))) c x (c ∷ x ∷ xs) (x ∷ inserted c xs) (λ le. refl) (λ lt. ap suc (length_inserted c xs))
 
+-- there are as many costs as runs that pass
+one_counted : (passes : ℕ → Bool) (cost_at : ℕ → ℕ) (run : ℕ) (b : Bool) → length (costs_below passes cost_at run) ≡ count_below passes run → length (cond b (inserted (cost_at run) (costs_below passes cost_at run)) (costs_below passes cost_at run)) ≡ one_if b + count_below passes run
+one_counted passes cost_at run true before = omega (arith, length_inserted (cost_at run) (costs_below passes cost_at run), before)
+one_counted passes cost_at run false before = omega (arith, before)
+
+pub costs_counted : (passes : ℕ → Bool) (cost_at : ℕ → ℕ) (runs : ℕ) → length (costs_below passes cost_at runs) ≡ count_below passes runs
+costs_counted passes cost_at zero = refl
+costs_counted passes cost_at (suc run) = one_counted passes cost_at run (passes run) (costs_counted passes cost_at run)
+
 ahead : (c x m : ℕ) (xs : List ℕ) → IsRising x xs → c ≤ x → m ≤ length xs → c + first m (x ∷ xs) ≤ x + first m xs
 ahead c x zero xs up h within = omega arith
 ahead c x (suc m) [] up h within = absurd (omega arith)
@@ -149,7 +158,7 @@ split c (suc n) (x ∷ xs) h = elim (leb_tells c x) [
 ]
 
 module _ (passes : ℕ → Bool) (cost_at : ℕ → ℕ) where
-  cost_of_same : (p q : ℕ → Bool) (runs : ℕ) → ((k : ℕ) → k < runs → p k ≡ q k) → cost_below p cost_at runs ≡ cost_below q cost_at runs
+  pub cost_of_same : (p q : ℕ → Bool) (runs : ℕ) → ((k : ℕ) → k < runs → p k ≡ q k) → cost_below p cost_at runs ≡ cost_below q cost_at runs
   cost_of_same p q zero same = refl
   cost_of_same p q (suc run) same = omega (arith, ap (λ (b : Bool). cond b (cost_at run) 0) (same run (omega arith)), cost_of_same p q run (λ k h. same k (omega arith)))
 

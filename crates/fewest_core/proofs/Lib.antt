@@ -4,6 +4,7 @@ pub mod Counts
 pub mod Evacuation
 pub mod Moves
 pub mod Placements
+pub mod Ranks
 pub mod Reached
 pub mod Rounds
 pub mod SevenPages

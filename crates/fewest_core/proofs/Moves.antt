@@ -114,7 +114,7 @@ pub possible : (size : ℕ) (z : ZoneState) (moves : List Move) → AreMoves z m
 possible size z moves are =
     omega (arith, free_runs_are size z moves, enough_open (is_open z size) (cost z size) (is_empty (after_moves z moves) size) (opened_before z moves are size) (run_count z size))
 
-stays_free : (z : ZoneState) (m : Move) → IsMove z m → (frame : ℕ) → frame ≢ m.source → is_free_unmarked (after_move z m) frame ≡ true → is_free_unmarked z frame ≡ true
+pub stays_free : (z : ZoneState) (m : Move) → IsMove z m → (frame : ℕ) → frame ≢ m.source → is_free_unmarked (after_move z m) frame ≡ true → is_free_unmarked z frame ≡ true
 stays_free z m is frame ne free =
     let parts = and_parts (not (is_marked z frame)) (is_free (after_move z m) frame) free in
     let inner = and_parts (not (is_used (after_move z m) frame)) (not (is_held z frame)) parts.1 in

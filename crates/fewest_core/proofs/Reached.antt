@@ -109,7 +109,7 @@ vacant_if z frame unshut unused =
 
 module _ (size runs : ℕ) (chosen : ℕ → Bool) where
   -- whether a frame is free and in no chosen run
-  abbrev is_spare : ZoneState → ℕ → Bool
+  abbrev pub is_spare : ZoneState → ℕ → Bool
   is_spare z frame = is_free_unmarked z frame && not (chosen (frame / size))
 
   -- a zone in which the chosen runs can still be made free: there are spare frames for what they cost
@@ -239,7 +239,7 @@ module _ (size runs : ℕ) (chosen : ℕ → Bool) where
     upto zero = let none : size * 0 ≡ 0 = omega arith in omega (arith, ap (count_below (is_free_unmarked z)) none)
     upto (suc m) = omega (arith, one_more_run (is_free_unmarked z) size m, one_more_run (is_spare z) size m, next_run m (chosen m) refl, upto m)
 
-    past : (frames : ℕ) → size * runs ≤ frames → frames < size * runs + size → chosen runs ≡ false → count_below (is_free_unmarked z) frames + cost_below chosen (cost z size) runs ≤ count_below (is_spare z) frames + size * count_below chosen runs
+    pub past : (frames : ℕ) → size * runs ≤ frames → frames < size * runs + size → chosen runs ≡ false → count_below (is_free_unmarked z) frames + cost_below chosen (cost z size) runs ≤ count_below (is_spare z) frames + size * count_below chosen runs
     unfolding count_from
     past frames low high out =
         let rest = frames - size * runs in

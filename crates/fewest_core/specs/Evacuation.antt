@@ -18,9 +18,13 @@ use Rattle.fewest_core.specs.FewestMoves.{Move, after_move, cost, is_open}
 abbrev pub is_in_run : ℕ → ℕ → ℕ → Bool
 is_in_run first size frame = nat_le first frame && nat_lt frame (first + size)
 
--- whether a frame may take a page of a run: it is outside of the run, and free, in an unmarked pageblock
+-- whether a frame may take a page of the frames that pass: it is none of them, and free, in an unmarked pageblock
+abbrev pub is_beside : (ℕ → Bool) → ZoneState → ℕ → Bool
+is_beside is_in z frame = not (is_in frame) && is_free_unmarked z frame
+
+-- whether a frame may take a page of a run
 abbrev pub is_spare : ℕ → ℕ → ZoneState → ℕ → Bool
-is_spare first size z frame = not (is_in_run first size frame) && is_free_unmarked z frame
+is_spare first size = is_beside (is_in_run first size)
 
 -- how many frames may take a page of a run
 abbrev pub spare_frames : ℕ → ℕ → ZoneState → ℕ
@@ -68,10 +72,14 @@ emptied first size z (suc n) =
 abbrev pub evacuated : ZoneState → ℕ → ℕ → ZoneState
 evacuated z first size = emptied first size z size
 
--- the pages have the flags and words that they had, at each address that names them, and those that weren't in the run are where
--- they were
-pub record IsCarriedOut (first size : ℕ) (old new : ZoneState) : Type 0 where
+-- the pages have the flags and words that they had, at each address that names them, and those that weren't in a frame that passes
+-- are where they were
+pub record IsCarriedFrom (is_in : ℕ → Bool) (old new : ZoneState) : Type 0 where
   pub flags : (page : ℕ) → flags_of new page ≡ flags_of old page
   pub words : (page : ℕ) → words_now new page ≡ words_now old page
   pub names : (address : Address) → page_at new.records address ≡ page_at old.records address
-  pub others : (page : ℕ) → ((frame : ℕ) → is_in_run first size frame ≡ true → map.get old.placement page ≢ Some (At frame)) → map.get new.placement page ≡ map.get old.placement page
+  pub others : (page : ℕ) → ((frame : ℕ) → is_in frame ≡ true → map.get old.placement page ≢ Some (At frame)) → map.get new.placement page ≡ map.get old.placement page
+
+-- the same of the pages of a run
+abbrev pub IsCarriedOut : ℕ → ℕ → ZoneState → ZoneState → Type 0
+IsCarriedOut first size = IsCarriedFrom (is_in_run first size)

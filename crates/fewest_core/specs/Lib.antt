@@ -1,3 +1,4 @@
 pub mod Evacuation
 pub mod Example
 pub mod FewestMoves
+pub mod Reservation

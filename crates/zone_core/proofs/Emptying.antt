@@ -1,10 +1,10 @@
--- A run of frames is emptied, one frame after the other.
+-- The frames of a run, or of several, are emptied one after the other.
 use Rattle.std.proofs.Common.{◌≡◌, ◌≢◌, ℕ, zero, suc, ◌+◌, ◌-◌, ◌*◌, ◌^◌, ◌<◌, ◌≤◌, Bool, true, false, not, ◌&&◌, ◌||◌, cond, length, inl, inr, refl, sym, subst, ap, ◌∙◌, arith}
 use Rattle.std.specs.Prelude.{Option, Some, None, is_some, nat_le, nat_eq}
 use Rattle.std.specs.FinMap as map
-use Rattle.std.proofs.lemmas.Bool.{and_parts, and_from, both_ways, cases_Bool, eq-eqb, false_from_ne_true, le-leb, leb-true, lt-ltb, ltb-true, ne_eqb, not-true, not-false, or_parts}
-use Rattle.std.proofs.lemmas.Bool.Decides.{eqb_tells}
-use Rattle.frame_core.proofs.Searches.{some_none, some_one}
+use Rattle.std.proofs.lemmas.Bool.{and_left, and_parts, and_from, and_right, both_ways, cases_Bool, eq-eqb, false_from_ne_true, le-leb, leb-true, lt-ltb, ltb-true, ne_eqb, not-true, not-false, or_parts}
+use Rattle.std.proofs.lemmas.Bool.Decides.{eqb_tells, leb_tells}
+use Rattle.frame_core.proofs.Searches.{count_from_same, count_none, some_none, some_one}
 use Rattle.frame_core.specs.Below.{one_if, count_below, count_from, highest}
 use Rattle.frame_core.specs.Moves.{isolated, moved, out}
 use Rattle.state_core.specs.declared.placement.Placement.{Placement}
@@ -16,18 +16,19 @@ use Rattle.state_core.specs.ZoneState.{ZoneState, frame_count, is_held, is_used,
 use Rattle.state_core.specs.declared.error.ZoneError.TheVariants.{JournalFull}
 use Rattle.state_core.proofs.Holding.{holder_at, holder_found}
 use Rattle.state_core.proofs.Packing.{count_mono}
-use Rattle.state_core.proofs.Runs.{count_from_none}
-use Rattle.fewest_core.specs.Evacuation.{emptied, highest_spare, is_in_run, is_spare, moved_away, moved_out, spare_frames, IsCarriedOut}
+use Rattle.state_core.proofs.Runs.{count_from_none, count_split}
+use Rattle.fewest_core.specs.Evacuation.{emptied, highest_spare, is_beside, is_in_run, moved_away, moved_out, IsCarriedFrom}
+use Rattle.fewest_core.specs.Reservation.{highest_beside}
 use Rattle.fewest_core.specs.FewestMoves.{Move, IsMove, has_to_stay, is_immovable, is_moving, is_shut}
 use Rattle.fewest_core.proofs.Counts.{count_but_one, none_counted}
 use Rattle.fewest_core.proofs.Evacuation.{as_many_out}
-use Rattle.fewest_core.proofs.Moves.{others_same, shut_once, stays_used, used_at}
+use Rattle.fewest_core.proofs.Moves.{others_same, shut_once, stays_free, stays_used, target_used, used_at, used_not_free}
 use Rattle.fewest_core.proofs.Reached.{own_if_valid, rests_at, source_unused, stays_vacant, used_before}
 
-in_run : (first size frame : ℕ) → first ≤ frame → frame < first + size → is_in_run first size frame ≡ true
+pub in_run : (first size frame : ℕ) → first ≤ frame → frame < first + size → is_in_run first size frame ≡ true
 in_run first size frame low high = and_from (nat_le first frame) _ (le-leb first frame low) (lt-ltb frame (first + size) high)
 
-run_bounds : (first size frame : ℕ) → is_in_run first size frame ≡ true → (first ≤ frame) × (frame < first + size)
+pub run_bounds : (first size frame : ℕ) → is_in_run first size frame ≡ true → (first ≤ frame) × (frame < first + size)
 run_bounds first size frame e = let parts = and_parts (nat_le first frame) _ e in (leb-true first frame parts.0, ltb-true frame (first + size) parts.1)
 
 -- the highest number that passes
@@ -38,6 +39,17 @@ highest_next p n k o false at under e = let rest = under e in (omega (arith, res
 pub highest_found : (p : ℕ → Bool) (n k : ℕ) → highest p n ≡ Some k → (k < n) × (p k ≡ true)
 highest_found p zero k e = cc
 highest_found p (suc n) k e = highest_next p n k (highest p n) (p n) refl (highest_found p n k) e
+
+-- and none above it does
+pub highest_last : (p : ℕ → Bool) (n k j : ℕ) → highest p n ≡ Some k → k < j → j < n → p j ≡ false
+highest_last p zero k j e low high = cc
+highest_last p (suc n) k j e low high = by_case (p n) refl (λ under. highest_last p n k j under low) where
+  by_case : (b : Bool) → p n ≡ b → (highest p n ≡ Some k → j < n → p j ≡ false) → p j ≡ false
+  by_case true at under = (let here : n ≡ k = cc in absurd (omega (arith, here, low, high)))
+  by_case false at under = elim (eqb_tells j n) [
+    | inl same ↦ ap p same.1 ∙ at
+    | inr other ↦ under (sym (ap (λ (b : Bool). cond b (Some n) (highest p n)) at) ∙ e) (omega (arith, high, other.1))
+  ]
 
 -- there is one where some are counted
 some_next : (p : ℕ → Bool) (n : ℕ) (b : Bool) → p n ≡ b → (p n ≡ false → (k : ℕ) × (highest p n ≡ Some k)) → (k : ℕ) × (highest p (suc n) ≡ Some k)
@@ -92,27 +104,240 @@ module _ (z : ZoneState) (law : IsValidZone z) (frame : ℕ) where
           vacant = vacant;
         }
 
--- between two frames of a run that is emptied
-pub record IsEmptying (first size : ℕ) (old z : ZoneState) (n : ℕ) : Type 0 where
+-- the frame that takes a page is in the zone
+pub found_within : (is_in : ℕ → Bool) (z : ZoneState) (target : ℕ) → highest_beside is_in z ≡ Some target → target < frame_count z
+found_within is_in z target found = (highest_found (is_beside is_in z) (frame_count z) target found).0
+
+-- how many of the first n frames that pass are taken up by a page
+abbrev pub pages_below : (ℕ → Bool) → ZoneState → ℕ → ℕ
+pages_below is_in z n = count_below (λ frame. is_in frame && is_used z frame) n
+
+-- how many frames may take a page of those that pass
+abbrev pub frames_beside : (ℕ → Bool) → ZoneState → ℕ
+frames_beside is_in z = count_below (is_beside is_in z) (frame_count z)
+
+-- while the frames that pass are emptied, the lowest first: those below a frame are done
+pub record IsEmptying (is_in : ℕ → Bool) (old z : ZoneState) (n : ℕ) : Type 0 where
   pub number : z.number ≡ old.number
   pub blocks : z.blocks ≡ old.blocks
-  -- no frame of the run is shut; the first n frames are empty, and the others hold what they held
-  pub unshut : (frame : ℕ) → first ≤ frame → frame < first + size → is_shut z frame ≡ false
-  pub empty : (frame : ℕ) → first ≤ frame → frame < first + n → is_used z frame ≡ false
-  pub rest : (frame : ℕ) → first + n ≤ frame → frame < first + size → is_used z frame ≡ is_used old frame
-  -- each page of the first n frames took a spare frame, two places of the journal and a serial
-  pub spare : spare_frames first size old ≤ spare_frames first size z + count_from (is_used old) first n
+  -- none of them is shut; those that are done are empty, and the others hold what they held
+  pub unshut : (frame : ℕ) → is_in frame ≡ true → is_shut z frame ≡ false
+  pub empty : (frame : ℕ) → is_in frame ≡ true → frame < n → is_used z frame ≡ false
+  pub rest : (frame : ℕ) → is_in frame ≡ true → n ≤ frame → is_used z frame ≡ is_used old frame
+  -- each page that went took a spare frame, two places of the journal and a serial
+  pub spare : frames_beside is_in old ≤ frames_beside is_in z + pages_below is_in old n
   pub out_same : length (out z.records) ≡ length (out old.records)
-  pub room : z.room + 2 * count_from (is_used old) first n ≡ old.room
-  pub serials : isolated z.records ≡ isolated old.records + count_from (is_used old) first n
-  pub moved : moved z.records ≡ moved old.records + count_from (is_used old) first n
-  pub carried : IsCarriedOut first size old z
+  pub room : z.room + 2 * pages_below is_in old n ≡ old.room
+  pub serials : isolated z.records ≡ isolated old.records + pages_below is_in old n
+  pub moved : moved z.records ≡ moved old.records + pages_below is_in old n
+  pub carried : IsCarriedFrom is_in old z
 
--- there is enough of all for the pages of a run
-pub record HasEnough (first size : ℕ) (old : ZoneState) : Type 0 where
-  pub spare : count_from (is_used old) first size ≤ spare_frames first size old
-  pub room : length (out old.records) + 2 * count_from (is_used old) first size ≤ old.room
-  pub serials : isolated old.records + count_from (is_used old) first size ≤ 2 ^ 32 - 1
+-- there is enough of all for their pages
+pub record HasEnough (is_in : ℕ → Bool) (old : ZoneState) : Type 0 where
+  pub spare : pages_below is_in old (frame_count old) ≤ frames_beside is_in old
+  pub room : length (out old.records) + 2 * pages_below is_in old (frame_count old) ≤ old.room
+  pub serials : isolated old.records + pages_below is_in old (frame_count old) ≤ 2 ^ 32 - 1
+
+pub emptying_begins : (is_in : ℕ → Bool) (z : ZoneState) → ((frame : ℕ) → is_in frame ≡ true → is_shut z frame ≡ false) → IsEmptying is_in z z 0
+emptying_begins is_in z unshut = record {
+  number = refl;
+  blocks = refl;
+  unshut = unshut;
+  empty = λ frame in_it low. absurd (omega (arith, low));
+  rest = λ frame in_it high. refl;
+  spare = omega arith;
+  out_same = refl;
+  room = omega arith;
+  serials = omega arith;
+  moved = omega arith;
+  carried = record { flags = λ page. refl; words = λ page. refl; names = λ address. refl; others = λ page off. refl };
+}
+
+-- where no more pages have to go
+module _ (is_in : ℕ → Bool) (old z : ZoneState) (n m : ℕ) (is : IsEmptying is_in old z n) (more : n ≤ m) (none : (frame : ℕ) → is_in frame ≡ true → n ≤ frame → frame < m → is_used z frame ≡ false) (same : pages_below is_in old m ≡ pages_below is_in old n) where
+  pub emptied_further : IsEmptying is_in old z m
+  emptied_further = record {
+    number = is.number;
+    blocks = is.blocks;
+    unshut = is.unshut;
+    empty = λ frame in_it low. elim (leb_tells n frame) [
+      | inl above ↦ none frame in_it above.1 low
+      | inr below ↦ is.empty frame in_it below.1
+    ];
+    rest = λ frame in_it high. is.rest frame in_it (omega (arith, more, high));
+    spare = omega (arith, is.spare, same);
+    out_same = is.out_same;
+    room = omega (arith, is.room, same);
+    serials = omega (arith, is.serials, same);
+    moved = omega (arith, is.moved, same);
+    carried = is.carried;
+  }
+
+module _ (is_in : ℕ → Bool) (old z : ZoneState) (frame : ℕ) (is : IsEmptying is_in old z frame) where
+  -- the frame isn't one of those that are emptied
+  pub passes_over : is_in frame ≡ false → IsEmptying is_in old z (suc frame)
+  passes_over out = emptied_further is_in old z frame (suc frame) is (omega arith)
+      (λ g in_it low high. let at : g ≡ frame = omega (arith, low, high) in absurd (both_ways _ out (ap is_in (sym at) ∙ in_it)))
+      (omega (arith, ap one_if (and_left (is_in frame) (is_used old frame) out)))
+
+  module _ (in_it : is_in frame ≡ true) (law : IsValidZone z) where
+    pub unshut_here : is_shut z frame ≡ false
+    unshut_here = is.unshut frame in_it
+
+    used_same : is_used z frame ≡ is_used old frame
+    used_same = is.rest frame in_it (omega arith)
+
+    -- the frame holds no page
+    pub stays_emptying : holder z frame ≡ None → IsEmptying is_in old z (suc frame)
+    stays_emptying none =
+        let unused = unused_if z law frame unshut_here none in
+        emptied_further is_in old z frame (suc frame) is (omega arith)
+        (λ g there low high. let at : g ≡ frame = omega (arith, low, high) in ap (is_used z) at ∙ unused)
+        (omega (arith, ap one_if (and_right (is_in frame) (is_used old frame) (sym used_same ∙ unused))))
+
+    module _ (within : frame < frame_count old) (enough : HasEnough is_in old) (page : ℕ) (holds : holder z frame ≡ Some page) where
+      used_here : is_used old frame ≡ true
+      used_here = sym used_same ∙ holder_used z law frame page holds
+
+      one_more : pages_below is_in old (suc frame) ≡ 1 + pages_below is_in old frame
+      one_more = omega (arith, ap one_if (and_from (is_in frame) (is_used old frame) in_it used_here))
+
+      not_all : 1 + pages_below is_in old frame ≤ pages_below is_in old (frame_count old)
+      not_all = omega (arith, one_more, count_mono (λ g. is_in g && is_used old g) (suc frame) (frame_count old) (omega (arith, within)))
+
+      -- the page may be isolated, and there is a frame for it
+      pub accepted_here : isolate_refusal z ≡ None
+      accepted_here =
+          let room : has_room_for_two z ≡ true = lt-ltb (length (out z.records) + 1) z.room (omega (arith, is.out_same, is.room, enough.room, not_all)) in
+          let serial : has_serial z ≡ true = lt-ltb (isolated z.records) (2 ^ 32 - 1) (omega (arith, is.serials, enough.serials, not_all)) in
+          ap (λ (b : Bool). cond b None (Some JournalFull)) (and_from (has_room_for_two z) (has_serial z) room serial)
+
+      pub spare_here : (target : ℕ) × (highest_beside is_in z ≡ Some target)
+      spare_here = some_highest (is_beside is_in z) (frame_count z) (omega (arith, is.spare, enough.spare, not_all))
+
+      module _ (target : ℕ) (found : highest_beside is_in z ≡ Some target) where
+        abbrev m : Move
+        m = record { page = page; source = frame; target = target }
+
+        found_is : (target < frame_count z) × (is_beside is_in z target ≡ true)
+        found_is = highest_found (is_beside is_in z) (frame_count z) target found
+
+        outside : (is_in target ≡ false) × (is_free_unmarked z target ≡ true)
+        outside = let both = and_parts (not (is_in target)) (is_free_unmarked z target) found_is.1 in (not-true _ both.0, both.1)
+
+        pub may_move_here : IsMove z m
+        may_move_here = may_go z law frame unshut_here page target holds found_is.0 outside.1
+
+        not_target : (g : ℕ) → is_in g ≡ true → g ≢ target
+        not_target g there same = both_ways _ outside.0 (ap is_in (sym same) ∙ there)
+
+        abbrev next : ZoneState
+        next = moved_away z m
+
+        unused_after : (g : ℕ) → g ≢ target → is_used z g ≡ false → is_used next g ≡ false
+        unused_after g ne unused = false_from_ne_true _ (λ used. both_ways _ unused (used_before z m may_move_here g ne used))
+
+        used_kept : (g : ℕ) → g ≢ target → g ≢ frame → is_used next g ≡ is_used z g
+        used_kept g ne other = elim (cases_Bool (is_used z g)) [
+          | inl used ↦ stays_used z m may_move_here g other used ∙ sym used
+          | inr unused ↦ unused_after g ne unused ∙ sym unused
+        ]
+
+        fewer_spare : frames_beside is_in z ≤ frames_beside is_in next + 1
+        fewer_spare = count_but_one (is_beside is_in z) (is_beside is_in next) (frame_count z) target (λ g h ne was.
+            (let both = and_parts (not (is_in g)) (is_free_unmarked z g) was in
+            and_from (not (is_in g)) (is_free_unmarked next g) both.0 (stays_vacant z m may_move_here g ne both.1)))
+
+        others_stay : (q : ℕ) → ((g : ℕ) → is_in g ≡ true → map.get old.placement q ≢ Some (At g)) → map.get next.placement q ≡ map.get old.placement q
+        others_stay q off =
+            let before = is.carried.others q off in
+            let other : q ≢ page = λ same. off frame in_it (sym before ∙ ap (map.get z.placement) same ∙ may_move_here.here) in
+            others_same z m q other ∙ before
+
+        pub goes_on_emptying : IsEmptying is_in old next (suc frame)
+        goes_on_emptying = record {
+          number = is.number;
+          blocks = is.blocks;
+          unshut = λ g there. shut_once z m may_move_here g ∙ is.unshut g there;
+          empty = λ g there high. elim (eqb_tells g frame) [
+            | inl at ↦ ap (is_used next) at.1 ∙ source_unused z m may_move_here (own_if_valid z law)
+            | inr other ↦ unused_after g (not_target g there) (is.empty g there (omega (arith, high, other.1)))
+          ];
+          rest = λ g there low. (let later : g ≢ frame = omega (arith, low) in used_kept g (not_target g there) later ∙ is.rest g there (omega (arith, low)));
+          spare = omega (arith, is.spare, fewer_spare, one_more);
+          out_same = as_many_out z m law may_move_here ∙ is.out_same;
+          room = omega (arith, is.room, is.out_same, enough.room, not_all, one_more);
+          serials = omega (arith, is.serials, one_more);
+          moved = omega (arith, is.moved, one_more);
+          carried = record {
+            flags = is.carried.flags;
+            words = is.carried.words;
+            names = is.carried.names;
+            others = others_stay;
+          };
+        }
+
+        -- no frame above the target can take a page after it
+        pub none_above : (g : ℕ) → target ≤ g → g < frame_count next → is_beside is_in next g ≡ false
+        none_above g low high = elim (eqb_tells g target) [
+          | inl at ↦ ap (is_beside is_in next) at.1 ∙ and_right (not (is_in target)) _ (used_not_free next target (target_used z m may_move_here))
+          | inr other ↦ false_from_ne_true _ (λ e.
+              let both = and_parts (not (is_in g)) (is_free_unmarked next g) e in
+              let apart : g ≢ frame = λ same. both_ways _ (not-true _ both.0) (ap is_in same ∙ in_it) in
+              both_ways _ (highest_last (is_beside is_in z) (frame_count z) target g found (omega (arith, low, other.1)) high)
+              (and_from (not (is_in g)) (is_free_unmarked z g) both.0 (stays_free z m may_move_here g apart both.1)))
+        ]
+
+-- the zone between two frames of a run that is emptied
+pub record IsPartEmptied (first size : ℕ) (old z : ZoneState) (n : ℕ) : Type 0 where
+  pub same : z ≡ emptied first size old n
+  pub emptying : IsEmptying (is_in_run first size) old z (first + n)
+  pub valid : IsValidZone z
+
+module _ (first size : ℕ) (old z : ZoneState) (n : ℕ) (is : IsPartEmptied first size old z n) (within : n < size) where
+  pub in_it : is_in_run first size (first + n) ≡ true
+  in_it = in_run first size (first + n) (omega arith) (omega (arith, within))
+
+  one_more_frame : suc n ≡ n + 1
+  one_more_frame = omega arith
+
+  next_frame : suc (first + n) ≡ first + suc n
+  next_frame = omega arith
+
+  -- what emptying the next frame leaves
+  left_by : moved_out z (holder z (first + n)) (first + n) (highest_spare first size z) ≡ emptied first size old (suc n)
+  left_by = ap (λ (u : ZoneState). moved_out u (holder u (first + n)) (first + n) (highest_spare first size u)) is.same
+
+  pub part_stays : holder z (first + n) ≡ None → IsPartEmptied first size old z (n + 1)
+  part_stays none = subst (IsPartEmptied first size old z) one_more_frame (record {
+    same = sym (ap (λ (o : Option ℕ). moved_out z o (first + n) (highest_spare first size z)) none) ∙ left_by;
+    emptying = subst (IsEmptying (is_in_run first size) old z) next_frame (stays_emptying (is_in_run first size) old z (first + n) is.emptying in_it is.valid none);
+    valid = is.valid;
+  })
+
+  pub part_goes : first + size ≤ frame_count old → HasEnough (is_in_run first size) old → (page target : ℕ) → holder z (first + n) ≡ Some page → highest_spare first size z ≡ Some target → (next : ZoneState) → next ≡ moved_away z (record { page = page; source = first + n; target = target }) → IsValidZone next → IsPartEmptied first size old next (n + 1)
+  part_goes fits enough page target holds found next step law = subst (IsPartEmptied first size old next) one_more_frame (record {
+    same = step ∙ sym (λ i. moved_out z (holds i) (first + n) (found i)) ∙ left_by;
+    emptying = subst (λ (u : ZoneState). IsEmptying (is_in_run first size) old u (first + suc n)) (sym step)
+        (subst (IsEmptying (is_in_run first size) old _) next_frame (goes_on_emptying (is_in_run first size) old z (first + n) is.emptying in_it is.valid (omega (arith, within, fits)) enough page holds target found));
+    valid = law;
+  })
+
+-- the pages below a run aren't in it, and all pages of it are below its end
+pub pages_of_run : (first size : ℕ) (z : ZoneState) → pages_below (is_in_run first size) z (first + size) ≡ count_from (is_used z) first size
+pages_of_run first size z =
+    let p = λ (g : ℕ). is_in_run first size g && is_used z g in
+    let low = count_none p first (λ g h. and_left (is_in_run first size g) _ (false_from_ne_true _ (λ e. absurd (omega (arith, h, (run_bounds first size g e).0))))) in
+    omega (arith, count_split p first size, low, count_from_same p (is_used z) first size (λ g from below. ap (λ (b : Bool). b && is_used z g) (in_run first size g from below)))
+
+pub none_below_run : (first size : ℕ) (z : ZoneState) → pages_below (is_in_run first size) z first ≡ 0
+none_below_run first size z = count_none (λ g. is_in_run first size g && is_used z g) first (λ g h. and_left (is_in_run first size g) _ (false_from_ne_true _ (λ e. absurd (omega (arith, h, (run_bounds first size g e).0)))))
+
+pub none_above_run : (first size m : ℕ) (z : ZoneState) → first + size ≤ m → pages_below (is_in_run first size) z m ≡ pages_below (is_in_run first size) z (first + size)
+none_above_run first size m z h =
+    let p = λ (g : ℕ). is_in_run first size g && is_used z g in
+    let all : first + size + (m - (first + size)) ≡ m = omega (arith, h) in
+    omega (arith, ap (count_below p) all, count_split p (first + size) (m - (first + size)), count_from_none p (first + size) (m - (first + size)) (λ k l. and_left (is_in_run first size (first + size + k)) _ (false_from_ne_true _ (λ e. absurd (omega (arith, (run_bounds first size (first + size + k) e).1))))))
 
 count_from-suc : (p : ℕ → Bool) (first n : ℕ) → count_from p first (suc n) ≡ one_if (p (first + n)) + count_from p first n
 unfolding count_from
@@ -124,167 +349,6 @@ count_from-zero p first = refl
 
 pub count_from-next : (p : ℕ → Bool) (first n : ℕ) → count_from p first (n + 1) ≡ one_if (p (first + n)) + count_from p first n
 count_from-next p first n = let next : n + 1 ≡ suc n = omega arith in ap (count_from p first) next ∙ count_from-suc p first n
-
-count_from-mono : (p : ℕ → Bool) (first n m : ℕ) → n ≤ m → count_from p first n ≤ count_from p first m
-unfolding count_from
-count_from-mono p first n m h = count_mono (λ k. p (first + k)) n m h
-
-pub emptying_begins : (first size : ℕ) (z : ZoneState) → ((frame : ℕ) → first ≤ frame → frame < first + size → is_shut z frame ≡ false) → IsEmptying first size z z 0
-emptying_begins first size z open_run = record {
-  number = refl;
-  blocks = refl;
-  unshut = open_run;
-  empty = λ frame low high. absurd (omega (arith, low, high));
-  rest = λ frame low high. refl;
-  spare = omega arith;
-  out_same = refl;
-  room = omega (arith, count_from-zero (is_used z) first);
-  serials = omega (arith, count_from-zero (is_used z) first);
-  moved = omega (arith, count_from-zero (is_used z) first);
-  carried = record { flags = λ page. refl; words = λ page. refl; names = λ address. refl; others = λ page off. refl };
-}
-
-module _ (first size : ℕ) (old z : ZoneState) (n : ℕ) (is : IsEmptying first size old z n) (within : n < size) (law : IsValidZone z) where
-  abbrev frame : ℕ
-  frame = first + n
-
-  pub unshut_here : is_shut z frame ≡ false
-  unshut_here = is.unshut frame (omega arith) (omega (arith, within))
-
-  used_same : is_used z frame ≡ is_used old frame
-  used_same = is.rest frame (omega arith) (omega (arith, within))
-
-  -- the frame holds no page
-  pub stays_emptying : holder z frame ≡ None → IsEmptying first size old z (suc n)
-  stays_emptying none =
-      let unused = unused_if z law frame unshut_here none in
-      let same : count_from (is_used old) first (suc n) ≡ count_from (is_used old) first n = omega (arith, count_from-suc (is_used old) first n, ap one_if (sym used_same ∙ unused)) in
-      record {
-        number = is.number;
-        blocks = is.blocks;
-        unshut = is.unshut;
-        empty = λ g low high. elim (eqb_tells g frame) [
-          | inl at ↦ ap (is_used z) at.1 ∙ unused
-          | inr other ↦ is.empty g low (omega (arith, high, other.1))
-        ];
-        rest = λ g low high. is.rest g (omega (arith, low)) high;
-        spare = omega (arith, is.spare, same);
-        out_same = is.out_same;
-        room = omega (arith, is.room, same);
-        serials = omega (arith, is.serials, same);
-        moved = omega (arith, is.moved, same);
-        carried = is.carried;
-      }
-
-  module _ (enough : HasEnough first size old) (page : ℕ) (holds : holder z frame ≡ Some page) where
-    used_here : is_used old frame ≡ true
-    used_here = sym used_same ∙ holder_used z law frame page holds
-
-    one_more : count_from (is_used old) first (suc n) ≡ 1 + count_from (is_used old) first n
-    one_more = omega (arith, count_from-suc (is_used old) first n, ap one_if used_here)
-
-    not_all : 1 + count_from (is_used old) first n ≤ count_from (is_used old) first size
-    not_all = omega (arith, one_more, count_from-mono (is_used old) first (suc n) size within)
-
-    -- the page may be isolated, and there is a frame for it
-    pub accepted_here : isolate_refusal z ≡ None
-    accepted_here =
-        let room : has_room_for_two z ≡ true = lt-ltb (length (out z.records) + 1) z.room (omega (arith, is.out_same, is.room, enough.room, not_all)) in
-        let serial : has_serial z ≡ true = lt-ltb (isolated z.records) (2 ^ 32 - 1) (omega (arith, is.serials, enough.serials, not_all)) in
-        ap (λ (b : Bool). cond b None (Some JournalFull)) (and_from (has_room_for_two z) (has_serial z) room serial)
-
-    pub spare_here : (target : ℕ) × (highest_spare first size z ≡ Some target)
-    spare_here = some_highest (is_spare first size z) (frame_count z) (omega (arith, is.spare, enough.spare, not_all))
-
-    module _ (target : ℕ) (found : highest_spare first size z ≡ Some target) where
-      abbrev m : Move
-      m = record { page = page; source = frame; target = target }
-
-      found_is : (target < frame_count z) × (is_spare first size z target ≡ true)
-      found_is = highest_found (is_spare first size z) (frame_count z) target found
-
-      outside : (is_in_run first size target ≡ false) × (is_free_unmarked z target ≡ true)
-      outside = let both = and_parts (not (is_in_run first size target)) (is_free_unmarked z target) found_is.1 in (not-true _ both.0, both.1)
-
-      pub may_move_here : IsMove z m
-      may_move_here = may_go z law frame unshut_here page target holds found_is.0 outside.1
-
-      not_target : (g : ℕ) → first ≤ g → g < first + size → g ≢ target
-      not_target g low high same = both_ways _ outside.0 (ap (is_in_run first size) (sym same) ∙ in_run first size g low high)
-
-      abbrev next : ZoneState
-      next = moved_away z m
-
-      unused_after : (g : ℕ) → g ≢ target → is_used z g ≡ false → is_used next g ≡ false
-      unused_after g ne unused = false_from_ne_true _ (λ used. both_ways _ unused (used_before z m may_move_here g ne used))
-
-      used_kept : (g : ℕ) → g ≢ target → g ≢ frame → is_used next g ≡ is_used z g
-      used_kept g ne other = elim (cases_Bool (is_used z g)) [
-        | inl used ↦ stays_used z m may_move_here g other used ∙ sym used
-        | inr unused ↦ unused_after g ne unused ∙ sym unused
-      ]
-
-      fewer_spare : spare_frames first size z ≤ spare_frames first size next + 1
-      fewer_spare = count_but_one (is_spare first size z) (is_spare first size next) (frame_count z) target (λ g h ne was.
-          (let both = and_parts (not (is_in_run first size g)) (is_free_unmarked z g) was in
-          and_from (not (is_in_run first size g)) (is_free_unmarked next g) both.0 (stays_vacant z m may_move_here g ne both.1)))
-
-      others_stay : (q : ℕ) → ((g : ℕ) → is_in_run first size g ≡ true → map.get old.placement q ≢ Some (At g)) → map.get next.placement q ≡ map.get old.placement q
-      others_stay q off =
-          let before = is.carried.others q off in
-          let other : q ≢ page = λ same. off frame (in_run first size frame (omega arith) (omega (arith, within))) (sym before ∙ ap (map.get z.placement) same ∙ may_move_here.here) in
-          others_same z m q other ∙ before
-
-      pub goes_on_emptying : IsEmptying first size old next (suc n)
-      goes_on_emptying = record {
-        number = is.number;
-        blocks = is.blocks;
-        unshut = λ g low high. shut_once z m may_move_here g ∙ is.unshut g low high;
-        empty = λ g low high. elim (eqb_tells g frame) [
-          | inl at ↦ ap (is_used next) at.1 ∙ source_unused z m may_move_here (own_if_valid z law)
-          | inr other ↦ unused_after g (not_target g low (omega (arith, high, within))) (is.empty g low (omega (arith, high, other.1)))
-        ];
-        rest = λ g low high. (let later : g ≢ frame = omega (arith, low) in used_kept g (not_target g (omega (arith, low)) high) later ∙ is.rest g (omega (arith, low)) high);
-        spare = omega (arith, is.spare, fewer_spare, one_more);
-        out_same = as_many_out z m law may_move_here ∙ is.out_same;
-        room = omega (arith, is.room, is.out_same, enough.room, not_all, one_more);
-        serials = omega (arith, is.serials, one_more);
-        moved = omega (arith, is.moved, one_more);
-        carried = record {
-          flags = is.carried.flags;
-          words = is.carried.words;
-          names = is.carried.names;
-          others = others_stay;
-        };
-      }
-
--- the zone between two frames of a run that is emptied
-pub record IsPartEmptied (first size : ℕ) (old z : ZoneState) (n : ℕ) : Type 0 where
-  pub same : z ≡ emptied first size old n
-  pub emptying : IsEmptying first size old z n
-  pub valid : IsValidZone z
-
-module _ (first size : ℕ) (old z : ZoneState) (n : ℕ) (is : IsPartEmptied first size old z n) (within : n < size) where
-  one_more_frame : suc n ≡ n + 1
-  one_more_frame = omega arith
-
-  -- what emptying the next frame leaves
-  left_by : moved_out z (holder z (first + n)) (first + n) (highest_spare first size z) ≡ emptied first size old (suc n)
-  left_by = ap (λ (u : ZoneState). moved_out u (holder u (first + n)) (first + n) (highest_spare first size u)) is.same
-
-  pub part_stays : holder z (first + n) ≡ None → IsPartEmptied first size old z (n + 1)
-  part_stays none = subst (IsPartEmptied first size old z) one_more_frame (record {
-    same = sym (ap (λ (o : Option ℕ). moved_out z o (first + n) (highest_spare first size z)) none) ∙ left_by;
-    emptying = stays_emptying first size old z n is.emptying within is.valid none;
-    valid = is.valid;
-  })
-
-  pub part_goes : HasEnough first size old → (page target : ℕ) → holder z (first + n) ≡ Some page → highest_spare first size z ≡ Some target → (next : ZoneState) → next ≡ moved_away z (record { page = page; source = first + n; target = target }) → IsValidZone next → IsPartEmptied first size old next (n + 1)
-  part_goes enough page target holds found next step law = subst (IsPartEmptied first size old next) one_more_frame (record {
-    same = step ∙ sym (λ i. moved_out z (holds i) (first + n) (found i)) ∙ left_by;
-    emptying = subst (λ (u : ZoneState). IsEmptying first size old u (suc n)) (sym step) (goes_on_emptying first size old z n is.emptying within is.valid enough page holds target found);
-    valid = law;
-  })
 
 -- a run isn't open where a frame of it is shut
 pub shut_closes : (z : ZoneState) (first size frame : ℕ) → first ≤ frame → frame < first + size → is_shut z frame ≡ true → nat_eq (count_from (is_shut z) first size) 0 ≡ false

@@ -1,11 +1,13 @@
 pub mod Alone
 pub mod ByHand
 pub mod Calls
+mod Clearing
 pub mod Coming
 pub mod Emptying
 pub mod Ending
 mod Evacuated
 mod Evacuating
+mod HandingOut
 mod InTurn
 mod MadeAs
 mod MaximalRuns
@@ -13,6 +15,7 @@ pub mod Moves
 mod OneThread
 pub mod Packed
 pub mod Records
+mod Picking
 pub mod RoundsKept
 pub mod Same
 pub mod Scanner

@@ -8,5 +8,6 @@ pub mod Made
 pub mod NextMoving
 pub mod OneThread
 pub mod Outcome
+pub mod Reserving
 pub mod Seats
 pub mod ZoneIdentity

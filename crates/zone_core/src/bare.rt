@@ -17,6 +17,7 @@ mod evacuating;
 mod free_runs;
 mod moving;
 mod one_thread;
+mod reserving;
 mod rounds;
 mod tables;
 mod words;

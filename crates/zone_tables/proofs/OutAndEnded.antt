@@ -5,6 +5,7 @@ use Rattle.frame_core.proofs.Ends.{is_balanced}
 use Rattle.frame_core.specs.Moves.{isolated, out}
 use Rattle.state_core.specs.ZoneState.{ZoneState}
 use Rattle.fewest_core.specs.Evacuation.{has_room_for_moves}
+use Rattle.fewest_core.specs.Reservation.{has_room_to_reserve}
 use Rattle.zone_tables.specs.declared.zone.ZoneTables.TheInside.{Inside}
 use Rattle.zone_tables.specs.Sound.{IsSound, state_of}
 use Rattle.zone_tables.proofs.Facts.{is_sound}
@@ -23,6 +24,10 @@ module _ {W : ℕ} {z : Inside W} {v : ZoneState} (view : state_of z ≡ v) (inv
   -- the places of the journal and the serials that so many moves take
   pub moves_counted : (places room serials most count : ℕ) → places ≡ length (out v.records) + 2 * count → room ≡ v.room → serials ≡ isolated v.records + count → most ≡ 2 ^ 32 - 1 → (nat_le places room && nat_le serials most) ≡ has_room_for_moves v count
   moves_counted places room serials most count places_are room_is serials_are most_is = λ i. nat_le (places_are i) (room_is i) && nat_le (serials_are i) (most_is i)
+
+  -- and those that a reservation takes
+  pub reserve_counted : (places room serials most pages blocks : ℕ) → places ≡ length (out v.records) + 2 * pages + blocks → room ≡ v.room → serials ≡ isolated v.records + pages → most ≡ 2 ^ 32 - 1 → (nat_le places room && nat_le serials most) ≡ has_room_to_reserve v pages blocks
+  reserve_counted places room serials most pages blocks places_are room_is serials_are most_is = λ i. nat_le (places_are i) (room_is i) && nat_le (serials_are i) (most_is i)
 
   pub room_seen : (room : ℕ) → room ≡ z.history.room → room ≡ v.room
   room_seen room is = is ∙ ap (λ (u : ZoneState). u.room) view

@@ -3,6 +3,7 @@
 ghost use Rattle.std.specs.Prelude.{◌≡◌, ◌<◌, ◌||◌, None};
 ghost use Rattle.fewest_core.specs.Evacuation.{has_room_for_moves, moved_away};
 ghost use Rattle.fewest_core.specs.FewestMoves.{IsMove, is_immovable, is_shut};
+ghost use Rattle.fewest_core.specs.Reservation.{has_room_to_reserve};
 ghost use Rattle.state_core.specs.Isolating.{isolate_refusal};
 ghost use Rattle.state_core.specs.Pairs.{is_free_unmarked};
 ghost use Rattle.state_core.specs.Valid.{IsValidZone};
@@ -48,6 +49,17 @@ impl<const W: usize> ZoneTables<W> {
         let count = u64::from(count);
         let places = u64::from(self.moves.out()) + 2 * count;
         let serials = u64::from(self.moves.isolated()) + count;
+        places <= self.history.room() && serials <= u64::from(u32::MAX)
+    }
+
+    /// Whether the journal has room for so many isolations and their ends and for handing out so many blocks, and so many serials are
+    /// left.
+    pub fn has_room_to_reserve(&self, pages: u32, blocks: u32) -> bool
+        ensures { result ≡ has_room_to_reserve self.now pages blocks }
+    {
+        let pages = u64::from(pages);
+        let places = u64::from(self.moves.out()) + 2 * pages + u64::from(blocks);
+        let serials = u64::from(self.moves.isolated()) + pages;
         places <= self.history.room() && serials <= u64::from(u32::MAX)
     }
 

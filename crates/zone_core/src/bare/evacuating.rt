@@ -71,7 +71,7 @@ impl<const W: usize> BareZone<W> {
     }
 
     /// How many pages a run has, or none where a frame of it is shut.
-    fn pages_of(&self, first: FrameNo, order: Order) -> Option<u32>
+    pub(crate) fn pages_of(&self, first: FrameNo, order: Order) -> Option<u32>
         requires { IsTrue (has_block self.now order first) }
         ensures open { is_some result ≡ is_open self.now (2 ^ order) (first / 2 ^ order) }
         ensures pages { IfSome result (λ pages. pages ≡ cost self.now (2 ^ order) (first / 2 ^ order)) }
@@ -141,7 +141,7 @@ fn frame_at(first: FrameNo, place: u32) -> FrameNo
 }
 
 /// Whether a frame is in a run.
-fn is_in_run(first: FrameNo, order: Order, frame: FrameNo) -> bool
+pub(crate) fn is_in_run(first: FrameNo, order: Order, frame: FrameNo) -> bool
     ensures { result ≡ is_in_run first (2 ^ order) frame }
 {
     first.get() <= frame.get() && frame.get() < first.get() + order.frames()

@@ -1,4 +1,4 @@
-use Rattle.fewest_core.proofs.Choices.{attained, picked}
+use Rattle.fewest_core.proofs.Choices.{attained, cheapest, picked}
 use Rattle.fewest_core.proofs.Moves.{fewest, recorded, possible, fits}
 use Rattle.fewest_core.proofs.Placements.{fewest_elsewhere}
 use Rattle.fewest_core.proofs.Reached.{reached}
@@ -31,3 +31,6 @@ returns-clause-attained c = attained
 
 pub returns-clause-picked : goal.returns-clause-picked
 returns-clause-picked c = picked
+
+pub returns-clause-cheapest : goal.returns-clause-cheapest
+returns-clause-cheapest c = cheapest

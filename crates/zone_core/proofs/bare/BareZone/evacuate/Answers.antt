@@ -1,11 +1,11 @@
 use Rattle.std.proofs.Common.{◌∙◌, ◌+◌, ◌^◌, ◌<◌, ℕ, ap, subst, sym, arith}
-use Rattle.fewest_core.specs.Evacuation.{moved_away}
+use Rattle.fewest_core.specs.Evacuation.{is_in_run, moved_away}
 use Rattle.fewest_core.specs.FewestMoves.{IsMove}
 use Rattle.state_core.specs.Isolating.{isolate_refusal}
 use Rattle.state_core.specs.Pairs.{holder}
-use Rattle.state_core.specs.ZoneState.{ZoneState}
-use Rattle.zone_core.proofs.Emptying.{accepted_here, may_move_here, part_goes, part_stays, spare_here}
-use Rattle.zone_core.proofs.Evacuated.{begins, block_within, carried_out, enough, has_it, identity_is, moved_all, run_free, zone_is}
+use Rattle.state_core.specs.ZoneState.{ZoneState, frame_count}
+use Rattle.zone_core.proofs.Emptying.{accepted_here, in_it, may_move_here, part_goes, part_stays, spare_here}
+use Rattle.zone_core.proofs.Evacuated.{begins, block_within, carried_out, enough, fits, has_it, identity_is, moved_all, run_free, zone_is}
 use Rattle.zone_core.proofs.bare.BareZone.evacuate.Goals as goal
 
 pub loop-place-init : goal.loop-place-init
@@ -26,7 +26,10 @@ pub unreachable-requires : goal.unreachable-requires
 unreachable-requires g c =
     let here = c.deref.ensures ∙ c.self.view_is in
     let holds = sym (λ i. holder (here i) (c.frame_at-source.ensures i)) ∙ sym c.holder.ensures.holder ∙ c.in-Some.is in
-    let some = spare_here c.args.first (2 ^ c.args.order) c.args.self.now c.loop-place.self c.loop-place.place c.loop-place.invariant.emptying (omega (arith, c.loop-place-test.true, c.frames-place-end.ensures.value)) c.loop-place.invariant.valid (enough c.args.self.now c.args.first c.args.order (sym c.in_ok-pages.ensures.refused)) c.in-Some.page holds in
+    let accepted = sym c.in_ok-pages.ensures.refused in
+    let within : c.loop-place.place < 2 ^ c.args.order = omega (arith, c.loop-place-test.true, c.frames-place-end.ensures.value) in
+    let inside = in_it c.args.first (2 ^ c.args.order) c.args.self.now c.loop-place.self c.loop-place.place c.loop-place.invariant within in
+    let some = spare_here (is_in_run c.args.first (2 ^ c.args.order)) c.args.self.now c.loop-place.self (c.args.first + c.loop-place.place) c.loop-place.invariant.emptying inside c.loop-place.invariant.valid (omega (arith, within, fits c.args.self.now c.args.first c.args.order accepted)) (enough c.args.self.now c.args.first c.args.order accepted) c.in-Some.page holds in
     c.in_default-highest_spare.not-Some some.0 (c.highest_spare.ensures ∙ some.1)
 
 pub move_page-requires : goal.move_page-requires
@@ -37,14 +40,18 @@ move_page-requires g c =
     let found = sym c.highest_spare.ensures ∙ c.in-Some-highest_spare.is in
     let within : c.loop-place.place < 2 ^ c.args.order = omega (arith, c.loop-place-test.true, c.frames-place-end.ensures.value) in
     let law = c.loop-place.invariant.valid in
-    let all = enough c.args.self.now c.args.first c.args.order (sym c.in_ok-pages.ensures.refused) in
-    let may = may_move_here c.args.first (2 ^ c.args.order) c.args.self.now c.loop-place.self c.loop-place.place c.loop-place.invariant.emptying within law all c.in-Some.page holds c.in-Some-highest_spare.target found in (
+    let accepted = sym c.in_ok-pages.ensures.refused in
+    let all = enough c.args.self.now c.args.first c.args.order accepted in
+    let inside = in_it c.args.first (2 ^ c.args.order) c.args.self.now c.loop-place.self c.loop-place.place c.loop-place.invariant within in
+    let low : c.args.first + c.loop-place.place < frame_count c.args.self.now = omega (arith, within, fits c.args.self.now c.args.first c.args.order accepted) in
+    let is_in = is_in_run c.args.first (2 ^ c.args.order) in
+    let may = may_move_here is_in c.args.self.now c.loop-place.self (c.args.first + c.loop-place.place) c.loop-place.invariant.emptying inside law low all c.in-Some.page holds c.in-Some-highest_spare.target found in (
       omega arith,
       (
         subst (λ (source : ℕ). IsMove c.deref_mut.result.now (record { page = c.in-Some.page; source = source; target = c.in-Some-highest_spare.target })) (sym c.frame_at-source.ensures)
             (subst (λ (u : ZoneState). IsMove u (record { page = c.in-Some.page; source = c.args.first + c.loop-place.place; target = c.in-Some-highest_spare.target })) (sym there) may),
         ap isolate_refusal there
-            ∙ accepted_here c.args.first (2 ^ c.args.order) c.args.self.now c.loop-place.self c.loop-place.place c.loop-place.invariant.emptying within law all c.in-Some.page holds,
+            ∙ accepted_here is_in c.args.self.now c.loop-place.self (c.args.first + c.loop-place.place) c.loop-place.invariant.emptying inside law low all c.in-Some.page holds,
       ),
     )
 
@@ -55,7 +62,7 @@ loop-place-preserved g c =
     let holds = sym (λ i. holder (here i) (c.frame_at-source.ensures i)) ∙ sym c.holder.ensures.holder ∙ c.in-Some.is in
     let found = sym c.highest_spare.ensures ∙ c.in-Some-highest_spare.is in
     part_goes c.args.first (2 ^ c.args.order) c.args.self.now c.loop-place.self c.loop-place.place c.loop-place.invariant (omega (arith, c.loop-place-test.true, c.frames-place-end.ensures.value))
-    (enough c.args.self.now c.args.first c.args.order (sym c.in_ok-pages.ensures.refused)) c.in-Some.page c.in-Some-highest_spare.target holds found c.move_page.new.self
+    (fits c.args.self.now c.args.first c.args.order (sym c.in_ok-pages.ensures.refused)) (enough c.args.self.now c.args.first c.args.order (sym c.in_ok-pages.ensures.refused)) c.in-Some.page c.in-Some-highest_spare.target holds found c.move_page.new.self
     (c.move_page.ensures.step ∙ (λ i. moved_away (there i) (record { page = c.in-Some.page; source = c.frame_at-source.ensures i; target = c.in-Some-highest_spare.target })))
     c.move_page.ensures.valid
 

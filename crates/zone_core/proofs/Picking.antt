@@ -1,0 +1,228 @@
+-- A walk over the runs of a zone finds the open one that is next in rank.
+use Rattle.std.proofs.Common.{◌≡◌, ◌≢◌, ℕ, zero, suc, ◌+◌, ◌-◌, ◌*◌, ◌/◌, ◌^◌, ◌<◌, ◌≤◌, Bool, true, false, ◌&&◌, ◌||◌, List, length, inl, inr, refl, sym, ap, subst, ◌∙◌, arith}
+use Rattle.std.specs.Prelude.{Option, Some, None, is_some, IfSome, nat_eq, nat_le, nat_lt, slice_index, slice_set}
+use Rattle.std.proofs.lemmas.Bool.{and_from, both_ways, cases_Bool, eq-eqb, false_from_ne_true, le-leb, leb-true, lt-ltb, ltb-true}
+use Rattle.std.proofs.lemmas.Bool.Decides.{eqb_tells}
+use Rattle.frame_core.proofs.Searches.{count_from_most, count_most}
+use Rattle.frame_core.specs.Below.{count_below}
+use Rattle.std.proofs.lemmas.List.{get_or-set_other, get_or-set_same}
+use Rattle.std.proofs.lemmas.Nat.{pow_pos}
+use Rattle.frame_core.specs.Order.{is_aligned}
+use Rattle.state_core.specs.HandingOut.{has_block}
+use Rattle.state_core.proofs.Runs.{quotient}
+use Rattle.state_core.specs.ZoneState.{ZoneState, frame_count, is_used}
+use Rattle.fewest_core.specs.FewestMoves.{cost, costs, is_open, least, run_count}
+use Rattle.fewest_core.specs.Reservation.{goes_before, rank}
+use Rattle.fewest_core.proofs.Costs.{costs_counted}
+use Rattle.fewest_core.proofs.Ranks.{after_is, all_picked, before_trans, least_more, next_rank as first_has_rank, not_after, not_itself, of_rank, picks, picks_parts, rank_within}
+use Rattle.zone_core.specs.declared.bare.reserving.OpenRun.{OpenRun}
+use Rattle.zone_core.specs.Reserving.{is_after, is_ahead, is_before, next_rank, IsOpenRun}
+
+module _ (z : ZoneState) (size : ℕ) where
+  abbrev pub opened : ℕ → Bool
+  opened = is_open z size
+
+  abbrev pub before : ℕ → ℕ → Bool
+  before = goes_before (cost z size)
+
+  -- by the pages of two open runs, as by their costs
+  before_same : (a b : OpenRun) → IsOpenRun z size a → IsOpenRun z size b → is_before a b ≡ before a.number b.number
+  before_same a b p q = λ i. nat_lt (p.pages i) (q.pages i) || (nat_eq (p.pages i) (q.pages i) && nat_lt a.number b.number)
+
+  -- whether a run goes after the last one
+  abbrev pub after : Option OpenRun → ℕ → Bool
+  after None k = true
+  after (Some last) k = before last.number k
+
+  pub after_same : (r : OpenRun) (last : Option OpenRun) → IfSome last (IsOpenRun z size) → IsOpenRun z size r → is_after r last ≡ after last r.number
+  after_same r None ok is = refl
+  after_same r (Some last) ok is = before_same last r ok is
+
+  -- of the first k runs, this is the first open one after the last
+  pub record IsBest (last : Option OpenRun) (k : ℕ) (r : OpenRun) : Type 0 where
+    pub run : IsOpenRun z size r
+    pub below : r.number < k
+    pub later : after last r.number ≡ true
+    pub first : (j : ℕ) → j < k → opened j ≡ true → after last j ≡ true → before j r.number ≡ false
+
+  -- what the walk has found among the first k runs
+  abbrev pub IsNext : Option OpenRun → ℕ → Option OpenRun → Type 0
+  IsNext last k None = (j : ℕ) → j < k → opened j ≡ true → after last j ≡ false
+  IsNext last k (Some r) = IsBest last k r
+
+  pub walk_begins : (last : Option OpenRun) → IsNext last 0 None
+  walk_begins last j h = absurd (omega (arith, h))
+
+  pub walk_shut : (last next : Option OpenRun) (k : ℕ) → IsNext last k next → opened k ≡ false → IsNext last (k + 1) next
+  walk_shut last None k is shut = λ j h o. elim (eqb_tells j k) [
+    | inl at ↦ absurd (both_ways _ shut (ap opened (sym at.1) ∙ o))
+    | inr other ↦ is j (omega (arith, h, other.1)) o
+  ]
+  walk_shut last (Some r) k is shut = record {
+    run = is.run;
+    below = omega (arith, is.below);
+    later = is.later;
+    first = λ j h o a. elim (eqb_tells j k) [
+      | inl at ↦ absurd (both_ways _ shut (ap opened (sym at.1) ∙ o))
+      | inr other ↦ is.first j (omega (arith, h, other.1)) o a
+    ];
+  }
+
+  -- the run at hand is after the last and ahead of what was found
+  pub walk_takes : (last next : Option OpenRun) (k : ℕ) (r : OpenRun) → IfSome last (IsOpenRun z size) → IsNext last k next → IsOpenRun z size r → r.number ≡ k → is_after r last ≡ true → is_ahead r next ≡ true → IsNext last (k + 1) (Some r)
+  walk_takes last next k r ok is run at later ahead = record {
+    run = run;
+    below = omega (arith, at);
+    later = sym (after_same r last ok run) ∙ later;
+    first = λ j h o a. elim (eqb_tells j k) [
+      | inl here ↦ ap (λ (m : ℕ). before m r.number) (here.1 ∙ sym at) ∙ not_itself (cost z size) r.number
+      | inr other ↦ by_next next is ahead j (omega (arith, h, other.1)) o a
+    ];
+  } where
+    by_next : (next : Option OpenRun) → IsNext last k next → is_ahead r next ≡ true → (j : ℕ) → j < k → opened j ≡ true → after last j ≡ true → before j r.number ≡ false
+    by_next None is ahead j h o a = absurd (both_ways _ (is j h o) a)
+    by_next (Some n) is ahead j h o a = false_from_ne_true _ (λ e. both_ways _ (is.first j h o a) (before_trans (cost z size) j r.number n.number e (sym (before_same r n run is.run) ∙ ahead)))
+
+  -- it isn't both
+  pub walk_keeps : (last next : Option OpenRun) (k : ℕ) (r : OpenRun) → IfSome last (IsOpenRun z size) → IsNext last k next → IsOpenRun z size r → r.number ≡ k → (is_after r last && is_ahead r next) ≡ false → IsNext last (k + 1) next
+  walk_keeps last None k r ok is run at not_both = λ j h o. elim (eqb_tells j k) [
+    | inl here ↦ ap (after last) (here.1 ∙ sym at) ∙ sym (after_same r last ok run) ∙ false_from_ne_true _ (λ e. both_ways _ not_both (and_from _ _ e refl))
+    | inr other ↦ is j (omega (arith, h, other.1)) o
+  ]
+  walk_keeps last (Some n) k r ok is run at not_both = record {
+    run = is.run;
+    below = omega (arith, is.below);
+    later = is.later;
+    first = λ j h o a. elim (eqb_tells j k) [
+      | inl here ↦ false_from_ne_true _ (λ e.
+          let later = after_same r last ok run ∙ ap (after last) (at ∙ sym here.1) ∙ a in
+          let ahead = before_same r n run is.run ∙ ap (λ (m : ℕ). before m n.number) (at ∙ sym here.1) ∙ e in
+          both_ways _ not_both (and_from _ _ later ahead))
+      | inr other ↦ is.first j (omega (arith, h, other.1)) o a
+    ];
+  }
+
+  -- among all runs, what is found is next in rank
+  abbrev pub runs : ℕ
+  runs = run_count z size
+
+  counted : length (costs z size) ≡ count_below opened runs
+  counted = costs_counted opened (cost z size) runs
+
+  pub rank_fits : (last : Option OpenRun) → IfSome last (IsOpenRun z size) → next_rank z size last ≤ length (costs z size)
+  rank_fits None ok = omega arith
+  rank_fits (Some l) ok = omega (arith, counted, rank_within opened (cost z size) runs l.number ok.within ok.opened)
+
+  left_after : (last : Option OpenRun) → IfSome last (IsOpenRun z size) → (k : ℕ) → k < runs → opened k ≡ true → after last k ≡ true → picks opened (cost z size) runs (next_rank z size last) k ≡ false
+  left_after None ok k h o a = false_from_ne_true _ (λ e. absurd (omega (arith, (picks_parts opened (cost z size) runs 0 k e).1)))
+  left_after (Some l) ok k h o a = after_is opened (cost z size) runs (rank z size l.number) l.number k ok.within ok.opened refl o a
+
+  after_left : (last : Option OpenRun) → IfSome last (IsOpenRun z size) → (k : ℕ) → k < runs → opened k ≡ true → picks opened (cost z size) runs (next_rank z size last) k ≡ false → after last k ≡ true
+  after_left None ok k h o out = refl
+  after_left (Some l) ok k h o out = elim (cases_Bool (before l.number k)) [
+    | inl is ↦ is
+    | inr none ↦ absurd (both_ways _ out (not_after opened (cost z size) runs (rank z size l.number) l.number k ok.within h ok.opened refl o none))
+  ]
+
+  module _ (last : Option OpenRun) (ok : IfSome last (IsOpenRun z size)) where
+    abbrev n : ℕ
+    n = next_rank z size last
+
+    picked_all : count_below (picks opened (cost z size) runs n) runs ≡ n
+    picked_all = all_picked opened (cost z size) runs n (omega (arith, rank_fits last ok, counted))
+
+    pub found_ranked : (r : OpenRun) → IsNext last runs (Some r) → rank z size r.number ≡ n
+    found_ranked r is = first_has_rank opened (cost z size) runs n r.number picked_all is.run.within is.run.opened (left_after last ok r.number is.run.within is.run.opened is.later)
+        (λ k h o out. is.first k h o (after_left last ok k h o out))
+
+    pub found_open : (r : OpenRun) → IsNext last runs (Some r) → IsOpenRun z size r
+    found_open r is = is.run
+
+    pub found_there : (next : Option OpenRun) → IsNext last runs next → is_some next ≡ nat_lt n (length (costs z size))
+    found_there (Some r) is = sym (lt-ltb _ _ (omega (arith, counted, found_ranked r is, rank_within opened (cost z size) runs r.number is.run.within is.run.opened)))
+    found_there None is = sym (false_from_ne_true _ (λ e.
+        let more = of_rank opened (cost z size) runs n picked_all (omega (arith, counted, ltb-true _ _ e)) in
+        let out = false_from_ne_true _ (λ p. absurd (omega (arith, more.3, (picks_parts opened (cost z size) runs n more.0 p).1))) in
+        both_ways _ (is more.0 more.1 more.2) (after_left last ok more.0 more.1 more.2 out)))
+
+  pub found_all : (last : Option OpenRun) → IfSome last (IsOpenRun z size) → (next : Option OpenRun) → IsNext last runs next → IfSome next (λ r. rank z size r.number ≡ next_rank z size last)
+  found_all last ok None is = tt
+  found_all last ok (Some r) is = found_ranked last ok r is
+
+  -- one run more costs what it has pages
+  pub least_next : (r : OpenRun) (n : ℕ) → IsOpenRun z size r → rank z size r.number ≡ n → least (n + 1) z size ≡ least n z size + r.pages
+  least_next r n is at = least_more opened (cost z size) runs n r.number is.within is.opened at ∙ ap (λ (k : ℕ). least n z size + k) (sym is.pages)
+
+run_fits : (size frames number : ℕ) → number < frames / size → size * number + size ≤ frames
+run_fits size frames number h =
+    let more = frames / size - (number + 1) in
+    let all : size * (frames / size) ≤ frames = omega arith in
+    let split : size * (frames / size) ≡ size * number + size + size * more = ap (λ (k : ℕ). size * k) (sum_is (frames / size) number h) ∙ spread size number more in
+    omega (arith, all, split) where
+      sum_is : (q number : ℕ) → number < q → q ≡ number + 1 + (q - (number + 1))
+      sum_is q number h = omega (arith, h)
+
+      spread : (size a b : ℕ) → size * (a + 1 + b) ≡ size * a + size + size * b
+      spread size a b = omega arith
+
+-- a run of a zone, by its first frame
+module _ (z : ZoneState) (order number : ℕ) (within : number < run_count z (2 ^ order)) where
+  pub start_within : 2 ^ order * number + 2 ^ order ≤ frame_count z
+  start_within = run_fits (2 ^ order) (frame_count z) number within
+
+  pub start_number : (2 ^ order * number) / 2 ^ order ≡ number
+  start_number = quotient (2 ^ order * number) (2 ^ order) number (omega arith) (omega (arith, pow_pos order))
+
+  pub start_block : has_block z order (2 ^ order * number) ≡ true
+  start_block = and_from (is_aligned order (2 ^ order * number)) _
+      (eq-eqb _ _ (ap (λ (k : ℕ). k * 2 ^ order) start_number ∙ swapped (2 ^ order) number)) (le-leb _ _ start_within) where
+        swapped : (a b : ℕ) → b * a ≡ a * b
+        swapped a b = omega arith
+
+-- the first n of these frames are those of the runs of the ranks below n
+pub record IsPickedUpto (z : ZoneState) (order : ℕ) (firsts : List ℕ) (n : ℕ) : Type 0 where
+  pub block : (place : ℕ) → place < n → has_block z order (slice_index firsts place) ≡ true
+  pub opened : (place : ℕ) → place < n → is_open z (2 ^ order) (slice_index firsts place / 2 ^ order) ≡ true
+  pub ranked : (place : ℕ) → place < n → rank z (2 ^ order) (slice_index firsts place / 2 ^ order) ≡ place
+
+-- the next run is written after them
+module _ (z : ZoneState) (order : ℕ) (firsts : List ℕ) (n : ℕ) (is : IsPickedUpto z order firsts n) (within : n < length firsts) (r : OpenRun) (run : IsOpenRun z (2 ^ order) r) (first : ℕ) (at : first ≡ 2 ^ order * r.number) (next : rank z (2 ^ order) r.number ≡ n) where
+  here : slice_index (slice_set firsts n first) n ≡ first
+  here = get_or-set_same firsts n first 0 within
+
+  there : (place : ℕ) → place ≢ n → slice_index (slice_set firsts n first) place ≡ slice_index firsts place
+  there place apart = get_or-set_other firsts n place first 0 apart
+
+  number_is : first / 2 ^ order ≡ r.number
+  number_is = ap (λ (k : ℕ). k / 2 ^ order) at ∙ start_number z order r.number run.within
+
+  by_place : (P : ℕ → ℕ → Type 0) → P n first → ((place : ℕ) → place < n → P place (slice_index firsts place)) → (place : ℕ) → place < n + 1 → P place (slice_index (slice_set firsts n first) place)
+  by_place P last old place h = elim (eqb_tells place n) [
+    | inl same ↦ subst (λ (k : ℕ). P k (slice_index (slice_set firsts n first) k)) (sym same.1) (subst (P n) (sym here) last)
+    | inr other ↦ subst (P place) (sym (there place other.1)) (old place (omega (arith, h, other.1)))
+  ]
+
+  pub picks_more : IsPickedUpto z order (slice_set firsts n first) (n + 1)
+  picks_more = record {
+    block = by_place (λ place k. has_block z order k ≡ true) (ap (has_block z order) at ∙ start_block z order r.number run.within) is.block;
+    opened = by_place (λ place k. is_open z (2 ^ order) (k / 2 ^ order) ≡ true) (ap (is_open z (2 ^ order)) number_is ∙ run.opened) is.opened;
+    ranked = by_place (λ place k. rank z (2 ^ order) (k / 2 ^ order) ≡ place) (ap (rank z (2 ^ order)) number_is ∙ next) is.ranked;
+  }
+
+-- the pages of the cheapest runs are no more than their frames
+pub pages_fit : (z : ZoneState) (size pages n : ℕ) (r : OpenRun) → IsOpenRun z size r → pages ≤ size * n → nat_lt n (length (costs z size)) ≡ true → (pages + r.pages ≤ size * (n + 1)) × (pages + r.pages ≤ frame_count z)
+pages_fit z size pages n r run few there =
+    let most : r.pages ≤ size = omega (arith, run.pages, count_from_most (is_used z) (size * r.number) size) in
+    let low : n < run_count z size = omega (arith, ltb-true _ _ there, costs_counted (is_open z size) (cost z size) (run_count z size), count_most (is_open z size) (run_count z size)) in
+    (omega (arith, most, few), omega (arith, most, few, run_fits size (frame_count z) n low))
+
+-- runs that are open fit into the zone
+pub runs_fit : (z : ZoneState) (size n : ℕ) → 0 < size → nat_le n (length (costs z size)) ≡ true → (n ≤ frame_count z) × (size * n ≤ frame_count z)
+runs_fit z size n some few = by_count n (omega (arith, leb-true _ _ few, costs_counted (is_open z size) (cost z size) (run_count z size), count_most (is_open z size) (run_count z size))) where
+  no_less : (k : ℕ) → k ≤ size * k
+  no_less zero = omega arith
+  no_less (suc k) = omega (arith, some, no_less k)
+
+  by_count : (n : ℕ) → n ≤ run_count z size → (n ≤ frame_count z) × (size * n ≤ frame_count z)
+  by_count zero h = let none : size * 0 ≡ 0 = omega arith in (omega arith, omega (arith, none))
+  by_count (suc k) h = let fits = run_fits size (frame_count z) k (omega (arith, h)) in (omega (arith, fits, some, no_less k), omega (arith, fits))

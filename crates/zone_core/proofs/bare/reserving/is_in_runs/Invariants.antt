@@ -1,0 +1,7 @@
+use Rattle.std.proofs.Common.{◌≡◌, ◌^◌, ℕ, false, take}
+use Rattle.std.specs.List.{list_any}
+use Rattle.fewest_core.specs.Evacuation.{is_in_run}
+use Rattle.zone_core.proofs.bare.reserving.is_in_runs.Given as goal
+
+abbrev pub invariant-loop-place : goal.invariant-loop-place
+invariant-loop-place l = list_any (λ (first : ℕ). is_in_run first (2 ^ l.order) l.frame) (take l.place l.firsts) ≡ false

@@ -1,0 +1,31 @@
+-- The walk over the open runs of a zone, in the order of their ranks.
+use Rattle.std.specs.Prelude.{◌≡◌, ℕ, ◌+◌, ◌<◌, Bool, true, nat_eq, nat_lt, ◌&&◌, ◌||◌, Option, Some, None}
+use Rattle.fewest_core.specs.FewestMoves.{cost, is_open, run_count}
+use Rattle.fewest_core.specs.Reservation.{rank}
+use Rattle.state_core.specs.ZoneState.{ZoneState}
+use Rattle.zone_core.specs.declared.bare.reserving.OpenRun.{OpenRun}
+
+-- an open run of a zone, and how many pages it has
+pub record IsOpenRun (z : ZoneState) (size : ℕ) (run : OpenRun) : Type 0 where
+  pub within : run.number < run_count z size
+  pub opened : is_open z size run.number ≡ true
+  pub pages : run.pages ≡ cost z size run.number
+
+-- the rank that comes after that of a run; the first one is 0
+abbrev pub next_rank : ZoneState → ℕ → Option OpenRun → ℕ
+next_rank z size None = 0
+next_rank z size (Some run) = rank z size run.number + 1
+
+-- whether, by its pages, a run goes before another
+abbrev pub is_before : OpenRun → OpenRun → Bool
+is_before run other = nat_lt run.pages other.pages || (nat_eq run.pages other.pages && nat_lt run.number other.number)
+
+-- whether it goes after a run, if there is one
+abbrev pub is_after : OpenRun → Option OpenRun → Bool
+is_after run None = true
+is_after run (Some last) = is_before last run
+
+-- whether it goes before a run, if there is one
+abbrev pub is_ahead : OpenRun → Option OpenRun → Bool
+is_ahead run None = true
+is_ahead run (Some next) = is_before run next

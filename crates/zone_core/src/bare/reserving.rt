@@ -1,0 +1,272 @@
+//! Reservations: the cheapest open runs are emptied and handed out.
+
+ghost use Rattle.std.specs.Prelude.{◌≡◌, ◌+◌, ◌*◌, ◌/◌, ◌^◌, ◌<◌, ◌≤◌, ℕ, None, Some, true, false, is_some, length, nat_le, nat_lt, slice_index, IfOk, IfSome, OnOk, OnErr};
+ghost use Rattle.std.specs.FinMap as map;
+ghost use Rattle.std.specs.Result.{result_err};
+ghost use Rattle.fewest_core.specs.Evacuation.{is_beside, is_in_run, IsCarriedFrom};
+ghost use Rattle.fewest_core.specs.FewestMoves.{costs, least};
+ghost use Rattle.fewest_core.specs.Reservation.{blocks_taken, cleared, is_in_runs, rank, reserve_refusal, reserved, ArePicked};
+ghost use Rattle.frame_core.specs.Below.{highest};
+ghost use Rattle.frame_core.specs.Moves.{moved, out};
+ghost use Rattle.state_core.specs.HandingOut.{is_run};
+ghost use Rattle.state_core.specs.Packed.{unmarked_free};
+ghost use Rattle.state_core.specs.Valid.{IsValidZone};
+ghost use Rattle.state_core.specs.ZoneState.{frame_count, is_free};
+ghost use Rattle.zone_core.specs.Reserving.{is_after, is_ahead, is_before, next_rank, IsOpenRun};
+ghost use Rattle.zone_core.specs.ZoneIdentity.{HasIdentity};
+
+use crate::bare::BareZone;
+use crate::bare::evacuating::is_in_run;
+use frame_core::{FrameNo, Order};
+use state_core::ZoneError;
+
+/// An open run by its number among the runs of its size, and how many pages it has.
+#[derive(Clone, Copy)]
+pub struct OpenRun {
+    number: u32,
+    pages: u32,
+}
+
+impl OpenRun {
+    /// Whether a run goes before another one: it has fewer pages, or as many and is lower.
+    fn is_before(self, other: OpenRun) -> bool
+        ensures { result ≡ is_before self other }
+    {
+        self.pages < other.pages || self.pages == other.pages && self.number < other.number
+    }
+
+    /// Whether it goes after a run, if there is one.
+    fn is_after(self, last: Option<OpenRun>) -> bool
+        ensures { result ≡ is_after self last }
+    {
+        match last {
+            Some(last) => last.is_before(self),
+            None => true,
+        }
+    }
+
+    /// Whether it goes before a run, if there is one.
+    fn is_ahead(self, next: Option<OpenRun>) -> bool
+        ensures { result ≡ is_ahead self next }
+    {
+        match next {
+            Some(next) => self.is_before(next),
+            None => true,
+        }
+    }
+}
+
+impl<const W: usize> BareZone<W> {
+    /// Hands out as many blocks of an order as `firsts` has places, and answers how many pages were moved for it. The cheapest open runs
+    /// are picked, the lowest first of equals, and their first frames are written into `firsts` in this order. No list of moves that makes
+    /// so many runs free is shorter than what is moved here (`fewest_moves`). The pages go, the lowest first, each to the highest free
+    /// frame of an unmarked pageblock outside of these runs. From the first of them on the latest round isn't quiet any more.
+    ///
+    /// Refused as NoBlock where fewer runs are open, and where fewer frames of unmarked pageblocks are free than the blocks have frames.
+    /// Else refused as JournalFull unless the journal has two places for each of the pages and one for each of the blocks, besides one for
+    /// each page that is moving, and a serial is left for each page.
+    pub fn reserve(&mut self, order: Order, firsts: &mut [FrameNo]) -> Result<u32, ZoneError>
+        ensures refused { result_err result ≡ reserve_refusal self.old (length firsts.old) order }
+        ensures err { OnErr result ((self.new ≡ self.old) × (firsts.new ≡ firsts.old)) }
+        ensures pages { IfOk result (λ pages. pages ≡ least (length firsts.old) self.old (2 ^ order)) }
+        ensures picked { OnOk result (ArePicked self.old order firsts.new) }
+        ensures ok { OnOk result (self.new ≡ reserved self.old order firsts.new) }
+        ensures moved { IfOk result (λ pages. moved self.new.records ≡ moved self.old.records + pages) }
+        ensures taken { OnOk result ((place : ℕ) → place < length firsts.new → map.get self.new.handed_out (slice_index firsts.new place) ≡ Some order) }
+        // The pages are as they were, but for the frames of those that went.
+        ensures carried { OnOk result (IsCarriedFrom (is_in_runs firsts.new (2 ^ order)) self.old self.new) }
+        ensures count { length firsts.new ≡ length firsts.old }
+        ensures identity { HasIdentity self.old.number self.old.blocks self.new }
+        ensures valid { IsValidZone self.new }
+    {
+        let pages = self.pages_to_reserve(order, firsts.len())?;
+        self.pick(order, firsts);
+        self.clear(order, firsts);
+        self.hand_out_each(order, firsts);
+        Ok(pages)
+    }
+
+    /// How many pages move for so many blocks, or why their reservation is refused.
+    fn pages_to_reserve(&self, order: Order, blocks: usize) -> Result<u32, ZoneError>
+        ensures refused { result_err result ≡ reserve_refusal self.now blocks order }
+        ensures pages { IfOk result (λ pages. pages ≡ least blocks self.now (2 ^ order)) }
+        ensures valid { IsValidZone self.now }
+    {
+        let vacant = self.count_vacant();
+        let Some(pages) = self.least_pages(order, blocks) else {
+            return Err(ZoneError::NoBlock);
+        };
+        let blocks = blocks as u32;
+        if order.frames() * blocks > vacant {
+            return Err(ZoneError::NoBlock);
+        }
+        if !self.tables.has_room_to_reserve(pages, blocks) {
+            return Err(ZoneError::JournalFull);
+        }
+        Ok(pages)
+    }
+
+    /// How many frames of unmarked pageblocks are free.
+    fn count_vacant(&self) -> u32
+        ensures count { result ≡ unmarked_free self.now }
+        ensures valid { IsValidZone self.now }
+    {
+        let mut vacant = 0;
+        for number in 0..512 * self.blocks() {
+            if self.tables.is_vacant(frame_no(number)) {
+                vacant += 1;
+            }
+        }
+        vacant
+    }
+
+    /// The open run that is next in rank after a run, or the first one of all, if there is one.
+    fn next_open(&self, order: Order, last: Option<OpenRun>) -> Option<OpenRun>
+        requires { IfSome last (λ run. IsOpenRun self.now (2 ^ order) run) }
+        ensures there { is_some result ≡ nat_lt (next_rank self.now (2 ^ order) last) (length (costs self.now (2 ^ order))) }
+        ensures next { IfSome result (λ run. IsOpenRun self.now (2 ^ order) run) }
+        ensures ranked { IfSome result (λ run. rank self.now (2 ^ order) run.number ≡ next_rank self.now (2 ^ order) last) }
+        ensures valid { IsValidZone self.now }
+    {
+        let mut next = None;
+        for number in 0..512 * self.blocks() / order.frames() {
+            let first = run_start(order, number);
+            let Some(pages) = self.pages_of(first, order) else {
+                continue;
+            };
+            let run = OpenRun { number, pages };
+            if run.is_after(last) && run.is_ahead(next) {
+                next = Some(run);
+            }
+        }
+        next
+    }
+
+    /// How many pages the cheapest open runs have together, as many runs as are asked for, or none where fewer are open.
+    fn least_pages(&self, order: Order, runs: usize) -> Option<u32>
+        ensures there { is_some result ≡ nat_le runs (length (costs self.now (2 ^ order))) }
+        ensures pages { IfSome result (λ pages. pages ≡ least runs self.now (2 ^ order)) }
+    {
+        let mut pages = 0;
+        let mut last = None;
+        for _ in 0..runs {
+            let run = self.next_open(order, last)?;
+            pages += run.pages;
+            last = Some(run);
+        }
+        Some(pages)
+    }
+
+    /// Writes the first frames of the cheapest open runs, the cheapest first, and the lowest first of equals.
+    fn pick(&self, order: Order, firsts: &mut [FrameNo])
+        requires { length firsts.old ≤ length (costs self.now (2 ^ order)) }
+        ensures picked { ArePicked self.now order firsts.new }
+        ensures count { length firsts.new ≡ length firsts.old }
+    {
+        let mut last = None;
+        for place in 0..firsts.len() {
+            let Some(run) = self.next_open(order, last) else {
+                unreachable!();
+            };
+            firsts[place] = run_start(order, run.number);
+            last = Some(run);
+        }
+    }
+
+    /// Moves each page of these runs to the highest free frame of an unmarked pageblock outside of them, the lowest page first.
+    fn clear(&mut self, order: Order, firsts: &[FrameNo])
+        requires accepted { reserve_refusal self.old (length firsts.now) order ≡ None }
+        requires picked { ArePicked self.old order firsts.now }
+        ensures cleared { self.new ≡ cleared (is_in_runs firsts.now (2 ^ order)) self.old (frame_count self.old) }
+        ensures free { (frame : ℕ) → is_in_runs firsts.now (2 ^ order) frame ≡ true → is_free self.new frame ≡ true }
+        ensures room { length (out self.new.records) + length firsts.now ≤ self.new.room }
+        ensures moved { moved self.new.records ≡ moved self.old.records + least (length firsts.now) self.old (2 ^ order) }
+        ensures carried { IsCarriedFrom (is_in_runs firsts.now (2 ^ order)) self.old self.new }
+        ensures identity { HasIdentity self.old.number self.old.blocks self.new }
+        ensures valid { IsValidZone self.new }
+    {
+        let frames = 512 * self.blocks();
+        let mut top = frames;
+        for number in 0..frames {
+            let source = frame_no(number);
+            if !is_in_runs(firsts, order, source) {
+                continue;
+            }
+            let Some(page) = self.tables.holder(source) else {
+                continue;
+            };
+            let Some(target) = self.highest_beside(order, firsts, top) else {
+                unreachable!();
+            };
+            self.tables.move_page(page, source, target);
+            top = target.get();
+        }
+    }
+
+    /// The highest frame below `top` that may take a page of these runs, if there is one.
+    fn highest_beside(&self, order: Order, firsts: &[FrameNo], top: u32) -> Option<FrameNo>
+        requires within { top ≤ frame_count self.now }
+        requires few { frame_count self.now ≤ 16777216 }
+        ensures { result ≡ highest (is_beside (is_in_runs firsts.now (2 ^ order)) self.now) top }
+    {
+        for above in 0..top {
+            let frame = frame_no(top - 1 - above);
+            if self.is_beside(order, firsts, frame) {
+                return Some(frame);
+            }
+        }
+        None
+    }
+
+    /// Whether a frame may take a page of these runs: it is in none of them, and free, in an unmarked pageblock.
+    fn is_beside(&self, order: Order, firsts: &[FrameNo], frame: FrameNo) -> bool
+        requires { frame < frame_count self.now }
+        ensures { result ≡ is_beside (is_in_runs firsts.now (2 ^ order)) self.now frame }
+    {
+        self.tables.is_vacant(frame) && !is_in_runs(firsts, order, frame)
+    }
+
+    /// Hands out free blocks with these first frames, no two of which share a frame.
+    fn hand_out_each(&mut self, order: Order, firsts: &[FrameNo])
+        requires room { length (out self.old.records) + length firsts.now ≤ self.old.room }
+        requires free { (place : ℕ) → place < length firsts.now → is_run self.old order (slice_index firsts.now place) ≡ true }
+        requires apart { (a b frame : ℕ) → a < b → b < length firsts.now → is_in_run (slice_index firsts.now a) (2 ^ order) frame ≡ true → is_in_run (slice_index firsts.now b) (2 ^ order) frame ≡ false }
+        ensures taken { self.new ≡ blocks_taken self.old order firsts.now (length firsts.now) }
+        ensures valid { IsValidZone self.new }
+    {
+        for place in 0..firsts.len() {
+            self.tables.hand_out(firsts[place], order);
+        }
+    }
+}
+
+/// Whether a frame is in one of the runs with these first frames.
+fn is_in_runs(firsts: &[FrameNo], order: Order, frame: FrameNo) -> bool
+    ensures { result ≡ is_in_runs firsts.now (2 ^ order) frame }
+{
+    for place in 0..firsts.len() {
+        if is_in_run(firsts[place], order, frame) {
+            return true;
+        }
+    }
+    false
+}
+
+/// The frame with a number.
+fn frame_no(number: u32) -> FrameNo
+    requires { number < 16777216 }
+    ensures { result ≡ number }
+{
+    let Some(frame) = FrameNo::in_any_zone(number) else {
+        unreachable!();
+    };
+    frame
+}
+
+/// The first frame of a run.
+fn run_start(order: Order, number: u32) -> FrameNo
+    requires { 2 ^ order * number < 16777216 }
+    ensures { result ≡ 2 ^ order * number }
+{
+    frame_no(order.frames() * number)
+}
