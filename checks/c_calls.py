@@ -1,7 +1,8 @@
 """Random calls of the library for C are answered as by the machine of `checks/machine.py`.
 
 A million calls are made through `libcompactd.so` and beside them on the machine, with pages of both sizes, with a journal and without one,
-among them rounds, slices of rounds, pages that are moved by hand, and runs that are emptied. After each the number of its refusal is
+among them rounds, slices of rounds, pages that are moved by hand, and runs that are emptied. Most are made on pools of 1 to 8 pageblocks, and
+100,000 on pools of 9 to 513, of which some are filled with blocks but for a few pageblocks at the top. After each the number of its refusal is
 compared, and what it tells; where it is refused, what it would have told has to be untouched. The reserved words of a structure have to
 be 0 once a call has filled it, and are random in those that a call is given. Numbers are also out of their ranges. All refusals come up
 but those of a pool that is closed, open already or can't have its memory, which `checks/c_exports.py` tries. At the end the records of
@@ -12,12 +13,16 @@ import ctypes
 import random
 
 import c_programs
+import machine
 import runs
 from c_machine import ByMachine, Zone
 from machine import Refused
 
-POOLS = 40
+SMALL_POOLS = 36
+LARGE_POOLS = [(9, False), (512, False), (512, True), (513, True)]  # their pageblocks, and whether they are filled first
+LEFT_FREE = 6  # pageblocks of a pool that is filled
 CALLS_OF_A_POOL = 25_000
+MOST_BLOCKS = 32_768
 UNRECORDED_PLACES = 2**53
 UNTOUCHED = 0xA5  # in each byte where a call may write
 # What random calls can't come to.
@@ -133,13 +138,16 @@ class Chooser:
         self.spaces = chance.choice([1, 8])
 
     def number(self, count, limit=None):
-        """A number below a count, and once in 200 times one at the limit of its range or far beyond it."""
+        """A number below a count, and once in 200 times the count, the limit of its range or a number far beyond it."""
         if self.chance.random() < 0.005:
-            return self.chance.choice([limit or count, 2**32 - 1])
+            return self.chance.choice([count, limit or count, 2**32 - 1])
         return self.chance.randrange(count)
 
     def place(self):
-        return self.number(8), self.number(self.spaces, 8), self.number(self.pages, 4096)
+        return self.number(8), self.number(self.spaces, 8), self.number(self.pages, machine.PAGES_OF_A_SPACE)
+
+    def frame(self):
+        return self.number(self.frames, machine.MOST_FRAMES)
 
     def is_unmovable(self):
         return self.chance.random() < 0.05
@@ -151,7 +159,7 @@ class Chooser:
         return *self.place(), self.is_unmovable()
 
     def map_at(self):
-        return *self.place(), self.is_unmovable(), self.number(self.frames, 4096)
+        return *self.place(), self.is_unmovable(), self.frame()
 
     def load(self):
         return *self.place(), self.number(self.page_words)
@@ -173,12 +181,12 @@ class Chooser:
 
     def give_order(self):
         order = self.order()
-        return self.number(self.frames >> min(order, 9), 4096) << min(order, 9), order
+        return self.number(self.frames >> min(order, 9), machine.MOST_FRAMES) << min(order, 9), order
 
     evacuate = give_order
 
     def mark(self):
-        return (self.number(self.blocks, 8),)
+        return (self.number(self.blocks, MOST_BLOCKS),)
 
     unmark = marked = mark
 
@@ -220,7 +228,7 @@ class Chooser:
     fragmentation = free_runs
 
     def next_moving(self):
-        return (self.chance.choice([0, self.number(self.frames, 4096)]),)
+        return (self.chance.choice([0, self.frame()]),)
 
     def look(self):
         return self.place()[1:]
@@ -293,13 +301,13 @@ class Beside:
         need_reserved(name, answer, places)
         return answer
 
-    def compare_records(self, places):
+    def compare_records(self):
         """Compares the journal with the machine's records, where it is kept; else no record is there."""
         wanted, room = self.machine.zone.records, self.machine.zone.places
         answer, counted = self.answers("journal", ())
         if (answer, values_of(counted)) != (0, (len(wanted), room)):
             raise wrong_answer("journal", values_of(counted), (len(wanted), room))
-        kept = wanted if places else []
+        kept = wanted if self.machine.places else []
         for at, record in enumerate(kept):
             answer, found = self.answers("record_at", (at,))
             if answer or any(number not in (None, told) for number, told in zip(record, values_of(found))):
@@ -387,17 +395,28 @@ def need_reserved(name, answer, places):
         raise runs.Failed(f"{name} answers {answer} and leaves {found} in reserved words")
 
 
-def random_calls(seed):
-    """How often each call and each refusal came up among random calls of a pool."""
-    chance = random.Random(seed)
+def small_pool(chance):
     page_words, blocks = chance.choice([8, 512]), chance.choice([1, 1, 2, 3, 8])
-    places = chance.choice([None, 300, 5_000, 65_536])
-    library, chooser = loaded(), Chooser(chance, page_words, blocks)
-    pool, found = Beside(library, page_words, blocks, places), collections.Counter()
+    return Beside(loaded(), page_words, blocks, chance.choice([None, 300, 5_000, 65_536]))
+
+
+def large_pool(blocks, is_filled):
+    """A pool without a journal. Where it is filled, only its highest pageblocks are free."""
+    pool = Beside(loaded(), 8, blocks, None)
+    for _ in range(blocks - LEFT_FREE if is_filled else 0):
+        pool.compare("take_order", (9,))
+    return pool
+
+
+def random_calls(number):
+    """How often each call and each refusal came up among random calls of a pool."""
+    chance = random.Random(number)
+    pool = small_pool(chance) if number < SMALL_POOLS else large_pool(*LARGE_POOLS[number - SMALL_POOLS])
+    chooser, found = Chooser(chance, pool.machine.zone.page_words, pool.machine.zone.blocks), collections.Counter()
     for name in chance.choices(list(OFTEN), list(OFTEN.values()), k=CALLS_OF_A_POOL):
         answer = pool.carry(name, chance) if name in BY_HAND else pool.compare(name, getattr(chooser, name)())
         found[name, answer] += 1
-    pool.compare_records(places)
+    pool.compare_records()
     if pool.call("close"):
         raise runs.Failed("the pool can't be closed")
     return found
@@ -406,7 +425,7 @@ def random_calls(seed):
 def main():
     c_programs.folder()  # once, before the processes part
     found = collections.Counter()
-    for counted in runs.each(random_calls, range(POOLS)):
+    for counted in runs.each(random_calls, range(SMALL_POOLS + len(LARGE_POOLS)), at_once=1):
         found += counted
     numbers = {number for _, number in found}
     lacking = [name for name, number in c_programs.refusals().items() if name not in APART and number not in numbers]

@@ -33,13 +33,12 @@ class Zone(machine.Zone):
 
     def begin_round(self):
         super().begin_round()
-        self.is_quiet = not self.moving and not any(map(self.is_stuck, range(self.size)))
+        self.is_quiet = not self.moving and all(map(self.is_marked, self.obstacles()))
 
-    def is_stuck(self, frame):
-        held = self.frames[frame]
-        is_page = isinstance(held, machine.Page)
-        stays = is_page and (held.unmovable or held.pins > 0)
-        return not self.is_marked(frame) and (stays or held is not None and not is_page)
+    def obstacles(self):
+        """The frames of the pages that no round moves, and the first ones of the blocks that are handed out."""
+        yield from (page.frame for page in self.pages.values() if page.unmovable or page.pins > 0)
+        yield from (first for first, _ in self.handed_out)
 
     def isolate(self, source, target):
         page = super().isolate(source, target)
@@ -75,16 +74,16 @@ class Zone(machine.Zone):
 
     def count_runs(self, first, order, runs):
         """Counts the runs of a part of the zone: one where all of it is free, and else those of its halves."""
-        used = sum(frame is not None for frame in self.frames[first : first + 2**order])
-        if used == 0:
+        free = self.frames.free(first, 2**order)
+        if free == 2**order:
             runs[order] += 1
-        elif used < 2**order:
+        elif free > 0:
             self.count_runs(first, order - 1, runs)
             self.count_runs(first + 2 ** (order - 1), order - 1, runs)
 
     def fragmentation(self, order):
         """The index of an order by the formula of Linux, in thousandths."""
-        runs, free = self.free_runs(), self.frames.count(None)
+        runs, free = self.free_runs(), self.free_frames()
         if free == 0:
             return 0
         if any(runs[order:]):
@@ -107,7 +106,7 @@ def need(*limits):
 
 
 def need_place(client, space, page):
-    need((client, 8), (space, 8), (page, 4096))
+    need((client, 8), (space, 8), (page, machine.PAGES_OF_A_SPACE))
     return space, page
 
 
@@ -130,7 +129,7 @@ class ByMachine:
         return frame
 
     def map_at(self, client, space, page, unmovable, frame):
-        need((frame, 4096))
+        need((frame, machine.MOST_FRAMES))
         self.zone.map(need_place(client, space, page), unmovable, frame)
         self.zone.note(1, client, (space, page), None)
 
@@ -197,13 +196,13 @@ class ByMachine:
             self.zone.note(4, client, (space, page), word, value=value)
 
     def read_block(self, first, order, start, count):
-        need((first, 4096))
+        need((first, machine.MOST_FRAMES))
         need_order(order)
         words = self.zone.block(first, order, start, count)
         return tuple(words.get(at, 0) for at in range(start, start + count))
 
     def write_block(self, first, order, start, values):
-        need((first, 4096))
+        need((first, machine.MOST_FRAMES))
         need_order(order)
         self.zone.block(first, order, start, len(values)).update(enumerate(values, start))
 
@@ -232,7 +231,7 @@ class ByMachine:
 
     def next_moving(self, start):
         """The moving page, and its move."""
-        need((start, 4096))
+        need((start, machine.MOST_FRAMES))
         page = min((it for it in self.zone.moving.values() if it.frame >= start), key=lambda it: it.frame, default=None)
         if page is None:
             raise Refused(NOT_MOVING)

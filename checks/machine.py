@@ -5,6 +5,7 @@ round with a client beside it, as long as the client does nothing that the round
 one, or gives it its first pin or takes its last one off, it is up to the threads which pages the round moves: then a
 `?` stands in replies for each number that the manual leaves to them, and what can't be told at all is `Untold`."""
 
+import itertools
 import re
 
 LARGEST_NUMBER = 2**64 - 1
@@ -13,6 +14,7 @@ MOST_DIGITS = 20
 PAGES_OF_A_SPACE = 4096
 FRAMES_OF_A_PAGEBLOCK = 512
 PAGEBLOCK = 9  # the order of a pageblock
+MOST_FRAMES = 2**24
 MOST_ADDRESSES = 4
 MOST_PINS = 255
 MOST_ROUNDS = 4  # of a pool
@@ -69,15 +71,76 @@ class Page:
         self.target = None
 
 
+class Frames:
+    """The frames of a zone. One is free where it is None, or it has a page, the page that is to come, or the block that
+    was handed out. How many are used, and how many have pages, is counted by pageblock, so that a search passes by those
+    where it finds nothing."""
+
+    def __init__(self, blocks):
+        self.held = [None] * (blocks * FRAMES_OF_A_PAGEBLOCK)
+        self.used = [0] * blocks
+        self.with_pages = [0] * blocks
+
+    def __getitem__(self, frame):
+        return self.held[frame]
+
+    def __setitem__(self, frame, held):
+        self.fill(frame, 1, held)
+
+    def fill(self, first, count, held):
+        """Puts the same into each frame of a run of one pageblock, where each had the same before."""
+        block, before = first // FRAMES_OF_A_PAGEBLOCK, self.held[first]
+        self.used[block] += count * ((held is not None) - (before is not None))
+        self.with_pages[block] += count * (isinstance(held, Page) - isinstance(before, Page))
+        self.held[first : first + count] = [held] * count
+
+    def free(self, first, count):
+        """How many frames of a run of one pageblock are free."""
+        used = self.used[first // FRAMES_OF_A_PAGEBLOCK]
+        if used in (0, FRAMES_OF_A_PAGEBLOCK):
+            return count if used == 0 else 0
+        return self.held[first : first + count].count(None)
+
+    def lowest_free(self):
+        block = next((block for block, used in enumerate(self.used) if used < FRAMES_OF_A_PAGEBLOCK), None)
+        return None if block is None else self.held.index(None, block * FRAMES_OF_A_PAGEBLOCK)
+
+    def lowest_free_run(self, count):
+        """The first frame of the lowest aligned run of so many frames that are all free, if there is one."""
+        blocks = (block for block, used in enumerate(self.used) if used <= FRAMES_OF_A_PAGEBLOCK - count)
+        firsts = (first for block in blocks for first in frames_of(block)[::count])
+        return next((first for first in firsts if self.free(first, count) == count), None)
+
+    def upwards(self, low, high):
+        """The frames from one on and below another, but those of pageblocks that have no pages."""
+        blocks = (block for block in pageblocks_of(low, high) if self.with_pages[block] > 0)
+        return (frame for block in blocks for frame in frames_of(block, low, high))
+
+    def downwards(self, low, high):
+        """The same from the highest down, but those of pageblocks that are all used."""
+        blocks = (block for block in reversed(pageblocks_of(low, high)) if self.used[block] < FRAMES_OF_A_PAGEBLOCK)
+        return (frame for block in blocks for frame in reversed(frames_of(block, low, high)))
+
+
+def frames_of(block, low=0, high=MOST_FRAMES):
+    """The frames of a pageblock, or those from one on and below another."""
+    first = block * FRAMES_OF_A_PAGEBLOCK
+    return range(max(first, low), min(first + FRAMES_OF_A_PAGEBLOCK, high))
+
+
+def pageblocks_of(low, high):
+    """The pageblocks of the frames from one on and below another."""
+    return range(low // FRAMES_OF_A_PAGEBLOCK, -(-high // FRAMES_OF_A_PAGEBLOCK))
+
+
 class Zone:
-    """A zone, the pages of it that are moving, and four hands. A frame is free where it is None, or it has a
-    page, the page that is to come, or the block that was handed out. Once the threads decided what a round moved, no
-    frame is told but those of pages that no round moves, and there are at least so many places in the journal."""
+    """A zone, the pages of it that are moving, and four hands. Once the threads decided what a round moved, no frame is
+    told but those of pages that no round moves, and there are at least so many places in the journal."""
 
     def __init__(self, number, blocks, places):
         self.number = number
         self.size = blocks * FRAMES_OF_A_PAGEBLOCK
-        self.frames_if_told = [None] * self.size
+        self.frames_if_told = Frames(blocks)
         self.pages = {}  # by address
         self.places = places
         self.moving = {}  # by serial
@@ -128,8 +191,8 @@ class Zone:
         """The frame of a fresh page: the one that is asked for, or else the lowest."""
         if not self.is_told or self.moves_beside():
             return self.fresh_frame_beside_moves(frame)
-        if frame is None and None in self.frames:
-            return self.frames.index(None)
+        if frame is None:
+            frame = self.frames.lowest_free()
         if frame is None or self.frames[frame] is not None:
             raise Refused(6)
         return frame
@@ -269,10 +332,10 @@ class Zone:
         return self.frames[frame] is None and not self.is_marked(frame)
 
     def next_pair(self):
-        source = next((frame for frame in range(self.low, self.high) if self.can_move(frame)), None)
+        source = next(filter(self.can_move, self.frames.upwards(self.low, self.high)), None)
         if source is None:
             return None
-        target = next((frame for frame in range(self.high - 1, source, -1) if self.can_take(frame)), None)
+        target = next(filter(self.can_take, self.frames.downwards(source, self.high)), None)
         return None if target is None else (source, target)
 
     def begin_round(self):
@@ -364,11 +427,12 @@ class Zone:
         self.need_frames(first, 2**order)
         run = range(first, first + 2**order)
         sources = [frame for frame in run if self.frames[frame] is not None]
-        targets = [frame for frame in range(self.size) if frame not in run and self.can_take(frame)]
+        outside = (frame for frame in self.frames.downwards(0, self.size) if frame not in run)
+        targets = list(itertools.islice(filter(self.can_take, outside), len(sources)))
         if any(map(self.is_marked, run)) or not all(map(self.can_move, sources)) or len(sources) > len(targets):
             raise Refused(11)
         self.need_places(2 * len(sources))
-        for source, target in zip(sources, reversed(targets)):
+        for source, target in zip(sources, targets):
             self.end_move(self.isolate(source, target), True)
         return len(sources)
 
@@ -431,14 +495,13 @@ class Zone:
 
     def hand_out(self, order):
         self.need_places(1)
-        count = 2**order
-        for first in range(0, self.size, count):
-            if self.frames[first : first + count] == [None] * count:
-                self.places -= 1
-                self.frames[first : first + count] = [(first, order)] * count
-                self.handed_out.add((first, order))
-                return first
-        raise Refused(11)
+        first = self.frames.lowest_free_run(2**order)
+        if first is None:
+            raise Refused(11)
+        self.places -= 1
+        self.frames.fill(first, 2**order, (first, order))
+        self.handed_out.add((first, order))
+        return first
 
     def huge(self):
         return f"block={self.hand_out(PAGEBLOCK) // FRAMES_OF_A_PAGEBLOCK}"
@@ -485,7 +548,7 @@ class Zone:
             raise Refused(12)
         self.places -= 1
         self.handed_out.remove((first, order))
-        self.frames[first : first + 2**order] = [None] * 2**order
+        self.frames.fill(first, 2**order, None)
         return "ok"
 
     def mark(self, block):
@@ -513,14 +576,10 @@ class Zone:
         )
 
     def free_frames(self):
-        return self.frames.count(None) if self.is_told else self.size - self.page_count() - self.held()
+        return self.size - (sum(self.frames.used) if self.is_told else self.page_count() + self.held())
 
     def whole_pageblocks(self):
-        if not self.is_told:
-            return ANY
-        pageblocks = range(0, self.size, FRAMES_OF_A_PAGEBLOCK)
-        free_pageblock = [None] * FRAMES_OF_A_PAGEBLOCK
-        return sum(self.frames[first : first + FRAMES_OF_A_PAGEBLOCK] == free_pageblock for first in pageblocks)
+        return self.frames.used.count(0) if self.is_told else ANY
 
     def info_with_held(self):
         return f"{self.info()} held={self.held()}"

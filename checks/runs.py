@@ -147,7 +147,7 @@ def rt():
     return pathlib.Path(command).resolve()
 
 
-def each(work, many):
-    """What comes of each one, worked out on all processors."""
+def each(work, many, at_once=10):
+    """What comes of each one, worked out on all processors, each of which takes so many at once."""
     with concurrent.futures.ProcessPoolExecutor(None, multiprocessing.get_context("fork")) as pool:
-        yield from pool.map(work, many, chunksize=10)
+        yield from pool.map(work, many, chunksize=at_once)

@@ -1,6 +1,6 @@
 /* compactd: a page pool that makes huge pages by moving pages out of pageblocks.
  *
- * A pool is a row of frames, 512 in each of its 1 to 8 pageblocks. A frame holds a page or is free. An address is a space and a virtual
+ * A pool is a row of frames, 512 in each of its pageblocks. A frame holds a page or is free. An address is a space and a virtual
  * page. It names a page, and up to 4 addresses may name the same page. A round moves pages to the top, so that pageblocks at the bottom
  * become empty. A block of 8 to 512 free frames can be handed out; the caller then reads and writes its words. The memory of all frames is
  * allocated when the pool is opened. docs/C.md explains each call.
@@ -9,8 +9,8 @@
  * refused call changes nothing: the pool is as it was, and nothing is written through the other pointers. Where several refusals hold, the
  * call answers the one that comes first in its comment.
  *
- * Ranges, unless a comment gives another: a client 0 to 7, a space 0 to 7, a virtual page (vpage) 0 to 4095, a frame 0 to 4095 and in the
- * pool, a word 0 to 7 or 0 to 511 by the size of the pool's pages, a pageblock 0 to 7 and in the pool, an order 3 to 9.
+ * Ranges, unless a comment gives another: a client 0 to 7, a space 0 to 7, a virtual page (vpage) 0 to 4095, a frame of the pool, a word
+ * 0 to 7 or 0 to 511 by the size of the pool's pages, a pageblock of the pool, an order 3 to 9.
  *
  * Each structure but the handle ends in two reserved words. The library fills them with 0 and doesn't read them. A later version may give
  * them a meaning; the size of the structure stays.
@@ -160,7 +160,7 @@ typedef struct compactd_counts {
 /* What a pool was opened with. */
 typedef struct compactd_geometry {
     uint32_t page_words; /* words of a page: 8 or 512 */
-    uint32_t blocks;     /* pageblocks: 1 to 8 */
+    uint32_t blocks;     /* pageblocks: 1 to 32768 */
     uint64_t places;     /* places of its journal, used or not; 0 where it keeps none */
     uint64_t reserved[2];
 } compactd_geometry;
@@ -244,13 +244,14 @@ typedef struct compactd_record {
 /* The version of the library. */
 uint32_t compactd_version(void);
 
-/* Opens a closed pool. Its pages have 8 words of 64 bits (64 bytes) or 512 (4 KiB); it has 1 to 8 pageblocks of 512 frames. It keeps no
- * records, and has room for 2^53 calls that would be recorded.
+/* Opens a closed pool. Its pages have 8 words of 64 bits (64 bytes) or 512 (4 KiB); it has 1 to 32,768 pageblocks of 512 frames. It keeps
+ * no records, and has room for 2^53 calls that would be recorded.
  * Refused: OPEN where the pool is open; RANGE; MEMORY. */
 uint32_t compactd_open(compactd_pool *pool, uint32_t page_words, uint32_t blocks) COMPACTD_CALL;
 
-/* Like compactd_open, but journals accepted calls (those documented as unrecorded excepted). The journal has 1 to 65,536 places. When only
- * the places reserved for ending moves are left, one for each moving page, recorded calls are refused as JOURNAL_FULL.
+/* Like compactd_open, but with 1 to 8 pageblocks, and it journals accepted calls (those documented as unrecorded excepted). The journal has
+ * 1 to 65,536 places. When only the places reserved for ending moves are left, one for each moving page, recorded calls are refused as
+ * JOURNAL_FULL.
  * Refused: OPEN; RANGE; MEMORY. */
 uint32_t compactd_open_journal(compactd_pool *pool, uint32_t page_words, uint32_t blocks, uint32_t places) COMPACTD_CALL;
 
@@ -318,7 +319,7 @@ uint32_t compactd_give_order(compactd_pool *pool, uint32_t first, uint32_t order
 
 /* Reads `count` words of a block that is handed out, from word `from`. A block has 2^order times the words of a page. The call is
  * unrecorded, so it is accepted also where the journal is full.
- * Refused: CLOSED; RANGE where the frame is above 4095 or the order out of its range; NOT_HUGE; RANGE where the words go past the block. */
+ * Refused: CLOSED; RANGE where the frame is above 16777215 or the order out of its range; NOT_HUGE; RANGE where the words go past the block. */
 uint32_t compactd_read_block(compactd_pool *pool, uint32_t first, uint32_t order, size_t from, uint64_t *values, size_t count)
     COMPACTD_CALL_WITH_WORDS;
 
@@ -387,7 +388,7 @@ uint32_t compactd_record_at(compactd_pool *pool, size_t place, compactd_record *
 
 /* Gets the moving page with the lowest source frame, of those whose source is the frame `from` or a higher one. The caller gets all of
  * them from 0, then from the latest source + 1, and so on. So a page whose carrier was lost can be found and put back.
- * Refused: CLOSED; RANGE where `from` is above 4095; NOT_MOVING. */
+ * Refused: CLOSED; RANGE where `from` is above 16777215; NOT_MOVING. */
 uint32_t compactd_next_moving(compactd_pool *pool, uint32_t from, compactd_moving_page *page, compactd_move *move) COMPACTD_CALL;
 
 /* Rounds. A round moves the lowest page that can be moved to the highest free frame, and so on until its two scanners meet. */

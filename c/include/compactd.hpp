@@ -223,7 +223,7 @@ struct Slice {
 // An open pool. One that was moved from is closed: its calls throw CLOSED.
 class Pool {
 public:
-    // A pool that keeps no records, with 1 to 8 pageblocks.
+    // A pool that keeps no records, with 1 to 32,768 pageblocks.
     Pool(PageSize page_size, std::uint32_t blocks) : handle_(std::make_shared<detail::Handle>())
     {
         detail::done(compactd_open(&handle_->raw, static_cast<std::uint32_t>(page_size), blocks));

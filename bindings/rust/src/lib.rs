@@ -1,6 +1,6 @@
 //! A page pool that makes huge pages by moving pages, over `libcompactd`, whose calls are proved.
 //!
-//! A [`Pool`] is a row of frames, 512 in each of its 1 to 8 pageblocks. A frame holds a page or is free, and an [`Address`] names a page.
+//! A [`Pool`] is a row of frames, 512 in each of its pageblocks. A frame holds a page or is free, and an [`Address`] names a page.
 //! When free frames are scattered, [`Pool::compact`] moves pages together, and [`Pool::take_huge`] hands out a block of free frames,
 //! whose words are then the caller's to use.
 //!

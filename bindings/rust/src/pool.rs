@@ -88,7 +88,7 @@ pub(crate) fn done(answer: u32) -> Result<(), Error> {
 // SAFETY, of each call of this crate on a pool: the handle was zeroed, and is this pool's, which is borrowed alone; each other pointer leads
 // to a value of its type, or to as many words as the count says, and no two overlap.
 impl Pool {
-    /// Opens a pool with 1 to 8 pageblocks of 512 frames. It keeps no records.
+    /// Opens a pool with 1 to 32,768 pageblocks of 512 frames. It keeps no records.
     ///
     /// Refused as [`Error::Range`] or [`Error::Memory`].
     pub fn open(page_size: PageSize, blocks: u32) -> Result<Pool, Error> {

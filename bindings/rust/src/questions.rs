@@ -128,7 +128,7 @@ impl Pool {
 
     /// The moving page with the lowest source frame, of those whose source is the frame `from` or a higher one.
     ///
-    /// Refused as [`Error::Range`] where `from` is above 4095, or as [`Error::NotMoving`] where there is no such page.
+    /// Refused as [`Error::Range`] where `from` is above 16,777,215, or as [`Error::NotMoving`] where there is no such page.
     pub fn next_moving(&mut self, from: u32) -> Result<Move, Error> {
         let (mut page, mut at) = (raw::MovingPage::default(), raw::Move::default());
         done(unsafe { raw::compactd_next_moving(&mut self.raw, from, &mut page, &mut at) })?;

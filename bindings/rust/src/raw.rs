@@ -32,7 +32,7 @@ pub struct Counts {
 pub struct Geometry {
     /// Words of a page: 8 or 512.
     pub page_words: u32,
-    /// Pageblocks: 1 to 8.
+    /// Pageblocks: 1 to 32,768.
     pub blocks: u32,
     /// Places of its journal, used or not; 0 where it keeps none.
     pub places: u64,

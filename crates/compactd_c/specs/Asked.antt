@@ -29,20 +29,20 @@ is_order order = nat_le 3 order && nat_le order 9
 
 -- blocks may have this first frame and this order
 abbrev pub is_block : ℕ → ℕ → Bool
-is_block first order = nat_lt first 4096 && is_order order
+is_block first order = nat_lt first 16777216 && is_order order
 
 -- the numbers are in their ranges
 abbrev pub fits : Asked → Bool
 fits (Map space vpage unmovable) = is_address space vpage
-fits (MapAt space vpage unmovable frame) = is_address space vpage && nat_lt frame 4096
+fits (MapAt space vpage unmovable frame) = is_address space vpage && nat_lt frame 16777216
 fits (Share space vpage alias_space alias_vpage) = is_address space vpage && is_address alias_space alias_vpage
 fits (Unmap space vpage) = is_address space vpage
 fits (Pin space vpage) = is_address space vpage
 fits (Unpin space vpage) = is_address space vpage
 fits (TakeOrder order) = is_order order
 fits (GiveOrder first order) = is_block first order
-fits (Mark block) = nat_lt block 8
-fits (Unmark block) = nat_lt block 8
+fits (Mark block) = nat_lt block 32768
+fits (Unmark block) = nat_lt block 32768
 
 -- the call that the numbers stand for, on a zone whose pages have W words
 abbrev pub call_of : (W : ℕ) → Asked → ZoneCall W

@@ -77,7 +77,7 @@ impl Asked {
             } => Some(Call::MapAt {
                 address: address(space, vpage)?,
                 unmovable,
-                frame: FrameNo::new(frame)?,
+                frame: FrameNo::in_any_zone(frame)?,
             }),
             Asked::Share {
                 space,
@@ -101,14 +101,14 @@ impl Asked {
                 order: Order::new(order)?,
             }),
             Asked::GiveOrder { first, order } => Some(Call::GiveOrder {
-                first: FrameNo::new(first)?,
+                first: FrameNo::in_any_zone(first)?,
                 order: Order::new(order)?,
             }),
             Asked::Mark { block } => Some(Call::Mark {
-                block: BlockNo::new(block)?,
+                block: BlockNo::in_any_zone(block)?,
             }),
             Asked::Unmark { block } => Some(Call::Unmark {
-                block: BlockNo::new(block)?,
+                block: BlockNo::in_any_zone(block)?,
             }),
         }
     }

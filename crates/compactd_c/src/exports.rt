@@ -25,8 +25,8 @@ use std::alloc::Global;
 /// The number of an opening of a pool that is open.
 const OPEN: u32 = 52;
 
-/// Opens a closed pool: an empty zone whose pages have 8 or 512 words, with 1 to 8 pageblocks of 512 frames. No record of its history
-/// is kept in memory.
+/// Opens a closed pool: an empty zone whose pages have 8 or 512 words, with 1 to 32,768 pageblocks of 512 frames. No record of its
+/// history is kept in memory.
 ///
 /// Refused as OPEN where the pool is open, as RANGE where a number is out of its range, or as MEMORY where there isn't enough memory.
 #[unsafe(no_mangle)]
@@ -148,8 +148,8 @@ pub extern "C" fn compactd_map_at(
     unmovable: bool,
     frame: u32,
 ) -> u32
-    ensures answer { result ≡ answer pool.old.zone (λ z. ranged (is_client client && (is_address space vpage && nat_lt frame 4096)) (map_at_refusal z (address_of space vpage) frame)) }
-    ensures zone { pool.new.zone ≡ left pool.old.zone (λ z. ranged (is_client client && (is_address space vpage && nat_lt frame 4096)) (map_at_refusal z (address_of space vpage) frame)) (λ z. mapped z client (address_of space vpage) unmovable frame) }
+    ensures answer { result ≡ answer pool.old.zone (λ z. ranged (is_client client && (is_address space vpage && nat_lt frame 16777216)) (map_at_refusal z (address_of space vpage) frame)) }
+    ensures zone { pool.new.zone ≡ left pool.old.zone (λ z. ranged (is_client client && (is_address space vpage && nat_lt frame 16777216)) (map_at_refusal z (address_of space vpage) frame)) (λ z. mapped z client (address_of space vpage) unmovable frame) }
 {
     done(make(
         pool,
@@ -287,8 +287,8 @@ pub extern "C" fn compactd_take_order(pool: &mut Pool, order: u32, first: &mut u
 /// Refused as CLOSED, RANGE, JOURNAL_FULL or NOT_HUGE.
 #[unsafe(no_mangle)]
 pub extern "C" fn compactd_give_order(pool: &mut Pool, first: u32, order: u32) -> u32
-    ensures answer { result ≡ answer pool.old.zone (λ z. ranged (nat_lt first 4096 && is_order order) (give_order_refusal z first order)) }
-    ensures zone { pool.new.zone ≡ left pool.old.zone (λ z. ranged (nat_lt first 4096 && is_order order) (give_order_refusal z first order)) (λ z. block_given z first order) }
+    ensures answer { result ≡ answer pool.old.zone (λ z. ranged (nat_lt first 16777216 && is_order order) (give_order_refusal z first order)) }
+    ensures zone { pool.new.zone ≡ left pool.old.zone (λ z. ranged (nat_lt first 16777216 && is_order order) (give_order_refusal z first order)) (λ z. block_given z first order) }
 {
     done(make(pool, 0, Asked::GiveOrder { first, order }))
 }
@@ -298,8 +298,8 @@ pub extern "C" fn compactd_give_order(pool: &mut Pool, first: u32, order: u32) -
 /// Refused as CLOSED, RANGE, JOURNAL_FULL or MARKED.
 #[unsafe(no_mangle)]
 pub extern "C" fn compactd_mark(pool: &mut Pool, block: u32) -> u32
-    ensures answer { result ≡ answer pool.old.zone (λ z. ranged (nat_lt block 8) (mark_refusal z block)) }
-    ensures zone { pool.new.zone ≡ left pool.old.zone (λ z. ranged (nat_lt block 8) (mark_refusal z block)) (λ z. block_marked z block) }
+    ensures answer { result ≡ answer pool.old.zone (λ z. ranged (nat_lt block 32768) (mark_refusal z block)) }
+    ensures zone { pool.new.zone ≡ left pool.old.zone (λ z. ranged (nat_lt block 32768) (mark_refusal z block)) (λ z. block_marked z block) }
 {
     done(make(pool, 0, Asked::Mark { block }))
 }
@@ -309,8 +309,8 @@ pub extern "C" fn compactd_mark(pool: &mut Pool, block: u32) -> u32
 /// Refused as CLOSED, RANGE, JOURNAL_FULL or NOT_MARKED.
 #[unsafe(no_mangle)]
 pub extern "C" fn compactd_unmark(pool: &mut Pool, block: u32) -> u32
-    ensures answer { result ≡ answer pool.old.zone (λ z. ranged (nat_lt block 8) (unmark_refusal z block)) }
-    ensures zone { pool.new.zone ≡ left pool.old.zone (λ z. ranged (nat_lt block 8) (unmark_refusal z block)) (λ z. block_unmarked z block) }
+    ensures answer { result ≡ answer pool.old.zone (λ z. ranged (nat_lt block 32768) (unmark_refusal z block)) }
+    ensures zone { pool.new.zone ≡ left pool.old.zone (λ z. ranged (nat_lt block 32768) (unmark_refusal z block)) (λ z. block_unmarked z block) }
 {
     done(make(pool, 0, Asked::Unmark { block }))
 }

@@ -43,7 +43,7 @@ pub struct Counts {
 pub struct Geometry {
     /// How many words a page has, 8 or 512.
     pub page_words: u32,
-    /// How many pageblocks it has, 1 to 8.
+    /// How many pageblocks it has, 1 to 32,768.
     pub blocks: u32,
     /// How many places its journal has, used or not; 0 where no record is kept.
     pub places: u64,
@@ -151,7 +151,7 @@ pub extern "C" fn compactd_quiet(pool: &mut Pool, quiet: &mut bool) -> u32
 /// Refused as RANGE where the zone has no such pageblock, or as CLOSED.
 #[unsafe(no_mangle)]
 pub extern "C" fn compactd_marked(pool: &mut Pool, block: u32, marked: &mut bool) -> u32
-    ensures answer { result ≡ answer pool.old.zone (λ z. ranged (nat_lt block 8 && nat_lt block z.blocks) None) }
+    ensures answer { result ≡ answer pool.old.zone (λ z. ranged (nat_lt block 32768 && nat_lt block z.blocks) None) }
     ensures zone { pool.new.zone ≡ pool.old.zone }
     ensures marked { (z : ZoneState) → pool.old.zone ≡ Some z → result ≡ 0 → marked_of z block ≡ Some marked.new }
     ensures kept { ¬ (result ≡ 0) → marked.new ≡ marked.old }

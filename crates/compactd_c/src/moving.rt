@@ -42,16 +42,16 @@ pub extern "C" fn compactd_next_moving(
     way: &mut Move,
 ) -> u32
     ensures closed { pool.old.zone ≡ None → result ≡ 51 }
-    ensures range { (z : ZoneState) → pool.old.zone ≡ Some z → ¬ (from < 4096) → result ≡ 1 }
+    ensures range { (z : ZoneState) → pool.old.zone ≡ Some z → ¬ (from < 16777216) → result ≡ 1 }
     ensures some { (z : ZoneState) → pool.old.zone ≡ Some z → result ≡ 0 → IsToldOfNext z from page.new way.new }
-    ensures none { (z : ZoneState) → pool.old.zone ≡ Some z → from < 4096 → ¬ (result ≡ 0) → (result ≡ 54) × IsNoneMoving z from }
+    ensures none { (z : ZoneState) → pool.old.zone ≡ Some z → from < 16777216 → ¬ (result ≡ 0) → (result ≡ 54) × IsNoneMoving z from }
     ensures zone { pool.new.zone ≡ pool.old.zone }
     ensures kept { ¬ (result ≡ 0) → (page.new ≡ page.old) × (way.new ≡ way.old) }
 {
     let Some(zone) = pool.zone() else {
         return CLOSED;
     };
-    let Some(from) = FrameNo::new(from) else {
+    let Some(from) = FrameNo::in_any_zone(from) else {
         return number(ZoneError::Range);
     };
     let Some(found) = zone.next_moving(from) else {

@@ -71,7 +71,7 @@ impl Model for Zone {
 }
 
 impl Zone {
-    /// An empty zone whose journal is unrecorded: pages of 8 or of 512 words, and 1 to 8 pageblocks.
+    /// An empty zone whose journal is unrecorded: pages of 8 or of 512 words, and 1 to 32,768 pageblocks.
     pub(crate) fn open_unrecorded(
         alloc: Global,
         page_words: u32,
@@ -251,10 +251,10 @@ impl Zone {
 
     /// Whether a pageblock is marked.
     pub(crate) fn marked(&self, block: u32) -> Result<bool, ZoneError>
-        ensures refused { result_err result ≡ ranged (nat_lt block 8 && nat_lt block self.now.blocks) None }
+        ensures refused { result_err result ≡ ranged (nat_lt block 32768 && nat_lt block self.now.blocks) None }
         ensures value { IfOk result (λ marked. marked_of self.now block ≡ Some marked) }
     {
-        let block = BlockNo::new(block).ok_or(ZoneError::Range)?;
+        let block = BlockNo::in_any_zone(block).ok_or(ZoneError::Range)?;
         let marked = match &self.kind {
             Kind::Small(zone) => zone.marked(block),
             Kind::Large(zone) => zone.marked(block),
@@ -606,7 +606,7 @@ fn block(first: u32, order: u32) -> Option<(FrameNo, Order)>
     ensures some { is_some result ≡ is_block first order }
     ensures value { IfSome result (λ block. (block.0 ≡ first) × (block.1 ≡ order)) }
 {
-    let first = FrameNo::new(first)?;
+    let first = FrameNo::in_any_zone(first)?;
     let order = Order::new(order)?;
     Some((first, order))
 }
@@ -626,7 +626,7 @@ fn move_named<const W: usize>(
         return None;
     }
     let serial = Serial::try_from(serial).ok()?;
-    Some((serial, PageNo::new(number)?))
+    Some((serial, PageNo::in_any_zone(number)?))
 }
 
 fn isolate<const W: usize>(

@@ -96,8 +96,8 @@ pub not_shut : (zone : ZoneState) (scan : ScanSeat) (ends : EndSeat) (is_open : 
 not_shut zone scan ends is_open list held full =
     skipped (list_all is_nothing (each hand_as held)) (Some (length (serials_of list), shut (world_of zone scan ends is_open list held))) None (empty_seen held ∙ full)
 
--- the list of a world has at most 4,096 pages
-pub short_list : (zone : ZoneState) (scan : ScanSeat) (ends : EndSeat) (is_open : Bool) (list : List IsolatedPage) (held : List InHand) (capacity : ℕ) → IsCarried zone scan ends is_open list held capacity → length list ≤ 4096
+-- the list of a world has at most 16,777,216 pages
+pub short_list : (zone : ZoneState) (scan : ScanSeat) (ends : EndSeat) (is_open : Bool) (list : List IsolatedPage) (held : List InHand) (capacity : ℕ) → IsCarried zone scan ends is_open list held capacity → length list ≤ 16777216
 short_list zone scan ends is_open list held capacity was =
     omega (arith, was.orderly.few.1, was.orderly.valid.size.1, length-map list (λ (p : IsolatedPage). p.serial))
 

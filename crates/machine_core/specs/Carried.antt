@@ -37,8 +37,8 @@ pub record IsCarried (zone : ZoneState) (scan : ScanSeat) (ends : EndSeat) (is_o
   pub copies : (i : ℕ) (p : IsolatedPage) → slice_get held i ≡ Some (Copy p) → IsOwnCopy zone p
   pub room : capacity ≡ 256 * zone.blocks
 
--- an empty list with exactly the room for the pages that a round can isolate in a zone of up to 8 pageblocks
+-- an empty list with exactly the room for the pages that a round can isolate in a zone of up to 32768 pageblocks
 pub record IsRest (list : List IsolatedPage) (capacity : ℕ) : Type 0 where
   pub none : list ≡ []
   pub room : capacity ≡ 256 * (capacity / 256)
-  pub few : capacity / 256 ≤ 8
+  pub few : capacity / 256 ≤ 32768

@@ -122,7 +122,7 @@ impl<const W: usize, I: Ledger, N: Ledger, M: Ledger, B: Ledger> World<W, I, N, 
 
     /// A world with an empty zone whose journal is unrecorded: its records exist in the proofs alone, and it has room for 2^53 of them.
     ///
-    /// Refused as Range unless there are 1 to 8 pageblocks, else as Memory where there isn't enough.
+    /// Refused as Range unless there are 1 to 32,768 pageblocks, else as Memory where there isn't enough.
     pub fn open_unrecorded(
         alloc: Global,
         number: ZoneNo,

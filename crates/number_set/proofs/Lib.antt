@@ -4,3 +4,4 @@ pub mod Masking
 pub mod Numbering
 pub mod OneAbove
 pub mod Running
+pub mod Starting

@@ -13,15 +13,21 @@ use std::marker::Model;
 
 /// A set of numbers below a bound, in `L` levels of words: 2, 3 or 4. The bound is 4,096 with two levels, and at most
 /// 262,144 with three and 16,777,216 with four. Each call for a number looks at two words of each level at most, and each call
-/// for a run at its words, which are eight at most, and at one word of each level above.
+/// for a run at its words, which are eight at most, and at one word of each level above. With four levels the set knows its
+/// lowest word that has a number: `first` looks at that word alone, and a call that empties it looks at one word of each level
+/// above for the next.
 #[derive(Drop)]
 pub struct NumberSet<const L: usize> {
     words: Vec<u64>,
+    /// With four levels, the lowest of `words` that has a number, or the count of `words` where none has.
+    lowest: u32,
     above: UpperLevels<L>,
 }
 
 impl<const L: usize> Model for NumberSet<L> {
     ghost use Rattle.std.specs.Prelude.{◌≡◌, ◌≢◌, ◌≤◌, length};
+    ghost use Rattle.number_set.specs.Bits.{is_filled};
+    ghost use Rattle.number_set.specs.Finds.{StartsAt};
     ghost use Rattle.number_set.specs.Levels.{level_numbers, Summarizes};
     ghost use Rattle.number_set.specs.Numbers.{Numbers, coded_numbers};
 
@@ -31,7 +37,7 @@ impl<const L: usize> Model for NumberSet<L> {
 
     ghost view = { λ s. level_numbers L s.above s.words.items };
 
-    ghost invariant = { λ s. L ≡ 4 → (length s.words.items ≤ s.above.bound) × (s.above.bound ≤ 262144) × Summarizes s.above.members s.words.items };
+    ghost invariant = { λ s. L ≡ 4 → (length s.words.items ≤ s.above.bound) × (s.above.bound ≤ 262144) × Summarizes s.above.members s.words.items × StartsAt (is_filled s.words.items) (length s.words.items) s.lowest };
 }
 
 impl<const L: usize> NumberSet<L> {
@@ -47,12 +53,14 @@ impl<const L: usize> NumberSet<L> {
         if L != 4 {
             return Ok(NumberSet {
                 words: words::open(alloc, 0)?,
+                lowest: 0,
                 above: UpperLevels::open(alloc, bound)?,
             });
         }
         let count = (bound + 63) / 64;
         Ok(NumberSet {
             words: words::open(alloc, count)?,
+            lowest: count,
             above: UpperLevels::open(alloc, count)?,
         })
     }
@@ -94,6 +102,7 @@ impl<const L: usize> NumberSet<L> {
         }
         if words::insert(&mut self.words, number) {
             self.above.insert(number / 64);
+            self.lowest = self.lowest.min(number / 64);
         }
     }
 
@@ -109,6 +118,9 @@ impl<const L: usize> NumberSet<L> {
         }
         if words::remove(&mut self.words, number) {
             self.above.remove(number / 64);
+            if number / 64 == self.lowest {
+                self.lowest = self.above.first_or(self.words.len() as u32);
+            }
         }
     }
 
@@ -127,6 +139,7 @@ impl<const L: usize> NumberSet<L> {
         }
         if words::insert_run(&mut self.words, first, order) {
             self.above.insert_run(first / 64, order.saturating_sub(6));
+            self.lowest = self.lowest.min(first / 64);
         }
     }
 
@@ -145,6 +158,7 @@ impl<const L: usize> NumberSet<L> {
         }
         if words::remove_run(&mut self.words, first, order) {
             self.above.remove_run(first / 64, order.saturating_sub(6));
+            self.lowest = self.above.first_or(self.words.len() as u32);
         }
     }
 
@@ -171,10 +185,10 @@ impl<const L: usize> NumberSet<L> {
         if L != 4 {
             return self.above.first();
         }
-        let Some(word) = self.above.first() else {
+        if self.lowest as usize >= self.words.len() {
             return None;
-        };
-        Some(words::first_in(&self.words, word))
+        }
+        Some(words::first_in(&self.words, self.lowest))
     }
 
     /// The highest number of the set, if it has one.
@@ -255,5 +269,6 @@ impl<const L: usize> NumberSet<L> {
         }
         words::insert_below(&mut self.words, bound);
         self.above.insert_below((bound + 63) / 64);
+        self.lowest = self.above.first_or(self.words.len() as u32);
     }
 }

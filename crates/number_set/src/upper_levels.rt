@@ -2,7 +2,7 @@
 
 ghost use Rattle.std.specs.Prelude.{◌≡◌, ◌↔◌, ℕ, ◌+◌, ◌%◌, ◌^◌, ◌<◌, ◌≤◌, ◌&&◌, ◌||◌, not, nat_lt, true, IsTrue, MatchOption, IfOk, IfSome};
 ghost use Rattle.std.specs.FinSet as set;
-ghost use Rattle.number_set.specs.Finds.{IsFirst, IsLast, IsNext, IsPrevious, NoneAtAll, NoneAbove, NoneBelow};
+ghost use Rattle.number_set.specs.Finds.{IsFirst, IsLast, IsNext, IsPrevious, NoneAtAll, NoneAbove, NoneBelow, StartsAt};
 ghost use Rattle.number_set.specs.Runs.{in_run};
 ghost use Rattle.number_set.specs.Numbers.{room_for};
 
@@ -168,6 +168,14 @@ impl<const L: usize> UpperLevels<L> {
             return None;
         };
         Some(words::first_in(&self.words, word))
+    }
+
+    /// The lowest number of the set, or another one where it has none.
+    #[inline(never)]
+    pub(crate) fn first_or(&self, other: u32) -> u32
+        ensures { StartsAt (set.contains self.now.members) other result }
+    {
+        self.first().unwrap_or(other)
     }
 
     /// The highest number of the set, if it has one.

@@ -118,7 +118,7 @@ pub struct KeptZone<K: Keeping, I: Ledger, M: Ledger, B: Ledger> {
     ended: Condvar,
     blocks: u32,
     ghost identity: { blocks ≡ K.blocks },
-    ghost in_range: { (0 < blocks) × (blocks ≤ 8) },
+    ghost in_range: { (0 < blocks) × (blocks ≤ 32768) },
 }
 
 // Written out, so that the crates above have nothing to prove of its parts.
@@ -195,10 +195,10 @@ impl<K: Keeping, I: Ledger, M: Ledger, B: Ledger> KeptZone<K, I, M, B> {
         (zone, stub)
     }
 
-    /// How many pageblocks the zone has, 1 to 8.
+    /// How many pageblocks the zone has, 1 to 32,768.
     pub fn blocks(&self) -> u32
         ensures blocks { result ≡ K.blocks }
-        ensures range { (0 < result) × (result ≤ 8) }
+        ensures range { (0 < result) × (result ≤ 32768) }
     {
         self.blocks
     }

@@ -1,5 +1,5 @@
 -- Sets of frames: what a call adds to them or takes from them, and what is read off their counts.
-use Rattle.std.proofs.Common.{◌≡◌, ℕ, zero, suc, ◌+◌, ◌*◌, ◌/◌, ◌%◌, ◌^◌, ◌<◌, ◌≤◌, Bool, true, false, not, List, length, inl, inr, refl, sym, ap, ◌∙◌, subst, slice_index, eq-eqb, replicate, arith}
+use Rattle.std.proofs.Common.{◌≡◌, ℕ, zero, suc, ◌+◌, ◌-◌, ◌*◌, ◌/◌, ◌^◌, ◌<◌, ◌≤◌, Bool, true, false, not, List, length, inl, inr, refl, sym, ap, ◌∙◌, subst, slice_index, replicate, arith}
 use Rattle.std.specs.Prelude.{Some, None, nat_eq, nat_lt, slice_get, if◌then◌else◌, ◌&&◌, ◌||◌}
 use Rattle.std.specs.FinSet as set
 use Rattle.std.specs.Ordering.{nat_cmp}
@@ -11,7 +11,7 @@ use Rattle.frame_core.specs.Order.{is_aligned}
 use Rattle.frame_core.proofs.Bounds.{count_from_short}
 use Rattle.frame_core.proofs.Lists.{slice_get_replicate}
 use Rattle.frame_core.proofs.Searches.{count_all, count_from_all, count_none, some_at, some_one, lowest_is, lowest_none}
-use Rattle.scan_core.specs.FrameCounts.{CountsEach, count_in_block, is_all_counted}
+use Rattle.scan_core.specs.FrameCounts.{CountsEach, is_all_counted}
 use Rattle.scan_core.specs.FrameSet.{Counts, all_of_block, is_run_of}
 use Rattle.scan_core.specs.Frames.{true_at}
 use Rattle.scan_core.specs.NumberSet.{all_from, in_run}
@@ -19,9 +19,9 @@ use Rattle.scan_core.specs.Pairs.{is_marked}
 use Rattle.scan_core.proofs.Masking.{clash}
 pub use Rattle.scan_core.proofs.Masking.{insert_if, remove_if}
 use Rattle.scan_core.proofs.Numbering.{member_insert, member_remove}
-use Rattle.scan_core.proofs.Orders.{run_aligned, run_within, first_of_run, runs_end}
-use Rattle.scan_core.proofs.RunCounts.{Adds, block_more, counted, from_some, one_run}
-use Rattle.scan_core.proofs.Spanning.{all_members, same_by, both, in_run_is, is_in_run}
+use Rattle.scan_core.proofs.Orders.{few_runs, first_of_run, run_aligned, run_of, run_within, runs_end, some_frames}
+use Rattle.scan_core.proofs.RunCounts.{Adds, counted, from_some, one_run}
+use Rattle.scan_core.proofs.Spanning.{same_by, both, in_run_is}
 
 -- a test stays as it was where the one number that is written had that value already
 pub keep_if : (k frame : ℕ) (p : ℕ → Bool) (m : Bool) → p frame ≡ m → p k ≡ (if nat_eq k frame then m else p k)
@@ -131,48 +131,43 @@ no_run_here : (p : ℕ → Bool) (order at k : ℕ) (aligned : Bool) → is_alig
 no_run_here p order at k true e only fails = ap (λ b. b && all_from p k (2 ^ order)) e ∙ ap (λ f. all_from p f (2 ^ order)) (only e) ∙ fails
 no_run_here p order at k false e only fails = ap (λ b. b && all_from p k (2 ^ order)) e
 
--- what the count of a pageblock tells of a run in it
-module _ (p : ℕ → Bool) (first m count : ℕ) (counts : List ℕ) (low : first / 512 < length counts) (within : first % 512 + m ≤ 512) (each : CountsEach counts p) (is : count ≡ slice_index counts (first / 512)) where
-  here : count ≡ count_in_block p (first / 512)
-  here = is ∙ counted counts p (first / 512) each low
+-- the numbers of the blocks of an order begin where there is one
+pub runs_below : (blocks order frames : ℕ) → 3 ≤ order → order ≤ 9 → frames ≡ 2 ^ order → 0 < blocks → 512 * blocks / frames < 128 * blocks
+runs_below blocks order frames low high is some = subst (λ (f : ℕ). 512 * blocks / f < 128 * blocks) (sym is) (few_runs order low high blocks some)
 
-  pub run_of_all : count ≡ 512 → all_from p first m ≡ true
-  run_of_all all =
-      sym (all_members p first m (λ k inside. let at = in_run_is first m k inside in all_pass p (512 * (first / 512)) 512 (eq-eqb _ 512 (sym here ∙ all)) k (is_in_run (512 * (first / 512)) 512 k (omega (arith, at.0)) (omega (arith, at.1, within)))))
-
-  pub no_run_of_few : count < m → all_from p first m ≡ false
-  no_run_of_few few = same_by (all_from p first m) false
-      (λ e. let rest = λ (k : ℕ). not (in_run first m k) && p k in
-      let more = block_more rest p first m within (takes_run p rest first m (all_pass p first m e) (λ k. refl)) in
-      absurd (omega (arith, more, here, few)))
-      (λ e. cc)
-
--- the search for a run, one multiple after another
+-- the lowest of the blocks of an order
 module _ (p : ℕ → Bool) (blocks order frames : ℕ) (low : 3 ≤ order) (high : order ≤ 9) (is : frames ≡ 2 ^ order) where
-  pub multiple_aligned : (run : ℕ) → is_aligned order (run * frames) ≡ true
-  multiple_aligned run = ap (λ f. is_aligned order (run * f)) is ∙ run_aligned order low high run
-
-  pub multiple_within : (run : ℕ) → run < 512 * blocks / frames → run * frames + 2 ^ order ≤ 512 * blocks
-  multiple_within run = subst (λ (f : ℕ). run < 512 * blocks / f → run * f + 2 ^ order ≤ 512 * blocks) (sym is) (run_within order low high blocks run)
-
-  pub multiple_is_run : (run : ℕ) → all_from p (run * frames) (2 ^ order) ≡ true → is_run_of p order (run * frames) ≡ true
-  multiple_is_run run all = λ i. multiple_aligned run i && all i
-
   no_run_between : (run k : ℕ) → all_from p (run * frames) (2 ^ order) ≡ false → run * frames ≤ k → k < (run + 1) * frames → is_run_of p order k ≡ false
   no_run_between run k fails from to =
       no_run_here p order (run * frames) k (is_aligned order k) refl
       (subst (λ (f : ℕ). run * f ≤ k → k < (run + 1) * f → is_aligned order k ≡ true → k ≡ run * f) (sym is) (first_of_run order low high run k) from to) fails
 
-  pub no_run_more : (run : ℕ) → all_from p (run * frames) (2 ^ order) ≡ false → ((k : ℕ) → k < run * frames → is_run_of p order k ≡ false) → (k : ℕ) → k < (run + 1) * frames → is_run_of p order k ≡ false
-  no_run_more run fails before k h = elim (leb_tells (run * frames) k) [
-    | inl from ↦ no_run_between run k fails from.1 h
-    | inr under ↦ before k under.1
-  ]
+  no_run_below : (run : ℕ) → ((k : ℕ) → k < run → all_from p (k * frames) (2 ^ order) ≡ false) → (k : ℕ) → k < run * frames → is_run_of p order k ≡ false
+  no_run_below run fails k under =
+      let at = subst (λ (f : ℕ). k < run * f → (k / f < run) × (k / f * f ≤ k) × (k < (k / f + 1) * f)) (sym is) (run_of order low high run k) under in
+      no_run_between (k / frames) k (fails (k / frames) at.0) at.1 at.2
 
-  pub no_run : (run : ℕ) → 512 * blocks / frames ≤ run → ((k : ℕ) → k < run * frames → is_run_of p order k ≡ false) → lowest (is_run_of p order) (512 * blocks) ≡ None
-  no_run run end before =
-      let all : 512 * blocks ≤ run * frames = subst (λ (f : ℕ). 512 * blocks / f ≤ run → 512 * blocks ≤ run * f) (sym is) (runs_end order low high blocks run) end in
-      lowest_none (is_run_of p order) (512 * blocks) (λ k h. before k (omega (arith, h, all)))
+  pub no_run : ((k : ℕ) → k < 512 * blocks / frames → all_from p (k * frames) (2 ^ order) ≡ false) → lowest (is_run_of p order) (512 * blocks) ≡ None
+  no_run fails =
+      let all : 512 * blocks ≤ 512 * blocks / frames * frames = subst (λ (f : ℕ). 512 * blocks ≤ 512 * blocks / f * f) (sym is) (runs_end order low high blocks (512 * blocks / 2 ^ order) (omega arith)) in
+      lowest_none (is_run_of p order) (512 * blocks) (λ k h. no_run_below (512 * blocks / frames) fails k (omega (arith, h, all)))
 
-  pub run_lowest : (run : ℕ) → run * frames < 512 * blocks → all_from p (run * frames) (2 ^ order) ≡ true → ((k : ℕ) → k < run * frames → is_run_of p order k ≡ false) → lowest (is_run_of p order) (512 * blocks) ≡ Some (run * frames)
-  run_lowest run within all before = lowest_is (is_run_of p order) (512 * blocks) (run * frames) within (multiple_is_run run all) before
+  pub run_lowest : (run : ℕ) → run < 512 * blocks / frames → all_from p (run * frames) (2 ^ order) ≡ true → ((k : ℕ) → k < run → all_from p (k * frames) (2 ^ order) ≡ false) → lowest (is_run_of p order) (512 * blocks) ≡ Some (run * frames)
+  run_lowest run within all fails =
+      let inside : run * frames + 2 ^ order ≤ 512 * blocks = subst (λ (f : ℕ). run < 512 * blocks / f → run * f + 2 ^ order ≤ 512 * blocks) (sym is) (run_within order low high blocks run) within in
+      let first : is_aligned order (run * frames) ≡ true = ap (λ f. is_aligned order (run * f)) is ∙ run_aligned order low high run in
+      lowest_is (is_run_of p order) (512 * blocks) (run * frames) (omega (arith, inside, some_frames order low high)) (λ i. first i && all i) (no_run_below run fails)
+
+  -- their numbers stand together, after those of the larger ones
+  module _ (c : ℕ → Bool) (has : (run : ℕ) → run < 512 * blocks / 2 ^ order → c (512 * blocks / 2 ^ order + run) ≡ all_from p (run * 2 ^ order) (2 ^ order)) where
+    whole_as_member : (run : ℕ) → run < 512 * blocks / frames → all_from p (run * frames) (2 ^ order) ≡ c (512 * blocks / frames + run)
+    whole_as_member = subst (λ (f : ℕ). (run : ℕ) → run < 512 * blocks / f → all_from p (run * f) (2 ^ order) ≡ c (512 * blocks / f + run)) (sym is) (λ run within. sym (has run within))
+
+    pub no_member : (number : ℕ) → 512 * blocks / frames + 512 * blocks / frames ≤ number → ((k : ℕ) → 512 * blocks / frames ≤ k → k < number → c k ≡ false) → lowest (is_run_of p order) (512 * blocks) ≡ None
+    no_member number most none = no_run (λ run within. whole_as_member run within ∙ none (512 * blocks / frames + run) (omega arith) (omega (arith, within, most)))
+
+    pub first_member : (number : ℕ) → 512 * blocks / frames ≤ number → number - 512 * blocks / frames < 512 * blocks / frames → c number ≡ true → ((k : ℕ) → 512 * blocks / frames ≤ k → k < number → c k ≡ false) → lowest (is_run_of p order) (512 * blocks) ≡ Some ((number - 512 * blocks / frames) * frames)
+    first_member number least within member none =
+        let at : 512 * blocks / frames + (number - 512 * blocks / frames) ≡ number = omega (arith, least) in
+        run_lowest (number - 512 * blocks / frames) within (whole_as_member (number - 512 * blocks / frames) within ∙ ap c at ∙ member)
+        (λ k h. whole_as_member k (omega (arith, h, within)) ∙ none (512 * blocks / frames + k) (omega arith) (omega (arith, h, at)))

@@ -1,6 +1,7 @@
 pub mod Counting
 pub mod Found
 pub mod FrameSets
+pub mod HeapSteps
 pub mod Masking
 pub mod Numbering
 pub mod Orders
@@ -12,4 +13,5 @@ pub mod SetSteps
 pub mod Sounding
 pub mod Spanning
 pub mod Steps
+pub mod WholeRuns
 pub mod Wholes

@@ -51,3 +51,12 @@ module _ (order : ℕ) (low : 3 ≤ order) (high : order ≤ 9) where
   pub runs_end : (blocks run : ℕ) → 512 * blocks / 2 ^ order ≤ run → 512 * blocks ≤ run * 2 ^ order
   runs_end blocks run = by_order (λ o. 512 * blocks / 2 ^ o ≤ run → 512 * blocks ≤ run * 2 ^ o)
       (λ e. omega (arith, e)) (λ e. omega (arith, e)) (λ e. omega (arith, e)) (λ e. omega (arith, e)) (λ e. omega (arith, e)) (λ e. omega (arith, e)) (λ e. omega (arith, e)) order low high
+
+  -- the block that has a frame
+  pub run_of : (run k : ℕ) → k < run * 2 ^ order → (k / 2 ^ order < run) × (k / 2 ^ order * 2 ^ order ≤ k) × (k < (k / 2 ^ order + 1) * 2 ^ order)
+  run_of run k = by_order (λ o. k < run * 2 ^ o → (k / 2 ^ o < run) × (k / 2 ^ o * 2 ^ o ≤ k) × (k < (k / 2 ^ o + 1) * 2 ^ o))
+      (λ e. (omega (arith, e), omega arith, omega arith)) (λ e. (omega (arith, e), omega arith, omega arith)) (λ e. (omega (arith, e), omega arith, omega arith)) (λ e. (omega (arith, e), omega arith, omega arith))
+      (λ e. (omega (arith, e), omega arith, omega arith)) (λ e. (omega (arith, e), omega arith, omega arith)) (λ e. (omega (arith, e), omega arith, omega arith)) order low high
+
+  pub few_runs : (blocks : ℕ) → 0 < blocks → 512 * blocks / 2 ^ order < 128 * blocks
+  few_runs blocks some = by_order (λ o. 512 * blocks / 2 ^ o < 128 * blocks) (omega (arith, some)) (omega (arith, some)) (omega (arith, some)) (omega (arith, some)) (omega (arith, some)) (omega (arith, some)) (omega (arith, some)) order low high

@@ -1,6 +1,6 @@
 -- The fields of the frames stay sound through each change.
 use Rattle.std.proofs.Common.{◌≡◌, ℕ, ◌+◌, ◌-◌, ◌*◌, ◌/◌, ◌%◌, ◌^◌, ◌<◌, ◌≤◌, Bool, true, false, not, List, length, length-set, inl, inr, refl, sym, ap, ◌∙◌, eq-eqb, replicate, slice_index, get_or, subst, arith}
-use Rattle.std.specs.Prelude.{zero, suc, Option, Some, None, unwrap_or, nat_eq, nat_le, nat_lt, slice_get, slice_set, if◌then◌else◌, ◌&&◌, ◌||◌}
+use Rattle.std.specs.Prelude.{Option, Some, None, unwrap_or, nat_eq, nat_le, nat_lt, slice_get, slice_set, if◌then◌else◌, ◌&&◌, ◌||◌}
 use Rattle.std.specs.FinSet as set
 use Rattle.std.specs.Ordering.{nat_cmp}
 use Rattle.std.proofs.lemmas.Bool.{leb-true, ne_eqb, lt-ltb, le-ltb}
@@ -472,15 +472,6 @@ module _ {L : ℕ} {now : Frames} (z : Inside L) (sound : IsSound z) (view : fra
     block_released held free stuck here huge held_each held_same free_each free_same recounts =
         let next = sound_released z sound held free stuck first (2 ^ order) (block_within here) (one_block order low high first (block_aligned here)) (some_frames order low high) (λ n inside. seen_test z sound view n is_huge_state (all_pass (huge_at now.states) first (2 ^ order) huge n inside)) held_each held_same free_each free_same recounts in
         (next.0, next.1 ∙ ap (λ (frames : Frames). with_run frames.states first (2 ^ order) Free) view)
-
--- so many frames at most have a number in sets of 4 levels at most
-pub most_of_levels : (levels n : ℕ) → levels ≤ 4 → n ≤ 64 ^ levels → n ≤ 16777216
-most_of_levels zero n few most = let one : n ≤ 1 = most in omega (arith, one)
-most_of_levels (suc zero) n few most = let all : n ≤ 64 = most in omega (arith, all)
-most_of_levels (suc (suc zero)) n few most = let all : n ≤ 4096 = most in omega (arith, all)
-most_of_levels (suc (suc (suc zero))) n few most = let all : n ≤ 262144 = most in omega (arith, all)
-most_of_levels (suc (suc (suc (suc zero)))) n few most = most
-most_of_levels (suc (suc (suc (suc (suc more))))) n few most = absurd (omega (arith, few))
 
 -- the frames of a zone in which all are free
 pub sound_free : {L : ℕ} (z : Inside L) (blocks : ℕ) → 0 < blocks → blocks ≤ 32768 → 512 * blocks ≤ 64 ^ L → z.kept.items ≡ replicate (512 * blocks) Free → z.movable.items ≡ replicate (512 * blocks) false → z.held.members ≡ set.empty → 512 * blocks ≤ z.held.bound → ((n : ℕ) → set.contains z.free.members n ≡ nat_lt n (512 * blocks)) → z.free.bound ≡ 512 * blocks → z.candidates.sources.members ≡ set.empty → 512 * blocks ≤ z.candidates.sources.bound → z.candidates.stuck ≡ replicate blocks 0 → IsSound z × (seen z.held.members z.kept.items ≡ replicate (512 * blocks) Free)

@@ -8,3 +8,4 @@ pub mod Pairs
 pub mod Runs
 pub mod Seen
 pub mod Sound
+pub mod WholeRuns

@@ -22,7 +22,6 @@ impl<const L: usize> Candidates<L> {
     pub(crate) fn open(alloc: Global, blocks: u32) -> Result<Self, AllocError>
         requires levels { (2 ≤ L) × (L ≤ 4) }
         requires room { 512 * blocks ≤ 64 ^ L }
-        requires few { blocks ≤ 32768 }
         ensures sources { IfOk result (λ c. c.sources.members ≡ set.empty) }
         ensures room { IfOk result (λ c. 512 * blocks ≤ c.sources.bound) }
         ensures stuck { IfOk result (λ c. c.stuck ≡ replicate blocks 0) }

@@ -5,20 +5,22 @@ ghost use Rattle.std.specs.FinSet as set;
 ghost use Rattle.frame_core.specs.Below.{count_below, lowest};
 ghost use Rattle.frame_core.specs.Order.{is_aligned};
 ghost use Rattle.scan_core.specs.FrameSet.{all_of_block, is_run_of};
-ghost use Rattle.scan_core.specs.NumberSet.{all_from, in_run};
+ghost use Rattle.scan_core.specs.NumberSet.{in_run};
 
 use crate::frame_counts::FrameCounts;
+use crate::whole_runs::WholeRuns;
 use frame_core::{FrameNo, Order};
 use number_set::NumberSet;
 use std::alloc::{AllocError, Global};
 use std::marker::Model;
 
-/// A set of frames, and how many frames it has in all and in each pageblock.
+/// A set of frames, how many frames it has in all and in each pageblock, and the blocks of each order that it has whole.
 #[derive(Drop)]
 pub(crate) struct FrameSet<const L: usize> {
     numbers: NumberSet<L>,
     count: u32,
     blocks: FrameCounts,
+    runs: WholeRuns<L>,
 }
 
 impl<const L: usize> Model for FrameSet<L> {
@@ -39,18 +41,20 @@ impl<const L: usize> FrameSet<L> {
     /// The set of all frames of this many pageblocks, or an error where there is no memory for it.
     pub(crate) fn full(alloc: Global, blocks: u32) -> Result<Self, AllocError>
         requires levels { (2 ≤ L) × (L ≤ 4) }
+        requires some { 0 < blocks }
         requires room { 512 * blocks ≤ 64 ^ L }
-        requires few { 512 * blocks ≤ 16777216 }
         ensures members { IfOk result (λ s. (frame : ℕ) → set.contains s.members frame ≡ nat_lt frame (512 * blocks)) }
         ensures bound { IfOk result (λ s. s.bound ≡ 512 * blocks) }
     {
         let count = 512 * blocks;
         let numbers = NumberSet::filled(alloc, count)?;
+        let runs = WholeRuns::full(alloc, blocks)?;
         let blocks = FrameCounts::full(alloc, blocks)?;
         Ok(FrameSet {
             numbers,
             count,
             blocks,
+            runs,
         })
     }
 
@@ -81,6 +85,7 @@ impl<const L: usize> FrameSet<L> {
         self.numbers.insert(frame.get());
         self.count += 1;
         self.blocks.more(frame.get() / 512, 1);
+        self.runs.insert_frame(&self.numbers, frame.get());
     }
 
     /// Takes out a frame that is a member.
@@ -89,6 +94,7 @@ impl<const L: usize> FrameSet<L> {
         requires member { set.contains self.old.members frame ≡ true }
         ensures { self.new ≡ record self.old { members = set.remove self.old.members frame } }
     {
+        self.runs.remove_frame(&self.numbers, frame.get());
         self.numbers.remove(frame.get());
         self.count -= 1;
         self.blocks.fewer(frame.get() / 512, 1);
@@ -106,6 +112,7 @@ impl<const L: usize> FrameSet<L> {
         self.numbers.insert_run(first.get(), order.get());
         self.count += frames;
         self.blocks.more(first.get() / 512, frames);
+        self.runs.insert(first.get(), order.get());
     }
 
     /// Takes out the frames of a block of this order, all of which are members.
@@ -120,6 +127,7 @@ impl<const L: usize> FrameSet<L> {
         self.numbers.remove_run(first.get(), order.get());
         self.count -= frames;
         self.blocks.fewer(first.get() / 512, frames);
+        self.runs.remove(first.get(), order.get());
     }
 
     /// How many frames the set has.
@@ -144,27 +152,11 @@ impl<const L: usize> FrameSet<L> {
         self.blocks.whole()
     }
 
-    /// The first frame of the lowest block of this order whose frames are all members, if there is one.
+    /// The first frame of the lowest block of this order whose frames are all members, if there is one. It looks at two words of each
+    /// level of a set at most.
     pub(crate) fn first_run(&self, order: Order) -> Option<FrameNo>
         ensures { result ≡ lowest (is_run_of (set.contains self.now.members) order) self.now.bound }
     {
-        let frames = order.frames();
-        for run in 0..512 * self.blocks.len() / frames {
-            let first = run * frames;
-            if self.has_run(first, order) {
-                return FrameNo::in_any_zone(first);
-            }
-        }
-        None
-    }
-
-    /// Whether all frames of a block of this order are members. In most cases the count of its pageblock is enough to tell.
-    fn has_run(&self, first: u32, order: Order) -> bool
-        requires aligned { is_aligned order first ≡ true }
-        requires within { first + 2 ^ order ≤ self.now.bound }
-        ensures { result ≡ all_from (set.contains self.now.members) first (2 ^ order) }
-    {
-        let count = self.blocks.get(first / 512);
-        count == 512 || (count >= order.frames() && self.numbers.has_run(first, order.get()))
+        FrameNo::in_any_zone(self.runs.first(order)?)
     }
 }

@@ -224,7 +224,8 @@ impl<const L: usize> Frames<L> {
         }
     }
 
-    /// The first frame of the lowest free block of an order, if there is one.
+    /// The first frame of the lowest free block of an order, if there is one. However many frames there are, it looks at two words of
+    /// each level of a set at most.
     pub fn first_run(&self, order: Order) -> Option<FrameNo>
         ensures lowest { result ≡ first_run self.now.states order }
         ensures run { IfSome result (λ first. is_run self.now.states order first ≡ true) }

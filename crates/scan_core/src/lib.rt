@@ -13,6 +13,7 @@ mod frames;
 mod lists;
 mod pair;
 mod scanners;
+mod whole_runs;
 
 pub use blocks::{BlockCounts, first_whole, whole_blocks};
 pub use fingers::{Fingers, Step};
@@ -20,5 +21,5 @@ pub use frames::Frames as FramesOf;
 pub use lists::first_run;
 pub use pair::next_pair;
 
-/// The frames of a zone of eight pageblocks at most.
-pub type Frames = FramesOf<2>;
+/// The frames of a zone, of 32,768 pageblocks at most.
+pub type Frames = FramesOf<4>;

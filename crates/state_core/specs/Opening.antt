@@ -5,9 +5,9 @@ use Rattle.state_core.specs.ZoneState.{ZoneState}
 use Rattle.std.specs.FinMap as map
 use Rattle.std.specs.FinSet as set
 
--- a zone may have this many pageblocks: 1 to 8
+-- a zone may have this many pageblocks: 1 to 32768
 abbrev pub IsSize : ℕ → Type 0
-IsSize blocks = (0 < blocks) × (blocks ≤ 8)
+IsSize blocks = (0 < blocks) × (blocks ≤ 32768)
 
 -- a zone may be opened with this many pageblocks and places in a journal that is kept: 1 to 8, and 1 to 65,536
 abbrev pub IsOpenable : ℕ → ℕ → Type 0

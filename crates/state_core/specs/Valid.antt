@@ -85,8 +85,8 @@ pub record HasValidFingers (z : ZoneState) : Type 0 where
 
 -- what is true of every zone
 pub record IsValidZone (z : ZoneState) : Type 0 where
-  -- a zone has 1 to 8 pageblocks
-  pub size : (0 < z.blocks) × (z.blocks ≤ 8)
+  -- a zone has 1 to 32768 pageblocks
+  pub size : (0 < z.blocks) × (z.blocks ≤ 32768)
   pub journal : HasValidJournal z.records z.room
   pub agrees : AgreesWithJournal z.records z.placement z.handed_out z.marked
   pub pages : HasValidPages z.placement z.unmovable (frame_count z) (is_held z)

@@ -52,6 +52,7 @@ impl Tables {
     }
 
     /// What an address names: nothing, if it is outside of the table.
+    #[inline(always)]
     pub fn entry(&self, address: Address) -> Entry
         ensures value { result ≡ entry_at self.now.entries address }
         ensures range { InRange address }
@@ -78,6 +79,7 @@ impl Tables {
 
     /// Makes an absent address of the table name the page in a frame. `has_room` has to be true of the frame, and no address
     /// may name a page that left it.
+    #[inline(always)]
     pub fn set(&mut self, address: Address, frame: FrameNo)
         requires inside { InRange address → InTable self.old.entries.size.spaces self.old.entries.size.pages address }
         requires absent { entry_at self.old.entries address ≡ Entry.Absent }

@@ -10,6 +10,7 @@ mod Evacuating
 mod HandingOut
 mod InTurn
 mod MadeAs
+mod MaximalRuns
 pub mod Moves
 mod OneThread
 pub mod Packed

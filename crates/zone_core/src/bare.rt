@@ -29,9 +29,9 @@ use std::alloc::Global;
 use std::marker::Model;
 use zone_tables::ZoneTables;
 
-/// A zone of 1 to 8 pageblocks, whose pages have `W` words, 65,536 at most. It has no ledgers, so its type doesn't name its opening, and its
-/// calls take no seats: it is for programs in which one thread moves pages. What is said of refusals, of memory and of the two kinds of journal
-/// at `ZoneOf` holds here too.
+/// A zone of 1 to 32,768 pageblocks, whose pages have `W` words, 65,536 at most. It has no ledgers, so its type doesn't name its opening,
+/// and its calls take no seats: it is for programs in which one thread moves pages. What is said of refusals, of memory and of the two
+/// kinds of journal at `ZoneOf` holds here too.
 pub struct BareZone<const W: usize> {
     tables: Box<ZoneTables<W>>,
     // A page has at most 65,536 words.
@@ -59,6 +59,9 @@ impl<const W: usize> Model for BareZone<W> {
     ghost invariant = { λ z. IsValidZone z.tables.value };
 }
 
+/// The pageblocks of the largest zone: 2^24 frames.
+const MOST_BLOCKS: u32 = 32768;
+
 impl<const W: usize> BareZone<W> {
     /// An empty zone with this many pageblocks and this many places in its journal.
     ///
@@ -83,10 +86,10 @@ impl<const W: usize> BareZone<W> {
         Ok(BareZone { tables })
     }
 
-    /// An empty zone whose journal is unrecorded, as `open` gives one whose journal is kept. The records exist in the proofs alone, and
+    /// An empty zone of any size whose journal is unrecorded, as `open` gives one whose journal is kept. The records exist in the proofs alone, and
     /// there is room for 2^53. A zone isolates at most 2^32 - 1 pages in its life.
     ///
-    /// Refused as Range unless there are 1 to 8 pageblocks, else as Memory where there isn't enough.
+    /// Refused as Range unless there are 1 to 32,768 pageblocks, else as Memory where there isn't enough.
     pub fn open_unrecorded(
         alloc: Global,
         number: ZoneNo,
@@ -98,7 +101,7 @@ impl<const W: usize> BareZone<W> {
         ensures zone { IfOk result (λ zone. zone ≡ opened_unrecorded W number blocks) }
         ensures valid { IfOk result (λ zone. IsValidZone zone) }
     {
-        if blocks < 1 || blocks > 8 {
+        if blocks < 1 || blocks > MOST_BLOCKS {
             return Err(ZoneError::Range);
         }
         let tables = ZoneTables::open_unrecorded(alloc, number, blocks)?;
@@ -156,7 +159,7 @@ impl<const W: usize> BareZone<W> {
         self.tables.page_words()
     }
 
-    /// How many pageblocks the zone has, 1 to 8.
+    /// How many pageblocks the zone has, 1 to 32,768.
     pub fn blocks(&self) -> u32
         ensures blocks { result ≡ self.now.blocks }
         ensures valid { IsValidZone self.now }

@@ -25,7 +25,7 @@ use std::alloc::Global;
 use std::marker::Model;
 use std::sync::ledger::{Book, Ledger};
 
-/// A zone of 1 to 8 pageblocks, whose pages have `W` words: a bare zone with its ledgers. Its type parameters name its opening: the
+/// A zone of 1 to 32,768 pageblocks, whose pages have `W` words: a bare zone with its ledgers. Its type parameters name its opening: the
 /// ledgers of the pages that are isolated, moved and put back. After `open` no call takes memory.
 ///
 /// Each call says what it may be refused as, in the order of the tests. A refused call leaves the zone as it was. JournalFull
@@ -95,7 +95,7 @@ impl<const W: usize, I: Ledger, M: Ledger, B: Ledger> Zone<W, I, M, B> {
     /// An empty zone whose journal is unrecorded, as `open` gives one whose journal is kept. The records exist in the proofs alone, and
     /// there is room for 2^53. A zone isolates at most 2^32 - 1 pages in its life.
     ///
-    /// Refused as Range unless there are 1 to 8 pageblocks, else as Memory where there isn't enough.
+    /// Refused as Range unless there are 1 to 32,768 pageblocks, else as Memory where there isn't enough.
     pub fn open_unrecorded<N: Ledger>(
         alloc: Global,
         number: ZoneNo,
@@ -273,7 +273,7 @@ impl<const W: usize, I: Ledger, M: Ledger, B: Ledger> Zone<W, I, M, B> {
         self.bare.number()
     }
 
-    /// How many pageblocks the zone has, 1 to 8.
+    /// How many pageblocks the zone has, 1 to 32,768.
     pub fn blocks(&self) -> u32
         ensures blocks { result ≡ self.now.blocks }
         ensures valid { IsValidZone self.now }

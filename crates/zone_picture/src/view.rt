@@ -11,7 +11,7 @@ use zone_core::{Info, Zone};
 /// A pageblock as it is drawn: its number, what each of its 512 frames is used for, and whether it is marked.
 #[derive(Drop, PartialEq)]
 pub struct Pageblock {
-    pub number: u8,
+    pub number: u16,
     pub cells: Vec<Cell>,
     pub marked: bool,
 }
@@ -33,7 +33,7 @@ impl View {
         let mut blocks = Vec::new(alloc);
         for number in 0..frames.blocks() {
             blocks.push(Pageblock {
-                number: number as u8,
+                number: number as u16,
                 cells: cells_of(alloc, frames, number)?,
                 marked: is_marked(zone, number),
             })?;
@@ -62,7 +62,7 @@ impl Pageblock {
 
 /// What each frame of a pageblock is used for.
 fn cells_of(alloc: Global, frames: &Frames, block: u32) -> Result<Vec<Cell>, AllocError>
-    requires { block < 8 }
+    requires { block < 32768 }
     ensures { IfOk result (λ cells. cells.items ≡ cells_of frames.now block) }
 {
     let first = 512 * block;
@@ -76,7 +76,7 @@ fn cell_at(frames: &Frames, number: u32) -> Cell
     ensures { result ≡ cell_at frames.now number }
 {
     let count = frames.len();
-    match FrameNo::new(number) {
+    match FrameNo::in_any_zone(number) {
         Some(frame) if number < count => { Cell::of(frames.state(frame), frames.movable(frame)) }
         _ => Cell::Free,
     }
@@ -84,7 +84,7 @@ fn cell_at(frames: &Frames, number: u32) -> Cell
 
 /// Whether a pageblock is marked.
 fn is_marked<I: Ledger, M: Ledger, B: Ledger>(zone: &Zone<I, M, B>, block: u32) -> bool {
-    BlockNo::new(block)
+    BlockNo::in_any_zone(block)
         .and_then(|block| zone.marked(block))
         .unwrap_or(false)
 }

@@ -129,6 +129,7 @@ module _ {W : ℕ} (z : Inside W) (v : ZoneState) (sound : IsSound z v) (view : 
     frames = held_states;
     tables = sound.tables;
     size = sound.size;
+    marks = sound.marks;
     entries = record { each = sound.entries.each };
     words = record { count = sound.words.count; sized = sound.words.sized; each = sound.words.each };
     notes = record { count = sound.notes.count; each = λ page note e used. (let fit = sound.notes.each page note e used in record { dirty = fit.dirty; pins = fit.pins; maps = fit.maps }) };
@@ -219,6 +220,7 @@ module _ {W : ℕ} (z : Inside W) (v : ZoneState) (sound : IsSound z v) (view : 
     frames = freed_states;
     tables = sound.tables;
     size = sound.size;
+    marks = sound.marks;
     entries = record { each = sound.entries.each };
     words = record { count = sound.words.count; sized = sound.words.sized; each = sound.words.each };
     notes = record { count = sound.notes.count; each = λ page note e used. (let fit = sound.notes.each page note e used in record { dirty = fit.dirty; pins = fit.pins; maps = fit.maps }) };

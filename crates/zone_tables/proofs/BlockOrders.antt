@@ -100,7 +100,7 @@ module _ (z : Inside) (counted : IsCounted z) (first order : ℕ) (can : CanTake
     frames = omega (arith, counted.frames, more_frames old taken first order one_taken same_taken within_taken can.clear);
   }
 
-  pub taken_few : (z.blocks + 1 ≤ 4096) × (z.frames + 2 ^ order ≤ 4096)
+  pub taken_few : (z.blocks + 1 ≤ 16777216) × (z.frames + 2 ^ order ≤ 16777216)
   taken_few =
       let after = taken_counted in
       (omega (arith, after.few, after.blocks, count_most (λ q. is_some (order_of taken q)) (length taken)), omega (arith, after.few, after.frames, count_most (held_at taken) (length taken)))

@@ -1,12 +1,13 @@
 -- Lists of copies.
 use Rattle.std.proofs.Common.{◌≡◌, ℕ, false, replicate, ◌⊎◌, inl, inr, ap}
-use Rattle.std.specs.Prelude.{Option, Some, None, slice_get}
+use Rattle.std.specs.Prelude.{Bool, Option, Some, None, slice_get, unwrap_or}
 use Rattle.std.specs.Option.{option_and_then}
 use Rattle.std.proofs.lemmas.Option.{slice_get_past}
 use Rattle.std.proofs.lemmas.List.{length-replicate}
 use Rattle.std.proofs.lemmas.Bool.Decides.{leb_tells}
 use Rattle.frame_core.proofs.Lists.{slice_get_replicate}
 use Rattle.zone_tables.specs.declared.note.PageNote.{PageNote}
+use Rattle.scan_core.specs.Frames.{true_at}
 use Rattle.zone_tables.specs.HandedOut.{order_of}
 use Rattle.zone_tables.specs.Notes.{unused_note, placement_of, is_unmovable_of, says_unmovable}
 
@@ -26,3 +27,6 @@ all_movable n page = elim (copies n page unused_note) [ inl e ↦ ap says_unmova
 
 pub no_order : (n first : ℕ) → order_of (replicate n None) first ≡ None
 no_order n first = elim (copies n first None) [ inl e ↦ ap (option_and_then (λ (order : Option ℕ). order)) e | inr e ↦ ap (option_and_then (λ (order : Option ℕ). order)) e ]
+
+pub all_false : (n place : ℕ) → true_at (replicate n false) place ≡ false
+all_false n place = elim (copies n place false) [ inl e ↦ ap (λ (o : Option Bool). unwrap_or o false) e | inr e ↦ ap (λ (o : Option Bool). unwrap_or o false) e ]

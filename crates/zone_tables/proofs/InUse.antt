@@ -1,6 +1,6 @@
 -- Which page numbers are in use by their notes, and how many, when one note changes.
 use Rattle.std.proofs.Common.{◌≡◌, ◌≢◌, ℕ, ◌+◌, ◌-◌, ◌<◌, Bool, true, false, not, List, length, inl, inr, refl, sym, ap, ◌∙◌, arith}
-use Rattle.std.specs.Prelude.{Option, Some, None, is_some, is_none, nat_eq, nat_lt, slice_set, ◌&&◌, if◌then◌else◌}
+use Rattle.std.specs.Prelude.{Option, Some, None, is_some, is_none, nat_eq, nat_lt, slice_get, slice_set, slice_index_or, ◌&&◌, if◌then◌else◌}
 use Rattle.std.specs.FinSet as set
 use Rattle.number_set.specs.Numbers.{Numbers}
 use Rattle.std.specs.Option.{option_and_then}
@@ -8,7 +8,7 @@ use Rattle.frame_core.specs.FixedVec.{with_item}
 use Rattle.std.proofs.lemmas.Bool.{lt-ltb, and_right}
 use Rattle.std.proofs.lemmas.Bool.Decides.{eqb_tells}
 use Rattle.std.proofs.lemmas.List.{length-set}
-use Rattle.std.proofs.lemmas.Option.{slice_get_cases}
+use Rattle.std.proofs.lemmas.Option.{slice_get_cases, slice_get_read}
 use Rattle.frame_core.proofs.Lists.{slice_get_set_same, slice_get_set_other}
 use Rattle.frame_core.proofs.Searches.{count_more, count_same}
 use Rattle.frame_core.specs.Below.{count_below}
@@ -24,6 +24,17 @@ in_use_within notes page used = elim (slice_get_cases notes page).1 [
   | inl here ↦ here.1
   | inr past ↦ (let none : is_in_use notes page ≡ false = ap (λ o. is_some (option_and_then (λ (n : PageNote). n.placement) o)) past.1 in cc)
 ]
+
+-- what is read of the note of a page in use
+module _ {items notes : List PageNote} (view : items ≡ notes) {number page : ℕ} (at : number ≡ page) (used : is_in_use notes page ≡ true) where
+  pub used_here : is_in_use items number ≡ true
+  used_here = (λ i. is_in_use (view i) (at i)) ∙ used
+
+  pub note_here : {read : PageNote} → read ≡ slice_index_or items number read → slice_get items number ≡ Some read
+  note_here {read} is = slice_get_read items (length items) number read refl (in_use_within items number used_here) is
+
+  pub note_read : {read : PageNote} → read ≡ slice_index_or items number read → {note : PageNote} → slice_get notes page ≡ Some note → read ≡ note
+  note_read {read} is {note} found = let both : Some read ≡ Some note = sym (note_here is) ∙ (λ i. slice_get (view i) (at i)) ∙ found in cc
 
 some_not_none : (placement : Option Placement) → is_some placement ≡ true → is_none placement ≡ false
 some_not_none (Some placement) e = refl
@@ -106,3 +117,8 @@ placed_counted z counted page note used placed =
         | inl here ↦ (ap (set.contains z.unused.members) here.1 ∙ absent ∙ sym (ap (λ b. if b then false else set.contains z.unused.members q) here.0))
         | inr away ↦ sym (ap (λ b. if b then false else set.contains z.unused.members q) away.0)
       ]
+
+-- the note of a page in use changes, and the page stays where it is
+pub changed_counted : (z : Inside) → IsCounted z → (page : ℕ) → is_in_use z.notes.items page ≡ true → {note : PageNote} → slice_get z.notes.items page ≡ Some note → (changed : PageNote) → changed.placement ≡ note.placement → IsCounted (record z { notes = with_item z.notes page changed })
+changed_counted z counted page used is changed same =
+    placed_counted z counted page changed used (ap is_some same ∙ sym (ap (λ o. is_some (option_and_then (λ (n : PageNote). n.placement) o)) is) ∙ used)

@@ -47,6 +47,7 @@ loaded_sound z v sound history client address frame word at spare = record {
   cleared = sound.cleared;
   tables = sound.tables;
   size = sound.size;
+  marks = sound.marks;
   frames = record { count = sound.frames.count; of_page = sound.frames.of_page; of_block = sound.frames.of_block; of_none = sound.frames.of_none };
   entries = record { each = sound.entries.each };
   words = record { count = sound.words.count; sized = sound.words.sized; each = sound.words.each };
@@ -150,7 +151,6 @@ pub record Resident {W : ℕ} (z : Inside W) (v : ZoneState) (address : Address)
   pub held : holder v frame ≡ Some page
   pub within : frame < frame_count v
   pub row_within : frame < length z.words
-  pub note_within : page < length z.notes
 
 module _ {W : ℕ} {z : Inside W} {v : ZoneState} (view : state_of z ≡ v) (invariant : IsSound z (state_of z)) {address : Address} {frame : ℕ} (at : placement_at v address ≡ Some (At frame)) where
   pub resident : (page : ℕ) × Resident z v address frame page
@@ -167,7 +167,6 @@ module _ {W : ℕ} {z : Inside W} {v : ZoneState} (view : state_of z ≡ v) (inv
           held = holder_at v sound.valid page.0 frame page.2;
           within = within;
           row_within = omega (arith, within, sound.words.count);
-          note_within = omega (arith, sound.valid.pages.numbered page.0 used, sound.notes.count);
         },
       )
 
@@ -214,6 +213,7 @@ store_sound z v client address page frame word value note history known =
       cleared = sound.cleared;
       tables = sound.tables;
       size = sound.size;
+      marks = sound.marks;
       frames = record { count = sound.frames.count; of_page = sound.frames.of_page; of_block = sound.frames.of_block; of_none = sound.frames.of_none };
       entries = record { each = sound.entries.each };
       words = stored_words z.words v sound.valid sound.words client address page frame word value known.named known.at known.small;

@@ -5,6 +5,7 @@ use Rattle.std.specs.Prelude.{Option, slice_set, slice_index_or, unwrap_or, if�
 use Rattle.std.proofs.lemmas.List.{length-set}
 use Rattle.std.proofs.lemmas.Option.{slice_get_past}
 use Rattle.frame_core.specs.declared.record.Record.TheVariants.{Mark, Unmark}
+use Rattle.frame_core.specs.FixedVec.{with_item}
 use Rattle.frame_core.specs.Moves.{out}
 use Rattle.zone_tables.specs.declared.zone.ZoneTables.TheInside.{Inside}
 use Rattle.zone_tables.specs.History.{History, told}
@@ -18,25 +19,27 @@ use Rattle.zone_tables.proofs.HeldWords.{flag_here, flag_there}
 use Rattle.scan_core.specs.NumberSet.{gathered}
 use Rattle.zone_tables.proofs.Facts.{Becomes, becomes}
 
-no_mark : (marks : List Bool) → length marks ≡ 8 → (q : ℕ) → 8 ≤ q → true_at marks q ≡ false
-no_mark marks eight q h = ap (λ (o : Option Bool). unwrap_or o false) (slice_get_past marks q (omega arith))
+no_mark : (marks : List Bool) (blocks : ℕ) → length marks ≡ blocks → (q : ℕ) → blocks ≤ q → true_at marks q ≡ false
+no_mark marks blocks all q h = ap (λ (o : Option Bool). unwrap_or o false) (slice_get_past marks q (omega arith))
 
 -- the marks after one was set or taken off
-marks_put : (marks : List Bool) (block : ℕ) (mark : Bool) → length marks ≡ 8 → block < 8 → gathered (true_at (slice_set marks block mark)) 8 ≡ (if mark then set.insert (gathered (true_at marks) 8) block else set.remove (gathered (true_at marks) 8) block)
-marks_put marks block mark eight small =
-    gathered_put (true_at marks) (true_at (slice_set marks block mark)) 8 block mark (no_mark marks eight) (no_mark (slice_set marks block mark) (length-set marks block mark ∙ eight))
+marks_put : (marks : List Bool) (block : ℕ) (mark : Bool) → block < length marks → gathered (true_at (slice_set marks block mark)) (length (slice_set marks block mark)) ≡ (if mark then set.insert (gathered (true_at marks) (length marks)) block else set.remove (gathered (true_at marks) (length marks)) block)
+marks_put marks block mark small =
+    ap (gathered (true_at (slice_set marks block mark))) (length-set marks block mark)
+    ∙ gathered_put (true_at marks) (true_at (slice_set marks block mark)) (length marks) block mark (no_mark marks (length marks) refl) (no_mark (slice_set marks block mark) (length marks) (length-set marks block mark))
     (flag_here marks block mark (omega arith)) (λ q. flag_there marks block q mark)
 
 -- the fields after a mark was set or taken off
 abbrev pub after_mark : {W : ℕ} → Inside W → ℕ → Bool → History → Inside W
-after_mark z block mark history = record z { marked = slice_set z.marked block mark; history = history }
+after_mark z block mark history = record z { marked = with_item z.marked block mark; history = history }
 
-module _ {W : ℕ} (z : Inside W) (v : ZoneState) (sound : IsSound z v) (view : state_of z ≡ v) (eight : length z.marked ≡ 8) (block : ℕ) (small : block < 8) (spare : length (out v.records) < v.room) (history : History) where
+module _ {W : ℕ} (z : Inside W) (v : ZoneState) (sound : IsSound z v) (view : state_of z ≡ v) (block : ℕ) (small : block < v.blocks) (spare : length (out v.records) < v.room) (history : History) where
   mark_sound : IsSound (after_mark z block true history) (block_marked v block)
   mark_sound = record {
     valid = valid_marked v sound.valid spare block;
     orders = sound.orders;
     cleared = sound.cleared;
+    marks = length-set z.marked.items block true ∙ sound.marks;
     tables = sound.tables;
     size = sound.size;
     frames = record { count = sound.frames.count; of_page = sound.frames.of_page; of_block = sound.frames.of_block; of_none = sound.frames.of_none };
@@ -53,6 +56,7 @@ module _ {W : ℕ} (z : Inside W) (v : ZoneState) (sound : IsSound z v) (view : 
     valid = valid_unmarked v sound.valid spare block;
     orders = sound.orders;
     cleared = sound.cleared;
+    marks = length-set z.marked.items block false ∙ sound.marks;
     tables = sound.tables;
     size = sound.size;
     frames = record { count = sound.frames.count; of_page = sound.frames.of_page; of_block = sound.frames.of_block; of_none = sound.frames.of_none };
@@ -66,14 +70,14 @@ module _ {W : ℕ} (z : Inside W) (v : ZoneState) (sound : IsSound z v) (view : 
 
   mark_view : history ≡ told z.history (Mark block) → state_of (after_mark z block true history) ≡ block_marked v block
   mark_view is =
-      let marked = marks_put z.marked block true eight small in
+      let marked = marks_put z.marked.items block true (omega (arith, small, sound.marks)) in
       let here : state_of (after_mark z block true history) ≡ block_marked (state_of z) block =
       λ i. record (state_of z) { records = (is i).records; room = (is i).room; round = (is i).round; marked = marked i } in
       here ∙ ap (λ (s : ZoneState). block_marked s block) view
 
   unmark_view : history ≡ told z.history (Unmark block) → state_of (after_mark z block false history) ≡ block_unmarked v block
   unmark_view is =
-      let marked = marks_put z.marked block false eight small in
+      let marked = marks_put z.marked.items block false (omega (arith, small, sound.marks)) in
       let here : state_of (after_mark z block false history) ≡ block_unmarked (state_of z) block =
       λ i. record (state_of z) { records = (is i).records; room = (is i).room; round = (is i).round; marked = marked i } in
       here ∙ ap (λ (s : ZoneState). block_unmarked s block) view
@@ -84,8 +88,8 @@ module _ {W : ℕ} (z : Inside W) (v : ZoneState) (sound : IsSound z v) (view : 
   pub unmark_holds : {place : ℕ} → place ≡ block → history ≡ told z.history (Unmark block) → Becomes (after_mark z place false history) (block_unmarked v block)
   unmark_holds at is = becomes {ideal = after_mark z block false history} (λ i. after_mark z (at i) false history) (unmark_view is) unmark_sound
 
--- a mark, as it is read from an array
-pub mark_read : (marks : List Bool) (block : ℕ) → slice_index_or marks block false ≡ true_at marks block
-mark_read [] block = refl
-mark_read (mark ∷ rest) zero = refl
-mark_read (mark ∷ rest) (suc block) = mark_read rest block
+-- a mark, as it is read from the list
+pub mark_read : (marks : List Bool) (block : ℕ) (mark : Bool) → block < length marks → mark ≡ slice_index_or marks block mark → mark ≡ true_at marks block
+mark_read [] block mark within is = let none : ⊥ = omega (arith, within) in absurd none
+mark_read (m ∷ rest) zero mark within is = is
+mark_read (m ∷ rest) (suc block) mark within is = mark_read rest block mark (omega (arith, within)) is

@@ -13,7 +13,7 @@ use Rattle.frame_core.specs.Page.{blank_words}
 use Rattle.frame_core.specs.Words.{words_of}
 use Rattle.zone_tables.specs.declared.note.PageNote.{PageNote}
 use Rattle.zone_tables.specs.Moves.{Moves}
-use Rattle.zone_tables.proofs.Copies.{no_placement, all_movable, no_order}
+use Rattle.zone_tables.proofs.Copies.{no_placement, all_false, all_movable, no_order}
 use Rattle.zone_tables.specs.declared.zone.ZoneTables.TheInside.{Inside}
 use Rattle.state_core.specs.declared.placement.Placement.{Placement}
 use Rattle.state_core.specs.declared.placement.Placement.TheVariants.{At, Moving}
@@ -45,7 +45,7 @@ pub record IsFresh {W : ℕ} (z : Inside W) (number blocks places : ℕ) : Type 
   pub notes : z.notes ≡ replicate (512 * blocks) unused_note
   pub handed_out : z.handed_out ≡ replicate (512 * blocks) None
   pub cleared : z.cleared ≡ replicate (512 * blocks) false
-  pub marked : z.marked ≡ replicate 8 false
+  pub marked : z.marked.items ≡ replicate blocks false
   pub fingers : z.fingers ≡ record { migrate = 0; free = 0 }
   pub moves : z.moves ≡ record { pages = replicate (512 * blocks) 0; isolated = 0; moved = 0; back = 0 }
   pub history : z.history ≡ record { records = []; room = places; round = None }
@@ -54,7 +54,8 @@ pub opened_view : {W : ℕ} (z : Inside W) (number blocks places : ℕ) → IsFr
 opened_view {W} z number blocks places fresh =
     let u : gathered (is_unmovable_of z.notes) (length z.notes) ≡ set.empty =
     gathered_none (is_unmovable_of z.notes) (length z.notes) (λ page. ap (λ (ns : List PageNote). is_unmovable_of ns page) fresh.notes ∙ all_movable (512 * blocks) page) in
-    let m : gathered (true_at z.marked) 8 ≡ set.empty = ap (λ (bs : List Bool). gathered (true_at bs) 8) fresh.marked in
+    let m : gathered (true_at z.marked.items) (length z.marked.items) ≡ set.empty =
+    gathered_none (true_at z.marked.items) (length z.marked.items) (λ block. ap (λ (bs : List Bool). true_at bs block) fresh.marked ∙ all_false blocks block) in
     let h : tabulated (order_of z.handed_out) (length z.handed_out) ≡ map.empty =
     tabulated_none (order_of z.handed_out) (length z.handed_out) (λ first. ap (λ (os : List (Option ℕ)). order_of os first) fresh.handed_out ∙ no_order (512 * blocks) first) in
     let c : tabulated (contents_at W z.words z.cleared z.handed_out) (length z.handed_out) ≡ map.empty =
@@ -86,6 +87,7 @@ opened_sound {W} z number blocks places fresh = record {
   valid = opened_valid W number blocks places fresh.size fresh.few;
   orders = ap length fresh.handed_out ∙ length-replicate (512 * blocks) None;
   cleared = ap length fresh.cleared ∙ length-replicate (512 * blocks) false;
+  marks = ap length fresh.marked ∙ length-replicate blocks false;
   tables = fresh.tables_frames;
   size = fresh.tables_size;
   frames = record {

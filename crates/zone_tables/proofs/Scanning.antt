@@ -60,8 +60,8 @@ module _ {W : ℕ} {z : Inside W} {v : ZoneState} (view : state_of z ≡ v) (inv
   abbrev movable : List Bool
   movable = z.frames.movable
 
-  marked_seen : (frame : ℕ) → frame < frame_count v → scan.is_marked z.marked frame ≡ is_marked v frame
-  marked_seen frame h = let few = law.size.1 in mark_seen z v view (frame / 512) (omega (arith, h, few))
+  marked_seen : (frame : ℕ) → frame < frame_count v → scan.is_marked z.marked.items frame ≡ is_marked v frame
+  marked_seen frame h = mark_seen z v view (frame / 512) (omega (arith, h, sound.marks))
 
   held_page : (frame page : ℕ) → frame < frame_count v → slice_get states frame ≡ Some (Holds page) → map.get v.placement page ≡ Some (At frame)
   held_page frame page h at = holds_seen states v fit frame page (Holds page) h at refl
@@ -94,43 +94,43 @@ module _ {W : ℕ} {z : Inside W} {v : ZoneState} (view : state_of z ≡ v) (inv
       let holds = holder_at v law page frame here in
       ap (λ (o : Option Bool). not (unwrap_or o false)) (sound.movable.each page frame here) ∙ sym (λ i. clear i || stays_if_some v (holds i))
 
-  pub source_seen : (frame : ℕ) → frame < frame_count v → scan.is_source states movable z.marked frame ≡ holds_movable v frame
+  pub source_seen : (frame : ℕ) → frame < frame_count v → scan.is_source states movable z.marked.items frame ≡ holds_movable v frame
   source_seen frame h = λ i. not (marked_seen frame h i) && by_state frame h (slice_get states frame) refl i
 
-  pub target_seen : (frame : ℕ) → frame < frame_count v → scan.is_target states z.marked frame ≡ is_free_unmarked v frame
+  pub target_seen : (frame : ℕ) → frame < frame_count v → scan.is_target states z.marked.items frame ≡ is_free_unmarked v frame
   target_seen frame h = λ i. not (marked_seen frame h i) && free_seen states v fit frame h i
 
-  pub stuck_seen : (frame : ℕ) → frame < frame_count v → scan.is_stuck states movable z.marked frame ≡ is_stuck v frame
+  pub stuck_seen : (frame : ℕ) → frame < frame_count v → scan.is_stuck states movable z.marked.items frame ≡ is_stuck v frame
   stuck_seen frame h = λ i. not (marked_seen frame h i) && stuck_by_state frame h (slice_get states frame) refl i
 
-  pub any_stuck_seen : some_below (scan.is_stuck states movable z.marked) (length states) ≡ some_below (is_stuck v) (frame_count v)
+  pub any_stuck_seen : some_below (scan.is_stuck states movable z.marked.items) (length states) ≡ some_below (is_stuck v) (frame_count v)
   any_stuck_seen =
-      sym (some_same (scan.is_stuck states movable z.marked) (is_stuck v) (length states) (λ frame h. stuck_seen frame (omega (arith, h, fit.count))))
+      sym (some_same (scan.is_stuck states movable z.marked.items) (is_stuck v) (length states) (λ frame h. stuck_seen frame (omega (arith, h, fit.count))))
       ∙ ap (some_below (is_stuck v)) fit.count
 
   abbrev fingers : Fingers
   fingers = record { migrate = v.migrate; free = v.free }
 
-  pub next_source_seen : scan.next_source states movable z.marked fingers ≡ next_source v
+  pub next_source_seen : scan.next_source states movable z.marked.items fingers ≡ next_source v
   next_source_seen =
-      lowest_same (λ frame. nat_le v.migrate frame && scan.is_source states movable z.marked frame) (λ frame. nat_le v.migrate frame && holds_movable v frame) v.free
+      lowest_same (λ frame. nat_le v.migrate frame && scan.is_source states movable z.marked.items frame) (λ frame. nat_le v.migrate frame && holds_movable v frame) v.free
       (λ frame h. let high = law.fingers.ordered.1 in ap (λ b. nat_le v.migrate frame && b) (source_seen frame (omega (arith, h, high))))
 
-  pub next_target_seen : (source : ℕ) → scan.next_target states z.marked fingers source ≡ next_target v source
+  pub next_target_seen : (source : ℕ) → scan.next_target states z.marked.items fingers source ≡ next_target v source
   next_target_seen source =
-      highest_same (λ frame. nat_lt source frame && scan.is_target states z.marked frame) (λ frame. nat_lt source frame && is_free_unmarked v frame) v.free
+      highest_same (λ frame. nat_lt source frame && scan.is_target states z.marked.items frame) (λ frame. nat_lt source frame && is_free_unmarked v frame) v.free
       (λ frame h. let high = law.fingers.ordered.1 in ap (λ b. nat_lt source frame && b) (target_seen frame (omega (arith, h, high))))
 
-  pub pair_seen : {source target : ℕ} → Pair source target ≡ scan.next_step states movable z.marked z.fingers → (next_source v ≡ Some source) × (next_target v source ≡ Some target)
-  pair_seen {source} {target} e = by_source (scan.next_source states movable z.marked fingers) refl (e ∙ ap (scan.next_step states movable z.marked) (fingers_seen z v view)) where
-    by_source : (o : Option ℕ) → scan.next_source states movable z.marked fingers ≡ o → Pair source target ≡ scan.step_from states z.marked fingers o → (next_source v ≡ Some source) × (next_target v source ≡ Some target)
+  pub pair_seen : {source target : ℕ} → Pair source target ≡ scan.next_step states movable z.marked.items z.fingers → (next_source v ≡ Some source) × (next_target v source ≡ Some target)
+  pair_seen {source} {target} e = by_source (scan.next_source states movable z.marked.items fingers) refl (e ∙ ap (scan.next_step states movable z.marked.items) (fingers_seen z v view)) where
+    by_source : (o : Option ℕ) → scan.next_source states movable z.marked.items fingers ≡ o → Pair source target ≡ scan.step_from states z.marked.items fingers o → (next_source v ≡ Some source) × (next_target v source ≡ Some target)
     by_source None is e = cc
     by_source (Some s) is e =
-        let both = pair_to s source target (scan.next_target states z.marked fingers s) e in
+        let both = pair_to s source target (scan.next_target states z.marked.items fingers s) e in
         (sym next_source_seen ∙ is ∙ ap Some both.0, ap (next_target v) (sym both.0) ∙ sym (next_target_seen s) ∙ both.1)
 
-  pub met_seen : Met ≡ scan.next_step states movable z.marked z.fingers → next_pair v ≡ None
-  met_seen e = by_source (scan.next_source states movable z.marked fingers) refl (e ∙ ap (scan.next_step states movable z.marked) (fingers_seen z v view)) where
-    by_source : (o : Option ℕ) → scan.next_source states movable z.marked fingers ≡ o → Met ≡ scan.step_from states z.marked fingers o → next_pair v ≡ None
+  pub met_seen : Met ≡ scan.next_step states movable z.marked.items z.fingers → next_pair v ≡ None
+  met_seen e = by_source (scan.next_source states movable z.marked.items fingers) refl (e ∙ ap (scan.next_step states movable z.marked.items) (fingers_seen z v view)) where
+    by_source : (o : Option ℕ) → scan.next_source states movable z.marked.items fingers ≡ o → Met ≡ scan.step_from states z.marked.items fingers o → next_pair v ≡ None
     by_source None is e = ap (pair_at v) (sym next_source_seen ∙ is)
-    by_source (Some s) is e = no_target_pair v s (sym next_source_seen ∙ is) (sym (next_target_seen s) ∙ met_to s (scan.next_target states z.marked fingers s) e)
+    by_source (Some s) is e = no_target_pair v s (sym next_source_seen ∙ is) (sym (next_target_seen s) ∙ met_to s (scan.next_target states z.marked.items fingers s) e)

@@ -1,10 +1,11 @@
 -- What the tables of a sound zone say of its state.
-use Rattle.std.proofs.Common.{◌≡◌, ℕ, zero, suc, ◌+◌, ◌<◌, Bool, true, false, not, List, [], ◌∷◌, length, ◌⊎◌, inl, inr, refl, sym, ap, ◌∙◌, arith}
-use Rattle.std.specs.Prelude.{Option, Some, None, IsSome, IsTrue, is_some, slice_get, nat_eq, map as each, ◌&&◌, if◌then◌else◌}
+use Rattle.std.proofs.Common.{get_or, ◌≡◌, ℕ, zero, suc, ◌+◌, ◌<◌, Bool, true, false, not, List, [], ◌∷◌, length, ◌⊎◌, inl, inr, refl, sym, ap, ◌∙◌, arith}
+use Rattle.std.specs.Prelude.{Option, Some, None, IsSome, IsTrue, is_some, slice_get, slice_set, nat_eq, map as each, ◌&&◌, if◌then◌else◌}
 use Rattle.std.specs.FinMap as map
 use Rattle.std.specs.FinSet as set
 use Rattle.std.proofs.lemmas.Bool.{eq-eqb, eqb-true, and_parts}
-use Rattle.std.proofs.lemmas.Option.{cond_some, same_Some}
+use Rattle.std.proofs.lemmas.Option.{cond_some, same_Some, slice_get-get_or, slice_get_within}
+use Rattle.frame_core.proofs.Lists.{slice_get_set_same}
 use Rattle.frame_core.specs.declared.place.Address.{Address}
 use Rattle.frame_core.specs.History.{page_at}
 use Rattle.frame_core.proofs.Searches.{some_one}
@@ -20,7 +21,7 @@ use Rattle.state_core.specs.declared.placement.Placement.{Placement}
 use Rattle.state_core.specs.declared.placement.Placement.TheVariants.{At, Moving}
 use Rattle.zone_tables.specs.Fits.{state_by, entry_for, FramesFit, WordsFit, NoteFits}
 use Rattle.state_core.specs.ZoneState.{words_frame, ZoneState, frame_count, takes_up, is_used, is_held, is_free}
-use Rattle.zone_tables.specs.Notes.{placement_of, is_unmovable_of, says_unmovable, is_in_use}
+use Rattle.zone_tables.specs.Notes.{placement_of, is_unmovable_of, says_unmovable, is_in_use, unused_note}
 use Rattle.state_core.specs.Valid.{IsValidZone, is_under}
 use Rattle.state_core.specs.Carrying.{words_now, flags_of}
 use Rattle.state_core.specs.Pairs.{holder, can_move}
@@ -63,10 +64,10 @@ words_seen rows v fit law page placement at =
       zone k = omega arith
 
 -- the marks of pageblocks are those of the state
-pub mark_seen : {W : ℕ} (z : Inside W) (v : ZoneState) → state_of z ≡ v → (block : ℕ) → block < 8 →
-    true_at z.marked block ≡ set.contains v.marked block
+pub mark_seen : {W : ℕ} (z : Inside W) (v : ZoneState) → state_of z ≡ v → (block : ℕ) → block < length z.marked.items →
+    true_at z.marked.items block ≡ set.contains v.marked block
 mark_seen z v view block h =
-    sym (gathered_in (true_at z.marked) 8 block h)
+    sym (gathered_in (true_at z.marked.items) (length z.marked.items) block h)
     ∙ ap (λ (u : ZoneState). set.contains u.marked block) view
 
 pub placement_seen : {W : ℕ} (z : Inside W) (v : ZoneState) → state_of z ≡ v → (page : ℕ) →
@@ -100,16 +101,28 @@ note_seen {W} {z} {v} view sound {page} used {note} at =
 pub named_in_use : {W : ℕ} {z : Inside W} {v : ZoneState} → state_of z ≡ v → IsSound z (state_of z) → (address : Address) (page : ℕ) → page_at v.records address ≡ Some page → IsSome (map.get v.placement page)
 named_in_use view invariant address page named = ((is_sound view invariant).valid.agrees.named address page named).1
 
--- a page in use is noted as such, also in a changed note that leaves it where it is
+-- a page in use is noted as such
 pub use_seen : {W : ℕ} (z : Inside W) {v : ZoneState} → state_of z ≡ v → (page : ℕ) → IsSome (map.get v.placement page) → is_in_use z.notes page ≡ true
 use_seen z {v} view page used = ap is_some (placement_seen z v view page) ∙ used
-
-pub note_stays : {W : ℕ} {z : Inside W} {v : ZoneState} → state_of z ≡ v → IsSound z (state_of z) → (page : ℕ) → IsSome (map.get v.placement page) → {note : PageNote} → slice_get z.notes page ≡ Some note → (changed : PageNote) → changed.placement ≡ note.placement → IsSome changed.placement
-note_stays view invariant page used at changed same = ap is_some (same ∙ (note_seen view (is_sound view invariant) used at).placement) ∙ used
 
 -- a page in use has a note
 pub note_within : {W : ℕ} (z : Inside W) (v : ZoneState) → IsSound z v → (page : ℕ) → IsSome (map.get v.placement page) → page < length z.notes
 note_within z v sound page used = omega (arith, sound.valid.pages.numbered page used, sound.notes.count)
+
+-- the note of a page number
+abbrev pub note_of : {W : ℕ} → Inside W → ℕ → PageNote
+note_of z page = get_or z.notes page unused_note
+
+pub note_is : {W : ℕ} (z : Inside W) (v : ZoneState) → IsSound z v → (page : ℕ) → IsSome (map.get v.placement page) → slice_get z.notes page ≡ Some (note_of z page)
+note_is z v sound page used = slice_get-get_or z.notes page unused_note (note_within z v sound page used)
+
+pub named_note : {W : ℕ} {z : Inside W} {v : ZoneState} → state_of z ≡ v → IsSound z (state_of z) → (address : Address) (page : ℕ) → page_at v.records address ≡ Some page → slice_get z.notes page ≡ Some (note_of z page)
+named_note {z = z} {v = v} view invariant address page named = note_is z v (is_sound view invariant) page (named_in_use view invariant address page named)
+
+-- the note that is read of a page after it changed is the changed one
+pub changed_read : (notes after : List PageNote) (page : ℕ) (note changed read : PageNote) → slice_get notes page ≡ Some note → after ≡ slice_set notes page changed → slice_get after page ≡ Some read → read ≡ changed
+changed_read notes after page note changed read at is found =
+    same_Some _ _ (sym found ∙ ap (λ (ns : List PageNote). slice_get ns page) is ∙ slice_get_set_same notes page page changed refl (slice_get_within notes page note at))
 
 -- a page gives a state only to its own frames
 state_cases : (page : ℕ) (o : Option Placement) (frame : ℕ) (state : FrameState) → state_by page o frame ≡ Some state →

@@ -1,7 +1,7 @@
 -- The lowest number of a set.
-use Rattle.std.proofs.Common.{◌≡◌, ℕ, ◌<◌, ◌≤◌, Bool, true, sym, ap, ◌∙◌, arith}
+use Rattle.std.proofs.Common.{◌≡◌, ℕ, ◌<◌, Bool, sym, ap, ◌∙◌}
 use Rattle.std.specs.Prelude.{nat_lt, ◌&&◌, Some, None}
-use Rattle.std.proofs.lemmas.Bool.{lt-ltb, le-ltb, ltb-true}
+use Rattle.std.proofs.lemmas.Bool.{lt-ltb, ltb-true}
 use Rattle.frame_core.proofs.Searches.{lowest_is, lowest_none, lowest_same}
 use Rattle.frame_core.specs.Below.{lowest}
 use Rattle.scan_core.proofs.Spanning.{both}

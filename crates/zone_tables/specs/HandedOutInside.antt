@@ -6,6 +6,6 @@ use Rattle.zone_tables.specs.declared.handed_out.HandedOut.TheInside.{Inside}
 
 -- the counts are those of the blocks and of their frames
 pub record IsCounted (z : Inside) : Type 0 where
-  pub few : length z.orders.items ≤ 4096
+  pub few : length z.orders.items ≤ 16777216
   pub blocks : z.blocks ≡ count_below (λ first. is_some (order_of z.orders.items first)) (length z.orders.items)
   pub frames : z.frames ≡ count_below (held_at z.orders.items) (length z.orders.items)

@@ -92,8 +92,7 @@ impl<const W: usize> ZoneTables<W> {
             unreachable!();
         };
         self.words.store(frame, word, value);
-        let note = self.notes.get(page);
-        self.notes.revise(page, note.stored());
+        self.notes.store(page);
         self.history.note(Record::Store {
             client,
             address,

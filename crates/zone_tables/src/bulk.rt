@@ -83,8 +83,7 @@ impl<const W: usize> ZoneTables<W> {
             return;
         }
         self.words.store_words(frame, from.get() as usize, values);
-        let note = self.notes.get(page);
-        self.notes.revise(page, note.stored());
+        self.notes.store(page);
         let stores = Access {
             kind: AccessKind::Store,
             client,

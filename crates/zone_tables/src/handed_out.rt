@@ -33,7 +33,7 @@ impl HandedOut {
     /// A list for this many frames in which no block is handed out, or an error where there is no memory for it. No
     /// other call takes memory.
     pub fn open(alloc: Global, frames: u32) -> Result<Self, AllocError>
-        requires { frames ≤ 4096 }
+        requires { frames ≤ 16777216 }
         ensures { IfOk result (λ orders. orders ≡ replicate frames None) }
     {
         let orders = FixedVec::filled(alloc, None, frames as usize)?;

@@ -1,4 +1,4 @@
-ghost use Rattle.std.specs.Prelude.{◌≡◌, ◌+◌, ◌-◌, ◌<◌, None, Some, false, true, nat_eq, not, ◌&&◌};
+ghost use Rattle.std.specs.Prelude.{◌≡◌, None, Some, false, nat_eq, not, ◌&&◌};
 ghost use Rattle.state_core.specs.declared.placement.Placement.TheVariants.{At};
 
 use frame_core::FrameNo;
@@ -35,60 +35,6 @@ impl PageNote {
         ensures { result ≡ (nat_eq self.now.pins 0 && not self.now.unmovable) }
     {
         self.pins == 0 && !self.unmovable
-    }
-
-    /// The note of the page after a store.
-    pub fn stored(self) -> Self
-        ensures { result ≡ record self { dirty = true } }
-    {
-        PageNote {
-            dirty: true,
-            ..self
-        }
-    }
-
-    /// The note of the page with one pin more. It has to have fewer than 255 pins before.
-    pub fn with_pin(self) -> Self
-        requires { self.pins < 255 }
-        ensures { result ≡ record self { pins = self.pins + 1 } }
-    {
-        PageNote {
-            pins: self.pins + 1,
-            ..self
-        }
-    }
-
-    /// The note of the page with one pin fewer. It has to have one before.
-    pub fn without_pin(self) -> Self
-        requires { 0 < self.pins }
-        ensures { result ≡ record self { pins = self.pins - 1 } }
-    {
-        PageNote {
-            pins: self.pins - 1,
-            ..self
-        }
-    }
-
-    /// The note of the page with one address more.
-    pub fn with_address(self) -> Self
-        requires { self.maps < 255 }
-        ensures { result ≡ record self { maps = self.maps + 1 } }
-    {
-        PageNote {
-            maps: self.maps + 1,
-            ..self
-        }
-    }
-
-    /// The note of the page with one address fewer.
-    pub fn without_address(self) -> Self
-        requires { 0 < self.maps }
-        ensures { result ≡ record self { maps = self.maps - 1 } }
-    {
-        PageNote {
-            maps: self.maps - 1,
-            ..self
-        }
     }
 
     /// The note of a fresh page in a frame.

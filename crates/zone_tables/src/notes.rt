@@ -1,6 +1,6 @@
 //! What a zone notes of its pages.
 
-ghost use Rattle.std.specs.Prelude.{◌≡◌, ℕ, ◌<◌, ◌≤◌, true, false, length, replicate, slice_get, slice_set, is_none, Some, IsSome, IfOk};
+ghost use Rattle.std.specs.Prelude.{◌≡◌, ◌+◌, ◌-◌, ℕ, ◌<◌, ◌≤◌, true, false, length, replicate, slice_get, slice_set, is_none, Some, IsSome, IfOk};
 ghost use Rattle.frame_core.specs.Below.{count_below, lowest};
 ghost use Rattle.zone_tables.specs.Notes.{placement_of, is_in_use, unused_note};
 ghost use Rattle.zone_tables.specs.declared.note.PageNote.{PageNote as Noted};
@@ -19,7 +19,7 @@ pub struct Notes {
     /// How many page numbers are in use.
     in_use: u32,
     /// The page numbers that aren't in use.
-    unused: NumberSet<2>,
+    unused: NumberSet<4>,
 }
 
 impl Model for Notes {
@@ -38,7 +38,7 @@ impl Model for Notes {
 impl Notes {
     /// The notes of this many numbers, none of which is in use, or an error where there is no memory for them. No other call takes memory.
     pub fn open(alloc: Global, count: u32) -> Result<Self, AllocError>
-        requires { count ≤ 4096 }
+        requires { count ≤ 16777216 }
         ensures { IfOk result (λ notes. notes ≡ replicate count unused_note) }
     {
         let notes = FixedVec::filled(alloc, PageNote::unused(), count as usize)?;
@@ -51,11 +51,11 @@ impl Notes {
     }
 
     /// The note of a page number.
-    pub fn get(&self, page: PageNo) -> PageNote
+    pub fn get(&self, page: PageNo) -> &PageNote
         requires { page < length self.now }
-        ensures { slice_get self.now page ≡ Some result }
+        ensures { slice_get self.now page ≡ Some result.now }
     {
-        self.notes[page.get() as usize]
+        &self.notes[page.get() as usize]
     }
 
     /// Where a page is, if its number is one of the zone's and is in use.
@@ -94,21 +94,56 @@ impl Notes {
         self.in_use -= 1;
     }
 
-    /// Replaces the note of a page that is in use and stays so.
-    pub fn revise(&mut self, page: PageNo, note: PageNote)
-        requires used { is_in_use self.old page ≡ true }
-        requires stays { IsSome note.placement }
-        ensures { self.new ≡ slice_set self.old page note }
-    {
-        self.notes[page.get() as usize] = note;
-    }
-
     /// Gives a page in use another place.
     pub fn place(&mut self, page: PageNo, placement: Placement)
         requires { is_in_use self.old page ≡ true }
         ensures { (note : Noted) → slice_get self.old page ≡ Some note → self.new ≡ slice_set self.old page (record note { placement = Some placement }) }
     {
         self.notes[page.get() as usize].placement = Some(placement);
+    }
+
+    /// Notes that a word of a page in use was stored.
+    pub fn store(&mut self, page: PageNo)
+        requires { is_in_use self.old page ≡ true }
+        ensures { (note : Noted) → slice_get self.old page ≡ Some note → self.new ≡ slice_set self.old page (record note { dirty = true }) }
+    {
+        self.notes[page.get() as usize].dirty = true;
+    }
+
+    /// Notes one pin more on a page in use.
+    pub fn pin(&mut self, page: PageNo)
+        requires used { is_in_use self.old page ≡ true }
+        requires few { (note : Noted) → slice_get self.old page ≡ Some note → note.pins < 255 }
+        ensures { (note : Noted) → slice_get self.old page ≡ Some note → self.new ≡ slice_set self.old page (record note { pins = note.pins + 1 }) }
+    {
+        self.notes[page.get() as usize].pins += 1;
+    }
+
+    /// Notes one pin fewer on a page in use.
+    pub fn unpin(&mut self, page: PageNo)
+        requires used { is_in_use self.old page ≡ true }
+        requires some { (note : Noted) → slice_get self.old page ≡ Some note → 0 < note.pins }
+        ensures { (note : Noted) → slice_get self.old page ≡ Some note → self.new ≡ slice_set self.old page (record note { pins = note.pins - 1 }) }
+    {
+        self.notes[page.get() as usize].pins -= 1;
+    }
+
+    /// Notes one address more for a page in use.
+    pub fn share(&mut self, page: PageNo)
+        requires used { is_in_use self.old page ≡ true }
+        requires few { (note : Noted) → slice_get self.old page ≡ Some note → note.maps < 255 }
+        ensures { (note : Noted) → slice_get self.old page ≡ Some note → self.new ≡ slice_set self.old page (record note { maps = note.maps + 1 }) }
+    {
+        self.notes[page.get() as usize].maps += 1;
+    }
+
+    /// Notes one address fewer for a page in use.
+    pub fn unshare(&mut self, page: PageNo)
+        requires used { is_in_use self.old page ≡ true }
+        requires some { (note : Noted) → slice_get self.old page ≡ Some note → 0 < note.maps }
+        ensures { (note : Noted) → slice_get self.old page ≡ Some note → self.new ≡ slice_set self.old page (record note { maps = note.maps - 1 }) }
+    {
+        self.notes[page.get() as usize].maps -= 1;
     }
 
     /// The lowest page number that isn't in use, if there is one.

@@ -14,7 +14,7 @@ use crate::history::History;
 use crate::moves::Moves;
 use crate::notes::Notes;
 use crate::zone::ZoneTables;
-use frame_core::{WordsOf, ZoneNo};
+use frame_core::{FixedVec, WordsOf, ZoneNo};
 use scan_core::{Fingers, Frames};
 use state_core::ZoneError;
 use std::alloc::{AllocError, Global};
@@ -70,7 +70,7 @@ impl<const W: usize> ZoneTables<W> {
         ensures valid { IfOk result (λ zone. IsValidZone zone) }
     {
         let count = 512 * blocks;
-        let (handed_out, cleared) = open_blocks(alloc, count)?;
+        let (handed_out, cleared, marked) = open_blocks(alloc, blocks)?;
         let (notes, moves) = open_notes(alloc, count)?;
         let (frames, tables, words) = open_memory(alloc, blocks)?;
         Ok(ZoneTables {
@@ -83,7 +83,7 @@ impl<const W: usize> ZoneTables<W> {
             moves,
             handed_out,
             cleared,
-            marked: [false; 8],
+            marked,
             fingers: Fingers::new(),
             history,
         })
@@ -102,7 +102,7 @@ fn open_memory<const W: usize>(
     blocks: u32,
 ) -> Result<(Frames, Tables, WordsOf<W>), AllocError>
     requires size { W ≤ 65536 }
-    requires blocks { (0 < blocks) × (blocks ≤ 8) }
+    requires blocks { IsSize blocks }
     ensures frames { IfOk result (λ memory. memory.0 ≡ all_free blocks) }
     ensures tables { IfOk result (λ memory. IsBlank memory.1.entries × (memory.1.frames ≡ 512 * blocks)) }
     ensures size { IfOk result (λ memory. memory.1.entries.size ≡ size_of_zone) }
@@ -116,7 +116,7 @@ fn open_memory<const W: usize>(
 
 /// What is noted of each page, and which pages are moving.
 fn open_notes(alloc: Global, count: u32) -> Result<(Notes, Moves), AllocError>
-    requires { count ≤ 4096 }
+    requires { count ≤ 16777216 }
     ensures notes { IfOk result (λ noted. noted.0 ≡ replicate count unused_note) }
     ensures moves { IfOk result (λ noted. noted.1 ≡ record { pages = replicate count 0; isolated = 0; moved = 0; back = 0 }) }
 {
@@ -125,13 +125,19 @@ fn open_notes(alloc: Global, count: u32) -> Result<(Notes, Moves), AllocError>
     Ok((notes, moves))
 }
 
-/// Which blocks are handed out, and whether each of them is clear of words of pages.
-fn open_blocks(alloc: Global, frames: u32) -> Result<(HandedOut, Cleared), AllocError>
-    requires { frames ≤ 4096 }
-    ensures handed_out { IfOk result (λ held. held.0 ≡ replicate frames None) }
-    ensures cleared { IfOk result (λ held. held.1 ≡ replicate frames false) }
+/// Which blocks are handed out, whether each of them is clear of words of pages, and which pageblocks are marked.
+fn open_blocks(
+    alloc: Global,
+    blocks: u32,
+) -> Result<(HandedOut, Cleared, FixedVec<bool>), AllocError>
+    requires { blocks ≤ 32768 }
+    ensures handed_out { IfOk result (λ held. held.0 ≡ replicate (512 * blocks) None) }
+    ensures cleared { IfOk result (λ held. held.1 ≡ replicate (512 * blocks) false) }
+    ensures marked { IfOk result (λ held. held.2.items ≡ replicate blocks false) }
 {
+    let frames = 512 * blocks;
     let handed_out = HandedOut::open(alloc, frames)?;
     let cleared = Cleared::open(alloc, frames)?;
-    Ok((handed_out, cleared))
+    let marked = FixedVec::filled(alloc, false, blocks as usize)?;
+    Ok((handed_out, cleared, marked))
 }

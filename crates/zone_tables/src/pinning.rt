@@ -24,9 +24,8 @@ impl<const W: usize> ZoneTables<W> {
         ensures step { self.new ≡ pinned self.old client address }
         ensures valid { IsValidZone self.new }
     {
-        let note = self.notes.get(page).with_pin();
-        say_movable(&mut self.frames, &note);
-        self.notes.revise(page, note);
+        self.notes.pin(page);
+        say_movable(&mut self.frames, self.notes.get(page));
         self.history.note(Record::Pin { client, address });
     }
 
@@ -38,9 +37,8 @@ impl<const W: usize> ZoneTables<W> {
         ensures step { self.new ≡ unpinned self.old client address }
         ensures valid { IsValidZone self.new }
     {
-        let note = self.notes.get(page).without_pin();
-        say_movable(&mut self.frames, &note);
-        self.notes.revise(page, note);
+        self.notes.unpin(page);
+        say_movable(&mut self.frames, self.notes.get(page));
         self.history.note(Record::Unpin { client, address });
     }
 }

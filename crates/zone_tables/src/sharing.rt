@@ -30,8 +30,7 @@ impl<const W: usize> ZoneTables<W> {
     {
         let second = alias;
         self.tables.set(second, frame);
-        let note = self.notes.get(page);
-        self.notes.revise(page, note.with_address());
+        self.notes.share(page);
         self.history.note(Record::Share {
             client,
             address,

@@ -40,8 +40,7 @@ impl<const W: usize> ZoneTables<W> {
     {
         let named = address;
         self.tables.clear(named);
-        let note = self.notes.get(page);
-        self.notes.revise(page, note.without_address());
+        self.notes.unshare(page);
         self.history.note(Record::Unmap { client, address });
     }
 

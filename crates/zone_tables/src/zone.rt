@@ -5,7 +5,7 @@ use crate::handed_out::HandedOut;
 use crate::history::History;
 use crate::moves::Moves;
 use crate::notes::Notes;
-use frame_core::{WordsOf, ZoneNo};
+use frame_core::{FixedVec, WordsOf, ZoneNo};
 use scan_core::{Fingers, Frames};
 use std::marker::Model;
 use table_core::Tables;
@@ -22,7 +22,8 @@ pub struct ZoneTables<const W: usize> {
     pub(crate) moves: Moves,
     pub(crate) handed_out: HandedOut,
     pub(crate) cleared: Cleared,
-    pub(crate) marked: [bool; 8],
+    /// Whether each pageblock is marked.
+    pub(crate) marked: FixedVec<bool>,
     pub(crate) fingers: Fingers,
     pub(crate) history: History,
 }

@@ -110,7 +110,7 @@ impl<const W: usize> BareZone<W> {
         for above in 0..frames {
             let frame = frames - 1 - above;
             if self.is_spare(first, order, frame) {
-                return FrameNo::new(frame);
+                return FrameNo::in_any_zone(frame);
             }
         }
         None
@@ -119,10 +119,10 @@ impl<const W: usize> BareZone<W> {
     /// Whether a frame may take a page of a run: it is outside of the run, and free, in an unmarked pageblock.
     fn is_spare(&self, first: FrameNo, order: Order, frame: u32) -> bool
         requires within { frame < frame_count self.now }
-        requires few { frame < 4096 }
+        requires few { frame < 16777216 }
         ensures { result ≡ is_spare first (2 ^ order) self.now frame }
     {
-        let Some(frame) = FrameNo::new(frame) else {
+        let Some(frame) = FrameNo::in_any_zone(frame) else {
             unreachable!();
         };
         !is_in_run(first, order, frame) && self.tables.is_vacant(frame)
@@ -131,10 +131,10 @@ impl<const W: usize> BareZone<W> {
 
 /// The frame at a place of a run.
 fn frame_at(first: FrameNo, place: u32) -> FrameNo
-    requires { first + place < 4096 }
+    requires { first + place < 16777216 }
     ensures { result ≡ first + place }
 {
-    let Some(frame) = FrameNo::new(first.get() + place) else {
+    let Some(frame) = FrameNo::in_any_zone(first.get() + place) else {
         unreachable!();
     };
     frame

@@ -41,8 +41,7 @@ impl<const W: usize> BareZone<W> {
     }
 
     fn free_frames(&self) -> u32
-        ensures value { result ≡ free_frames self.now }
-        ensures few { result ≤ 4096 }
+        ensures { result ≡ free_frames self.now }
     {
         self.tables.info().free
     }
@@ -62,7 +61,7 @@ impl<const W: usize> BareZone<W> {
     fn count_maximal_runs(&self, order: u32) -> u32
         requires { order ≤ 9 }
         ensures count { result ≡ maximal_runs self.now order }
-        ensures few { result ≤ 4096 }
+        ensures few { result ≤ 16777216 }
     {
         let mut runs = 0;
         for first in 0..512 * self.blocks() {
@@ -75,7 +74,7 @@ impl<const W: usize> BareZone<W> {
 
     fn is_maximal_run(&self, order: u32, first: u32) -> bool
         requires order { order ≤ 9 }
-        requires first { first < 4096 }
+        requires first { first < 16777216 }
         ensures { result ≡ is_maximal_run self.now order first }
     {
         self.is_run(order, first) && !self.is_in_run(order + 1, first)
@@ -84,7 +83,7 @@ impl<const W: usize> BareZone<W> {
     /// Whether a frame lies in a free run of this order, where runs have an order of 9 at most.
     fn is_in_run(&self, order: u32, frame: u32) -> bool
         requires order { order ≤ 10 }
-        requires frame { frame < 4096 }
+        requires frame { frame < 16777216 }
         ensures { result ≡ is_in_run self.now order frame }
     {
         order < 10 && self.is_run(order, frame >> order << order)
@@ -106,7 +105,7 @@ impl<const W: usize> BareZone<W> {
     /// Whether a free run of this order begins at a frame.
     fn is_run(&self, order: u32, first: u32) -> bool
         requires order { order ≤ 9 }
-        requires first { first < 4096 }
+        requires first { first < 16777216 }
         ensures { result ≡ is_run self.now order first }
     {
         let size = 1 << order;
@@ -117,7 +116,7 @@ impl<const W: usize> BareZone<W> {
     /// Whether all of these frames are free.
     fn are_free(&self, first: u32, count: u32) -> bool
         requires within { first + count ≤ frame_count self.now }
-        requires few { first + count ≤ 4096 }
+        requires few { first + count ≤ 16777216 }
         ensures { result ≡ nat_eq (count_from (is_free self.now) first count) count }
     {
         for frame in first..first + count {
@@ -130,10 +129,10 @@ impl<const W: usize> BareZone<W> {
 
     fn is_free(&self, frame: u32) -> bool
         requires within { frame < frame_count self.now }
-        requires few { frame < 4096 }
+        requires few { frame < 16777216 }
         ensures { result ≡ is_free self.now frame }
     {
-        let Some(frame) = FrameNo::new(frame) else {
+        let Some(frame) = FrameNo::in_any_zone(frame) else {
             unreachable!();
         };
         self.tables.is_free(frame)
@@ -142,10 +141,11 @@ impl<const W: usize> BareZone<W> {
 
 /// The fragmentation index where no run of this many frames is free, but some runs of fewer.
 fn scattered(free: u32, wanted: u32, runs: u32) -> i32
-    requires free { free ≤ 4096 }
+    requires free { free ≤ 512 * runs }
     requires wanted { 0 < wanted }
     requires runs { 0 < runs }
     ensures { result ≡ pos 1000 -ℤ pos ((1000 + 1000 * free / wanted) / runs) }
 {
-    1000 - ((1000 + 1000 * free / wanted) / runs) as i32
+    let thousandths = 1000 + 1000 * u64::from(free) / u64::from(wanted);
+    1000 - (thousandths / u64::from(runs)) as i32
 }

@@ -15,7 +15,7 @@ impl<const W: usize> BareZone<W> {
         ensures none { result ≡ None → IsNoneMoving self.now from }
     {
         for frame in from.get()..512 * self.blocks() {
-            let Some(source) = FrameNo::new(frame) else {
+            let Some(source) = FrameNo::in_any_zone(frame) else {
                 unreachable!();
             };
             if let Some(moving) = self.tables.moving_from(source) {

@@ -4,17 +4,24 @@ use Rattle.std.specs.Vec.{with_items}
 use Rattle.number_set.specs.Bits.{has_number, is_filled}
 use Rattle.number_set.proofs.OneAbove.{kept_above, numbers_put, put_above, written}
 use Rattle.number_set.proofs.Levels.{bound_of, in_fourth, members_of, of_fourth}
+use Rattle.number_set.proofs.Starting.{first_of_one, starts_kept, starts_put}
 use Rattle.number_set.proofs.number_set.NumberSet.insert.Goals as goal
 
 pub invariant_of-self-then-insert : goal.invariant_of-self-then-insert
 invariant_of-self-then-insert g c four =
+    let words = c.self.inside.words.items in
+    let new = (with_items c.self.inside.words c.insert-2.new.words).items in
     let long = written c.self.inside.words c.deref_mut.result.now c.insert-2.new.words c.deref_mut.ensures.value c.insert-2.ensures.as_long (λ old new. length new ≡ length old) c.insert-2.ensures.as_long in
-    (omega (arith, long, (c.self.invariant four).0, bound_of c.insert-then-insert.ensures), omega (arith, (c.self.invariant four).1, bound_of c.insert-then-insert.ensures), put_above c.self.inside.words.items (with_items c.self.inside.words c.insert-2.new.words).items c.args.number (written c.self.inside.words c.deref_mut.result.now c.insert-2.new.words c.deref_mut.ensures.value c.insert-2.ensures.as_long (λ old new. (word : ℕ) → is_filled new word ≡ (nat_eq word (c.args.number / 64) || is_filled old word)) c.insert-2.ensures.filled) c.self.inside.above.members (c.self.invariant four).2 c.insert-then-insert.new.self.members (members_of c.insert-then-insert.ensures))
+    let filled = written c.self.inside.words c.deref_mut.result.now c.insert-2.new.words c.deref_mut.ensures.value c.insert-2.ensures.as_long (λ old new. (word : ℕ) → is_filled new word ≡ (nat_eq word (c.args.number / 64) || is_filled old word)) c.insert-2.ensures.filled in
+    (omega (arith, long, (c.self.invariant four).0, bound_of c.insert-then-insert.ensures), omega (arith, (c.self.invariant four).1, bound_of c.insert-then-insert.ensures), put_above words new c.args.number filled c.self.inside.above.members (c.self.invariant four).2 c.insert-then-insert.new.self.members (members_of c.insert-then-insert.ensures), starts_put words new long (λ word. nat_eq word (c.args.number / 64)) c.self.inside.lowest (c.self.invariant four).3 filled (c.args.number / 64) c.min-self-inside.result (first_of_one (c.args.number / 64)) c.min-self-inside.ensures)
 
 pub invariant_of-self-else-insert : goal.invariant_of-self-else-insert
 invariant_of-self-else-insert g c four =
+    let words = c.self.inside.words.items in
+    let new = (with_items c.self.inside.words c.insert-2.new.words).items in
     let long = written c.self.inside.words c.deref_mut.result.now c.insert-2.new.words c.deref_mut.ensures.value c.insert-2.ensures.as_long (λ old new. length new ≡ length old) c.insert-2.ensures.as_long in
-    (omega (arith, long, (c.self.invariant four).0), (c.self.invariant four).1, kept_above c.self.inside.words.items (with_items c.self.inside.words c.insert-2.new.words).items c.args.number (written c.self.inside.words c.deref_mut.result.now c.insert-2.new.words c.deref_mut.ensures.value c.insert-2.ensures.as_long (λ old new. (word : ℕ) → is_filled new word ≡ (nat_eq word (c.args.number / 64) || is_filled old word)) c.insert-2.ensures.filled) c.self.inside.above.members (c.self.invariant four).2 (ap (λ words. not (is_filled words (c.args.number / 64))) (sym c.deref_mut.ensures.value) ∙ sym c.insert-2.ensures.was_empty ∙ c.if-insert.false))
+    let kept = kept_above words new c.args.number (written c.self.inside.words c.deref_mut.result.now c.insert-2.new.words c.deref_mut.ensures.value c.insert-2.ensures.as_long (λ old new. (word : ℕ) → is_filled new word ≡ (nat_eq word (c.args.number / 64) || is_filled old word)) c.insert-2.ensures.filled) c.self.inside.above.members (c.self.invariant four).2 (ap (λ words. not (is_filled words (c.args.number / 64))) (sym c.deref_mut.ensures.value) ∙ sym c.insert-2.ensures.was_empty ∙ c.if-insert.false) in
+    (omega (arith, long, (c.self.invariant four).0), (c.self.invariant four).1, kept, starts_kept words c.self.inside.above.members (c.self.invariant four).2 c.self.inside.lowest (c.self.invariant four).3 new long kept)
 
 pub returns-then-insert : goal.returns-then-insert
 returns-then-insert g c =

@@ -1,35 +1,26 @@
-use Rattle.std.proofs.Common.{◌≡◌, ◌<◌, ◌*◌, ◌∙◌, ap, sym, arith}
+use Rattle.std.proofs.Common.{◌≡◌, ◌*◌, ◌<◌, ◌∙◌, length, sym, ap, arith}
 use Rattle.std.specs.FinSet as set
 use Rattle.number_set.specs.Numbers.{Numbers}
 use Rattle.frame_core.specs.Below.{lowest}
+use Rattle.frame_core.proofs.Searches.{lowest_some}
 use Rattle.scan_core.specs.FrameSet.{is_run_of}
 use Rattle.scan_core.proofs.Found.{some_is}
-use Rattle.scan_core.proofs.FrameSets.{multiple_aligned, multiple_within, no_run_more, no_run, run_lowest}
-use Rattle.scan_core.proofs.Orders.{some_frames}
 use Rattle.scan_core.proofs.frame_set.FrameSet.first_run.Goals as goal
 
-pub has_run-requires : goal.has_run-requires
-has_run-requires g c =
-    let p = set.contains c.args.self.now.members in
-    (omega arith, (multiple_aligned p c.len.result c.args.order c.frames-frames.result c.frames-frames.ensures.low c.frames-frames.ensures.high c.frames-frames.ensures.value c.loop-run.run, omega (arith, multiple_within p c.len.result c.args.order c.frames-frames.result c.frames-frames.ensures.low c.frames-frames.ensures.high c.frames-frames.ensures.value c.loop-run.run c.loop-run-test.true, ap (λ (s : Numbers). s.bound) c.self.view_is, c.len.ensures.len)))
-
-pub returns-then-has_run : goal.returns-then-has_run
-returns-then-has_run g c =
-    let p = set.contains c.args.self.now.members in
-    let bound : 512 * c.len.result ≡ c.args.self.now.bound = omega (arith, ap (λ (s : Numbers). s.bound) c.self.view_is, c.len.ensures.len) in
-    let within : c.loop-run.run * c.frames-frames.result < 512 * c.len.result = omega (arith, multiple_within p c.len.result c.args.order c.frames-frames.result c.frames-frames.ensures.low c.frames-frames.ensures.high c.frames-frames.ensures.value c.loop-run.run c.loop-run-test.true, some_frames c.args.order c.frames-frames.ensures.low c.frames-frames.ensures.high) in
-    some_is _ (c.loop-run.run * c.frames-frames.result) (c.in_any_zone.ensures.valid.1 (omega (arith, within, c.len.ensures.len, c.self.invariant.few))) c.in_any_zone.ensures.value
-    ∙ sym (run_lowest p c.len.result c.args.order c.frames-frames.result c.frames-frames.ensures.low c.frames-frames.ensures.high c.frames-frames.ensures.value c.loop-run.run within (sym c.has_run.ensures ∙ c.if-has_run.true) c.loop-run.invariant)
-    ∙ ap (lowest (is_run_of p c.args.order)) bound
-
-pub loop-run-preserved : goal.loop-run-preserved
-loop-run-preserved g c =
-    let p = set.contains c.args.self.now.members in
-    no_run_more p c.len.result c.args.order c.frames-frames.result c.frames-frames.ensures.low c.frames-frames.ensures.high c.frames-frames.ensures.value c.loop-run.run (sym c.has_run.ensures ∙ c.if-has_run.false) c.loop-run.invariant
+pub returns-in_err-first : goal.returns-in_err-first
+returns-in_err-first g c =
+    let p = set.contains c.self.inside.numbers.members in
+    let frames : 512 * c.self.inside.runs.blocks ≡ 512 * length c.self.inside.blocks = omega (arith, c.self.invariant.runs_blocks) in
+    c.from_residual.ensures ∙ c.in_err-first.ensures p c.self.invariant.runs ∙ ap (lowest (is_run_of p c.args.order)) frames
+    ∙ ap (λ (s : Numbers). lowest (is_run_of (set.contains s.members) c.args.order) s.bound) c.self.view_is
 
 pub returns : goal.returns
 returns g c =
-    let p = set.contains c.args.self.now.members in
-    let bound : 512 * c.len.result ≡ c.args.self.now.bound = omega (arith, ap (λ (s : Numbers). s.bound) c.self.view_is, c.len.ensures.len) in
-    sym (no_run p c.len.result c.args.order c.frames-frames.result c.frames-frames.ensures.low c.frames-frames.ensures.high c.frames-frames.ensures.value c.loop-run.run c.loop-run-test.false c.loop-run.invariant)
-    ∙ ap (lowest (is_run_of p c.args.order)) bound
+    let p = set.contains c.self.inside.numbers.members in
+    let found = c.in_ok-first.field-0 in
+    let frames : 512 * c.self.inside.runs.blocks ≡ 512 * length c.self.inside.blocks = omega (arith, c.self.invariant.runs_blocks) in
+    let is = c.in_ok-first.ensures p c.self.invariant.runs in
+    let within : found < 512 * c.self.inside.runs.blocks = (lowest_some (is_run_of p c.args.order) (512 * c.self.inside.runs.blocks) found (sym is)).0 in
+    some_is _ found (c.in_any_zone.ensures.valid.1 (omega (arith, within, c.self.invariant.runs_open.few))) c.in_any_zone.ensures.value
+    ∙ is ∙ ap (lowest (is_run_of p c.args.order)) frames
+    ∙ ap (λ (s : Numbers). lowest (is_run_of (set.contains s.members) c.args.order) s.bound) c.self.view_is

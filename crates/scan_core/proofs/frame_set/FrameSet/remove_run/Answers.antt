@@ -1,8 +1,11 @@
-use Rattle.std.proofs.Common.{◌<◌, ◌≤◌, ◌+◌, ◌*◌, ◌%◌, ◌^◌, length, ap, sym, ◌∙◌, arith}
+use Rattle.std.proofs.Common.{ℕ, subst, ◌<◌, ◌≤◌, ◌+◌, ◌*◌, ◌%◌, ◌^◌, length, ap, sym, ◌∙◌, arith}
 use Rattle.std.specs.Prelude.{not, ◌&&◌}
 use Rattle.std.specs.FinSet as set
 use Rattle.number_set.specs.Numbers.{Numbers}
+use Rattle.frame_core.specs.Order.{is_aligned}
 use Rattle.scan_core.specs.NumberSet.{in_run}
+use Rattle.scan_core.specs.WholeRuns.{Empties}
+use Rattle.scan_core.proofs.HeapSteps.{run_went}
 use Rattle.scan_core.proofs.Orders.{no_rest, one_block, some_frames}
 use Rattle.scan_core.proofs.FrameSets.{removes_run}
 use Rattle.scan_core.proofs.SetSteps.{fewer_has, fewer_most, fewer_room, set_fewer}
@@ -43,6 +46,10 @@ fewer-requires-clause-most g c =
     (λ k. c.remove_run.ensures.run k ∙ ap (λ m. not (in_run c.get.result m k) && set.contains c.self.inside.numbers.members k) count) in
     fewer_most c.self.inside c.self.invariant c.remove_run.new.self c.args.first c.get-3.result c.frames-frames.result low within c.get-3.ensures.value
 
+pub remove-requires : goal.remove-requires
+remove-requires g c =
+    (omega arith, (c.self.invariant.runs_open, ((omega (arith, c.get-5.ensures.low), c.get-5.ensures.high), ((λ i. is_aligned (c.get-5.ensures.value i) (c.get-4.ensures.value i)) ∙ c.requires.aligned, omega (arith, c.get-4.ensures.value, c.requires.within, some_frames c.args.order c.frames-frames.ensures.low c.frames-frames.ensures.high, ap (λ (s : Numbers). s.bound) c.self.view_is, c.self.invariant.runs_blocks)))))
+
 pub invariant_of-self : goal.invariant_of-self
 invariant_of-self g c =
     let low : c.args.first < 512 * length c.self.inside.blocks = omega (arith, ap (λ (s : Numbers). s.bound) c.self.view_is, c.requires.within, some_frames c.args.order c.frames-frames.ensures.low c.frames-frames.ensures.high) in
@@ -51,4 +58,7 @@ invariant_of-self g c =
     let adds = removes_run c.self.inside.numbers.members c.remove_run.new.self.members c.args.first c.get.result c.frames-frames.result c.get.ensures.value
     (λ k e. ap (λ (s : Numbers). set.contains s.members k) c.self.view_is ∙ c.requires.all k (ap (λ m. in_run c.args.first m k) (sym c.frames-frames.ensures.value) ∙ e))
     (λ k. c.remove_run.ensures.run k ∙ ap (λ m. not (in_run c.get.result m k) && set.contains c.self.inside.numbers.members k) count) in
-    set_fewer c.self.inside c.self.invariant c.remove_run.new.self c.args.first c.get-3.result c.frames-frames.result low within c.get-3.ensures.value adds c.fewer.new.self c.remove_run.ensures.bound c.fewer.ensures
+    set_fewer c.self.inside c.self.invariant c.remove_run.new.self c.args.first c.get-3.result c.frames-frames.result low within c.get-3.ensures.value adds c.fewer.new.self c.remove_run.ensures.bound c.fewer.ensures c.remove.new.self c.remove.ensures.open c.remove.ensures.blocks
+    (c.remove.ensures.whole (set.contains c.self.inside.numbers.members) (set.contains c.remove_run.new.self.members) c.self.invariant.runs
+    (subst (λ (f : ℕ). Empties (set.contains c.self.inside.numbers.members) (set.contains c.remove_run.new.self.members) f (2 ^ c.get-5.result)) (sym c.get-4.ensures.value) (subst (λ (o : ℕ). Empties (set.contains c.self.inside.numbers.members) (set.contains c.remove_run.new.self.members) c.args.first (2 ^ o)) (sym c.get-5.ensures.value)
+    (run_went (set.contains c.self.inside.numbers.members) (set.contains c.remove_run.new.self.members) c.args.first c.args.order (λ k inside. ap (λ (s : Numbers). set.contains s.members k) c.self.view_is ∙ c.requires.all k inside) (λ k. c.remove_run.ensures.run k ∙ (λ i. not (in_run (c.get.ensures.value i) (2 ^ c.get-2.ensures.value i) k) && set.contains c.self.inside.numbers.members k))))))

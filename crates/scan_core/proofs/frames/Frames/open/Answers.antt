@@ -2,7 +2,8 @@ use Rattle.std.proofs.Common.{◌∙◌, length, ap, arith}
 use Rattle.frame_core.specs.declared.state.FrameState.TheVariants.{Free}
 use Rattle.std.specs.Prelude.{◌*◌}
 use Rattle.std.proofs.lemmas.List.{length-replicate}
-use Rattle.scan_core.proofs.Steps.{most_of_levels, sound_free}
+use Rattle.scan_core.proofs.Numbering.{most_of_levels}
+use Rattle.scan_core.proofs.Steps.{sound_free}
 use Rattle.scan_core.proofs.frames.Frames.open.Goals as goal
 
 pub overflow_mul-count : goal.overflow_mul-count

@@ -10,7 +10,7 @@ returns-then-is_spare g c =
     let frames = 512 * c.blocks-frames.result in
     let at = frames - 1 - c.loop-above.above in
     let few = c.blocks-frames.ensures.valid.size.1 in
-    named c.new.result at (c.new.ensures.valid.1 (omega (arith, c.loop-above-test.true, few, c.blocks-frames.ensures.blocks))) c.new.ensures.value
+    named c.in_any_zone.result at (c.in_any_zone.ensures.valid.1 (omega (arith, c.loop-above-test.true, few, c.blocks-frames.ensures.blocks))) c.in_any_zone.ensures.value
     ∙ sym (highest_here p (frames - c.loop-above.above) at (omega (arith, c.loop-above-test.true)) (sym c.is_spare.ensures ∙ c.if-is_spare.true))
     ∙ c.loop-above.invariant ∙ ap (λ (blocks : ℕ). highest p (512 * blocks)) c.blocks-frames.ensures.blocks
 

@@ -1,5 +1,5 @@
-use Rattle.std.proofs.Common.{ℕ, Bool, ◌<◌, ◌≤◌, ◌∙◌, sym, ap, length, List, arith}
-use Rattle.std.specs.Prelude.{is_none, nat_lt, ◌&&◌}
+use Rattle.std.proofs.Common.{ℕ, Bool, ◌<◌, ◌∙◌, sym, ap, length, List, arith}
+use Rattle.std.specs.Prelude.{is_none, nat_lt}
 use Rattle.std.specs.FinSet as set
 use Rattle.std.proofs.lemmas.Bool.{ltb-true}
 use Rattle.scan_core.proofs.Spanning.{both}

@@ -1,6 +1,5 @@
-use Rattle.std.proofs.Common.{get_or, ◌≡◌, ◌∙◌, ◌+◌, ◌∷◌, ℕ, refl, ap, subst, sym, arith}
+use Rattle.std.proofs.Common.{◌≡◌, ◌∙◌, ◌+◌, ◌∷◌, ℕ, refl, ap, subst, sym, arith}
 use Rattle.std.specs.Prelude.{Some, false, is_some, slice_get, slice_set, unwrap_or}
-use Rattle.std.proofs.lemmas.Option.{slice_get-get_or}
 use Rattle.frame_core.specs.declared.state.FrameState.TheVariants.{Source, Target}
 use Rattle.frame_core.specs.declared.record.Record.TheVariants.{Isolate}
 use Rattle.frame_core.specs.Moves.{isolated}
@@ -18,9 +17,7 @@ use Rattle.zone_tables.specs.Fits.{MovesFit}
 use Rattle.zone_tables.specs.History.{told}
 use Rattle.zone_tables.specs.Moves.{Moves}
 use Rattle.state_core.proofs.Facts.{frame_within, not_none, room_and_serial}
-use Rattle.zone_tables.proofs.Tables.{placement_seen, note_within}
-use Rattle.zone_tables.specs.Notes.{unused_note}
-use Rattle.zone_tables.specs.declared.note.PageNote.{PageNote}
+use Rattle.zone_tables.proofs.Tables.{note_is, note_of, placement_seen}
 use Rattle.zone_tables.proofs.Isolation.{isolated_frames, isolated_words, isolated_movable, isolated_sources}
 use Rattle.state_core.proofs.Settled.{can_isolate, isolate_recorded, target_within, swept_if_isolated}
 use Rattle.zone_tables.proofs.Placement.{SourcesPlaced}
@@ -63,15 +60,8 @@ pub place-requires : goal.place-requires
 place-requires g c =
     ap is_some (placement_seen c.self.inside c.args.self.now c.self.view_is c.args.pair.page ∙ c.requires.pair.from.here)
 
--- the note of the page after it was isolated
-abbrev noted : {g : Over} → After-note g → PageNote
-noted c = get_or c.self.inside.notes c.args.pair.page unused_note
-
-note_is : {g : Over} (c : After-note g) → slice_get c.self.inside.notes c.args.pair.page ≡ Some (noted c)
-note_is c =
-    let sound = is_sound c.self.view_is c.self.invariant in
-    let used = not_none _ (At c.args.pair.source) c.requires.pair.from.here in
-    slice_get-get_or c.self.inside.notes c.args.pair.page unused_note (note_within c.self.inside c.args.self.now sound c.args.pair.page used)
+noted : {g : Over} (c : After-note g) → slice_get c.self.inside.notes c.args.pair.page ≡ Some (note_of c.self.inside c.args.pair.page)
+noted c = note_is c.self.inside c.args.self.now (is_sound c.self.view_is c.self.invariant) c.args.pair.page (not_none _ (At c.args.pair.source) c.requires.pair.from.here)
 
 -- the fields after the call
 abbrev after : {g : Over} → After-note g → Inside g.row.W
@@ -84,7 +74,7 @@ after c = record c.self.inside {
   history = c.note.new.self;
 }
 
-settling : {g : Over} (c : After-note g) → Settling c.self.inside (after c) c.args.self.now c.args.pair.page (At c.args.pair.source) (Moving (isolated c.args.self.now.records) c.args.pair.source c.args.pair.target) (Isolate (isolated c.args.self.now.records) c.args.pair.page) (noted c) (c.args.pair.source + 1) c.args.pair.target
+settling : {g : Over} (c : After-note g) → Settling c.self.inside (after c) c.args.self.now c.args.pair.page (At c.args.pair.source) (Moving (isolated c.args.self.now.records) c.args.pair.source c.args.pair.target) (Isolate (isolated c.args.self.now.records) c.args.pair.page) (note_of c.self.inside c.args.pair.page) (c.args.pair.source + 1) c.args.pair.target
 settling c =
     let z = c.self.inside in
     let v = c.args.self.now in
@@ -106,7 +96,7 @@ settling c =
       can = can_isolate v pair law is;
       recorded = isolate_recorded v pair law is left.0 left.1;
       spare = omega arith;
-      note_is = note_is c;
+      note_is = noted c;
       frames = subst (λ (fs : Frames). FramesSettled z.frames.states fs.states pair.page (At pair.source) (Moving (isolated v.records) pair.source pair.target)) (sym frames_are)
           (subst (λ (n : ℕ). FramesSettled z.frames.states (slice_set (slice_set z.frames.states pair.source (Source n)) pair.target (Target n)) pair.page (At pair.source) (Moving (isolated v.records) pair.source pair.target)) (sym serial)
           (isolated_frames z.frames.states pair.page pair.source pair.target (isolated v.records) (λ e. absurd (omega arith)) (omega (arith, target_in, sound.frames.count)) (omega (arith, target_in, sound.frames.count))));
@@ -114,7 +104,7 @@ settling c =
           (isolated_movable z.frames.movable (can_move v pair.page) (isolated v.records) pair.source pair.target);
       tables = subst (λ (n : ℕ). Replaces z.tables.entries c.to_migration.new.self.entries (Present pair.source) (Migration n pair.source)) serial c.to_migration.ensures.replaced;
       words = isolated_words z.words v sound.words (isolated v.records) pair.source pair.target (omega arith) target_in;
-      notes = c.place.ensures (noted c) (note_is c) ∙ ap (λ (n : ℕ). slice_set z.notes pair.page (record (noted c) { placement = Some (Moving n pair.source pair.target) })) serial;
+      notes = c.place.ensures _ (noted c) ∙ ap (λ (n : ℕ). slice_set z.notes pair.page (record (note_of z pair.page) { placement = Some (Moving n pair.source pair.target) })) serial;
       moves = subst (λ (moves : Moves). MovesFit moves (Isolate (isolated v.records) pair.page ∷ v.records)) (sym c.isolate-serial.ensures.noted)
           (record { isolated = ap (λ n. n + 1) sound.moves.isolated; moved = sound.moves.moved; back = sound.moves.back });
       sources = subst (λ (moves : Moves). SourcesPlaced z.moves.pages moves.pages pair.page (Some (Moving (isolated v.records) pair.source pair.target))) (sym c.isolate-serial.ensures.noted)

@@ -1,4 +1,4 @@
-use Rattle.std.proofs.Common.{◌∙◌, ap, arith}
+use Rattle.std.proofs.Common.{◌<◌, ◌∙◌, length, ap, arith}
 use Rattle.state_core.specs.ZoneState.{ZoneState}
 use Rattle.std.specs.FinSet as set
 use Rattle.zone_tables.proofs.Marks.{mark_read}
@@ -7,5 +7,7 @@ use Rattle.zone_tables.proofs.zone.ZoneTables.is_marked.Goals as goal
 
 pub returns : goal.returns
 returns g c =
-    mark_read c.self.inside.marked c.get.result ∙ mark_seen c.self.inside c.args.self.now c.self.view_is c.get.result (omega (arith, c.get.ensures.value, c.requires, c.self.invariant.valid.size.1, ap (λ (z : ZoneState). z.blocks) c.self.view_is))
+    let within : c.get.result < length c.self.inside.marked.items = omega (arith, c.get.ensures.value, c.requires, c.self.invariant.marks, ap (λ (z : ZoneState). z.blocks) c.self.view_is) in
+    mark_read c.self.inside.marked.items c.get.result c.index.result.now within c.index.ensures
+    ∙ mark_seen c.self.inside c.args.self.now c.self.view_is c.get.result within
     ∙ ap (set.contains c.args.self.now.marked) c.get.ensures.value

@@ -1,5 +1,4 @@
-use Rattle.std.proofs.Common.{ap, true, arith}
-use Rattle.state_core.specs.ZoneState.{ZoneState}
+use Rattle.std.proofs.Common.{true}
 use Rattle.state_core.specs.Marking.{block_marked}
 use Rattle.state_core.proofs.Facts.{spare}
 use Rattle.zone_tables.proofs.Facts.{is_sound, Becomes}
@@ -10,7 +9,7 @@ use Rattle.zone_tables.proofs.zone.ZoneTables.mark.Goals.{After-note}
 
 marked : {g : Over} (c : After-note g) → Becomes (after_mark c.self.inside c.get.result true c.note.new.self) (block_marked c.args.self.now c.args.block)
 marked c =
-    mark_holds c.self.inside c.args.self.now (is_sound c.self.view_is c.self.invariant) c.self.view_is c.self.told c.args.block (omega (arith, c.get.ensures.value, c.requires.within, c.self.invariant.valid.size.1, ap (λ (z : ZoneState). z.blocks) c.self.view_is))
+    mark_holds c.self.inside c.args.self.now (is_sound c.self.view_is c.self.invariant) c.self.view_is c.args.block c.requires.within
     (spare c.args.self.now c.requires.room) c.note.new.self c.get.ensures.value c.note.ensures
 
 pub invariant_of-self : goal.invariant_of-self

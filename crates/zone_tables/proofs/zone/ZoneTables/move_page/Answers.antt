@@ -1,22 +1,19 @@
-use Rattle.std.proofs.Common.{get_or, ◌≡◌, ◌∙◌, ◌+◌, ℕ, refl, ap, subst, sym, arith}
+use Rattle.std.proofs.Common.{◌≡◌, ◌∙◌, ◌+◌, ℕ, refl, ap, subst, sym, arith}
 use Rattle.std.specs.Prelude.{Some, None, is_some, slice_get}
-use Rattle.std.proofs.lemmas.Option.{slice_get-get_or}
 use Rattle.frame_core.specs.declared.record.Record.TheVariants.{Isolate, Moved}
 use Rattle.frame_core.specs.Moves.{isolated}
 use Rattle.table_core.specs.declared.entry.Entry.TheVariants.{Present, Migration}
 use Rattle.table_core.specs.Tables.{Replaces}
 use Rattle.state_core.specs.declared.placement.Placement.TheVariants.{At}
 use Rattle.state_core.proofs.Facts.{not_none}
-use Rattle.zone_tables.specs.declared.note.PageNote.{PageNote}
 use Rattle.zone_tables.specs.declared.zone.ZoneTables.TheInside.{Inside}
 use Rattle.zone_tables.specs.History.{told}
 use Rattle.zone_tables.specs.Moves.{Moves}
-use Rattle.zone_tables.specs.Notes.{unused_note}
 use Rattle.zone_tables.proofs.Evacuation as away
 use Rattle.zone_tables.proofs.Evacuation.{Leaving, leaving_invariant, leaving_view}
 use Rattle.zone_tables.proofs.Facts.{is_sound}
 use Rattle.zone_tables.proofs.MoveEnds.{left_settled}
-use Rattle.zone_tables.proofs.Tables.{note_within, placement_seen}
+use Rattle.zone_tables.proofs.Tables.{note_is, note_of, placement_seen}
 use Rattle.zone_tables.proofs.zone.ZoneTables.move_page.Given.{Over}
 use Rattle.zone_tables.proofs.zone.ZoneTables.move_page.Goals as goal
 use Rattle.zone_tables.proofs.zone.ZoneTables.move_page.Goals.{After-forget_round}
@@ -83,14 +80,8 @@ place-requires g c = ap is_some (placement_seen c.self.inside c.args.self.now c.
 pub note-requires : goal.note-requires
 note-requires g c = omega (arith, away.room_for_two c.self.view_is c.self.invariant _ c.requires.may_move c.requires.accepted)
 
--- the note of the page before it went
-abbrev noted : {g : Over} → After-forget_round g → PageNote
-noted c = get_or c.self.inside.notes c.args.page unused_note
-
-note_is : {g : Over} (c : After-forget_round g) → slice_get c.self.inside.notes c.args.page ≡ Some (noted c)
-note_is c =
-    let used = not_none _ (At c.args.source) c.requires.may_move.here in
-    slice_get-get_or c.self.inside.notes c.args.page unused_note (note_within c.self.inside c.args.self.now (is_sound c.self.view_is c.self.invariant) c.args.page used)
+noted : {g : Over} (c : After-forget_round g) → slice_get c.self.inside.notes c.args.page ≡ Some (note_of c.self.inside c.args.page)
+noted c = note_is c.self.inside c.args.self.now (is_sound c.self.view_is c.self.invariant) c.args.page (not_none _ (At c.args.source) c.requires.may_move.here)
 
 -- the fields after the call
 abbrev after : {g : Over} → After-forget_round g → Inside g.row.W
@@ -103,7 +94,7 @@ after c = record c.self.inside {
   history = c.forget_round.new.self;
 }
 
-leaving : {g : Over} (c : After-forget_round g) → Leaving c.self.inside (after c) c.args.self.now (record { page = c.args.page; source = c.args.source; target = c.args.target }) (noted c)
+leaving : {g : Over} (c : After-forget_round g) → Leaving c.self.inside (after c) c.args.self.now (record { page = c.args.page; source = c.args.source; target = c.args.target }) (note_of c.self.inside c.args.page)
 leaving c =
     let z = c.self.inside in
     let serial = c.isolate-serial.ensures.serial ∙ (is_sound c.self.view_is c.self.invariant).moves.isolated in
@@ -114,11 +105,11 @@ leaving c =
       view = c.self.view_is;
       may_move = c.requires.may_move;
       accepted = c.requires.accepted;
-      note_is = note_is c;
+      note_is = noted c;
       frames = left_settled z.frames c.empty.new.self c.fill.new.self c.args.target c.args.source c.args.page _ c.empty.ensures.state c.fill.ensures.page;
       tables = away.entries_moved c.self.view_is c.self.invariant _ c.requires.may_move c.requires.accepted c.to_migration.new.self.entries now c.to_present.new.self.entries then;
       words = c.copy.ensures.copied;
-      notes = c.place.ensures (noted c) (note_is c);
+      notes = c.place.ensures _ (noted c);
       moves = c.arrive.ensures ∙ ap (λ (ms : Moves). record ms { moved = ms.moved + 1 }) c.isolate-serial.ensures.noted;
       history = c.forget_round.ensures ∙ (λ i. record (c.note-2.ensures i) { round = None }) ∙ (λ i. record (told (c.note.ensures i) (Moved (serial i))) { round = None }) ∙ (λ i. record (told (told z.history (Isolate (serial i) c.args.page)) (Moved (isolated c.args.self.now.records))) { round = None });
       frames_same = c.to_present.ensures.frames ∙ c.to_migration.ensures.frames;

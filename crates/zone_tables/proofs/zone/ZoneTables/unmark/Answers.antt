@@ -1,5 +1,4 @@
-use Rattle.std.proofs.Common.{ap, false, arith}
-use Rattle.state_core.specs.ZoneState.{ZoneState}
+use Rattle.std.proofs.Common.{false}
 use Rattle.state_core.specs.Marking.{block_unmarked}
 use Rattle.state_core.proofs.Facts.{spare}
 use Rattle.zone_tables.proofs.Facts.{is_sound, Becomes}
@@ -10,7 +9,7 @@ use Rattle.zone_tables.proofs.zone.ZoneTables.unmark.Goals.{After-note}
 
 unmarked : {g : Over} (c : After-note g) → Becomes (after_mark c.self.inside c.get.result false c.note.new.self) (block_unmarked c.args.self.now c.args.block)
 unmarked c =
-    unmark_holds c.self.inside c.args.self.now (is_sound c.self.view_is c.self.invariant) c.self.view_is c.self.told c.args.block (omega (arith, c.get.ensures.value, c.requires.within, c.self.invariant.valid.size.1, ap (λ (z : ZoneState). z.blocks) c.self.view_is))
+    unmark_holds c.self.inside c.args.self.now (is_sound c.self.view_is c.self.invariant) c.self.view_is c.args.block c.requires.within
     (spare c.args.self.now c.requires.room) c.note.new.self c.get.ensures.value c.note.ensures
 
 pub invariant_of-self : goal.invariant_of-self

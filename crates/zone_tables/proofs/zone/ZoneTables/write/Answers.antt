@@ -1,14 +1,13 @@
-use Rattle.std.proofs.Common.{◌∙◌, ℕ, ap, sym, arith}
-use Rattle.std.specs.Prelude.{slice_set}
-use Rattle.zone_tables.specs.declared.note.PageNote.{PageNote}
+use Rattle.std.proofs.Common.{◌≡◌, ◌∙◌, ℕ, ap, sym, arith}
+use Rattle.std.specs.Prelude.{Some, slice_get}
 use Rattle.state_core.specs.Access.{stored}
 use Rattle.zone_tables.specs.History.{told}
 use Rattle.frame_core.specs.declared.record.Record.TheVariants.{Store}
 use Rattle.state_core.specs.ZoneState.{ZoneState}
 use Rattle.zone_tables.proofs.Facts.{is_sound, Becomes}
-use Rattle.zone_tables.proofs.LoadsAndStores.{Storing, resident, store_holds, resident_in}
+use Rattle.zone_tables.proofs.LoadsAndStores.{Resident, Storing, resident, store_holds, resident_in}
 use Rattle.state_core.proofs.Facts.{spare}
-use Rattle.zone_tables.proofs.Tables.{use_seen, note_stays}
+use Rattle.zone_tables.proofs.Tables.{note_is, note_of, use_seen}
 use Rattle.zone_tables.proofs.zone.ZoneTables.write.Given.{Over}
 use Rattle.zone_tables.proofs.zone.ZoneTables.write.Goals as goal
 use Rattle.zone_tables.proofs.zone.ZoneTables.write.Goals.{After-note}
@@ -24,25 +23,28 @@ unreachable-requires g c =
 pub store-requires : goal.store-requires
 store-requires g c = (omega arith, (omega arith, (resident c.self.view_is c.self.invariant c.requires.frame).1.row_within))
 
-pub get-note-requires : goal.get-note-requires
-get-note-requires g c = omega (arith, (resident_in c.self.view_is c.self.invariant c.requires.frame (sym c.holder.ensures.holder ∙ c.in-Some.is)).note_within)
+-- the page that the frame holds
+its : {g : Over} (c : After-note g) → Resident c.self.inside c.args.self.now c.args.address c.args.frame c.in-Some.page
+its c = resident_in c.self.view_is c.self.invariant c.requires.frame (sym c.holder.ensures.holder ∙ c.in-Some.is)
 
-storing : {g : Over} (c : After-note g) → Storing c.self.inside c.args.self.now c.args.client c.args.address c.in-Some.page c.args.frame c.args.word c.args.value c.get-note.result c.note.new.self
+seen : {g : Over} (c : After-note g) → slice_get c.self.inside.notes c.in-Some.page ≡ Some (note_of c.self.inside c.in-Some.page)
+seen c = note_is c.self.inside c.args.self.now (is_sound c.self.view_is c.self.invariant) c.in-Some.page (its c).used
+
+storing : {g : Over} (c : After-note g) → Storing c.self.inside c.args.self.now c.args.client c.args.address c.in-Some.page c.args.frame c.args.word c.args.value (note_of c.self.inside c.in-Some.page) c.note.new.self
 storing c =
-    let is = resident_in c.self.view_is c.self.invariant c.requires.frame (sym c.holder.ensures.holder ∙ c.in-Some.is) in
     record {
       sound = is_sound c.self.view_is c.self.invariant;
       view = c.self.view_is;
       spare = spare c.args.self.now c.requires.room;
-      named = is.named;
-      at = is.at;
+      named = (its c).named;
+      at = (its c).at;
       small = omega (arith, c.store.ensures.in_range, ap (λ (u : ZoneState). u.page_size) c.self.view_is);
-      note_is = c.get-note.ensures;
+      note_is = seen c;
       history_is = c.note.ensures ∙ ap (λ (word : ℕ). told c.self.inside.history (Store c.args.client c.args.address word c.args.value)) c.noted.ensures.value;
     }
 
-written : {g : Over} (c : After-note g) → Becomes (record c.self.inside { words = c.store.new.self; notes = c.revise.new.self; history = c.note.new.self }) (stored c.args.self.now c.args.client c.args.address c.args.word c.args.value)
-written c = store_holds (storing c) c.store.ensures.stored (c.revise.ensures ∙ ap (slice_set c.self.inside.notes c.in-Some.page) c.stored.ensures)
+written : {g : Over} (c : After-note g) → Becomes (record c.self.inside { words = c.store.new.self; notes = c.store-2.new.self; history = c.note.new.self }) (stored c.args.self.now c.args.client c.args.address c.args.word c.args.value)
+written c = store_holds (storing c) c.store.ensures.stored (c.store-2.ensures (note_of c.self.inside c.in-Some.page) (seen c))
 
 pub invariant_of-self : goal.invariant_of-self
 invariant_of-self g c = (written c).0
@@ -53,8 +55,5 @@ returns-clause-step g c = (written c).1
 pub returns-clause-valid : goal.returns-clause-valid
 returns-clause-valid g c = (invariant_of-self g c).valid
 
-pub revise-requires-clause-used : goal.revise-requires-clause-used
-revise-requires-clause-used g c = use_seen c.self.inside c.self.view_is c.in-Some.page (resident_in c.self.view_is c.self.invariant c.requires.frame (sym c.holder.ensures.holder ∙ c.in-Some.is)).used
-
-pub revise-requires-clause-stays : goal.revise-requires-clause-stays
-revise-requires-clause-stays g c = note_stays c.self.view_is c.self.invariant c.in-Some.page (resident_in c.self.view_is c.self.invariant c.requires.frame (sym c.holder.ensures.holder ∙ c.in-Some.is)).used c.get-note.ensures c.stored.result (ap (λ (n : PageNote). n.placement) c.stored.ensures)
+pub store-requires-2 : goal.store-requires-2
+store-requires-2 g c = use_seen c.self.inside c.self.view_is c.in-Some.page (resident_in c.self.view_is c.self.invariant c.requires.frame (sym c.holder.ensures.holder ∙ c.in-Some.is)).used
