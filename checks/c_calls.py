@@ -182,7 +182,8 @@ class Chooser:
 
     def give_order(self):
         order = self.order()
-        return self.number(self.frames >> min(order, 9), machine.MOST_FRAMES) << min(order, 9), order
+        shift = min(order, 9)
+        return self.number(self.frames >> shift, machine.MOST_FRAMES >> shift) << shift, order
 
     evacuate = give_order
 

@@ -109,7 +109,8 @@ static void ranges(compactd_pool *pool, uint32_t page_words)
     IS(RANGE, compactd_give_order(pool, 4, 3));
     IS(RANGE, compactd_give_order(pool, 512, 9));
     IS(RANGE, compactd_give_order(pool, 0, 2));
-    IS(RANGE, compactd_read_block(pool, 4096, 9, 0, words, 1));
+    IS(RANGE, compactd_read_block(pool, 1 << 24, 9, 0, words, 1));
+    IS(NOT_HUGE, compactd_read_block(pool, (1 << 24) - 1, 9, 0, words, 1));
     IS(RANGE, compactd_write_block(pool, 0, 10, 0, words, 1));
     IS(RANGE, compactd_mark(pool, 1));
     IS(RANGE, compactd_unmark(pool, 8));
@@ -120,7 +121,7 @@ static void ranges(compactd_pool *pool, uint32_t page_words)
     IS(RANGE, compactd_free_runs(pool, far, &runs));
     IS(RANGE, compactd_fragmentation(pool, 10, &fragmentation));
     IS(RANGE, compactd_fragmentation(pool, far, &fragmentation));
-    IS(RANGE, compactd_next_moving(pool, 4096, &page, &move));
+    IS(RANGE, compactd_next_moving(pool, 1 << 24, &page, &move));
     IS(RANGE, compactd_next_moving(pool, far, &page, &move));
     moved = 7;
     IS(RANGE, compactd_evacuate(pool, 0, 2, &moved));
@@ -588,7 +589,7 @@ static void lost(compactd_pool *pool, uint32_t page_words)
     OK(compactd_isolate(pool, &page, words, page_words));
     OK(compactd_isolate(pool, &page, words, page_words));
     IS(NOT_MOVING, compactd_next_moving(pool, 301, &page, &move));
-    IS(NOT_MOVING, compactd_next_moving(pool, 4095, &page, &move));
+    IS(NOT_MOVING, compactd_next_moving(pool, (1 << 24) - 1, &page, &move));
     OK(compactd_next_moving(pool, 1, &page, &move));
     HOLDS(move.source == 300 && move.target > 300 && move.space == 2 && move.vpage == 7 && page.flags == COMPACTD_DIRTY);
     OK(compactd_next_moving(pool, 0, &page, &move));
@@ -662,6 +663,32 @@ static void every_number_of_blocks(uint32_t page_words)
     }
 }
 
+/* The last frame and the last pageblock of a pool that has more of them than one with a journal may have. */
+static void many_pageblocks(uint32_t page_words, uint32_t blocks)
+{
+    compactd_pool pool = {0};
+    uint32_t last = 512 * blocks - 1;
+
+    OK(compactd_open(&pool, page_words, blocks));
+    described(&pool, page_words, blocks, 0);
+    IS(RANGE, compactd_map_at(&pool, 0, 0, 0, 0, last + 1));
+    OK(compactd_map_at(&pool, 0, 0, 0, 0, last));
+    OK(compactd_store(&pool, 0, 0, 0, 7, 5));
+    IS(RANGE, compactd_mark(&pool, blocks));
+    OK(compactd_mark(&pool, blocks - 1));
+    OK(compactd_marked(&pool, blocks - 1, &is_so));
+    HOLDS(is_so);
+    OK(compactd_unmark(&pool, blocks - 1));
+    OK(compactd_evacuate(&pool, last - 7, 3, &moved));
+    OK(compactd_look(&pool, 0, 0, &info));
+    HOLDS(moved == 1 && info.frame == last - 8 && info.flags == COMPACTD_DIRTY);
+    OK(compactd_load(&pool, 0, 0, 0, 7, &value));
+    HOLDS(value == 5);
+    IS(RANGE, compactd_give_order(&pool, last + 1, 9));
+    IS(NOT_HUGE, compactd_give_order(&pool, last - 511, 9));
+    OK(compactd_close(&pool));
+}
+
 /* Each number from 0 on has a text of its own, where it is that of a refusal. */
 static void texts(void)
 {
@@ -684,6 +711,7 @@ static void journal(uint32_t page_words)
 
     IS(RANGE, compactd_open_journal(&pool, page_words, 1, 0));
     IS(RANGE, compactd_open_journal(&pool, page_words, 1, 65537));
+    IS(RANGE, compactd_open_journal(&pool, page_words, 9, 4));
     OK(compactd_open_journal(&pool, page_words, 1, 4));
     described(&pool, page_words, 1, 4);
     OK(compactd_map(&pool, 0, 0, 0, 0, &frame));
@@ -718,7 +746,7 @@ static void both_sizes(uint32_t page_words)
     IS(RANGE, compactd_open(&pool, 0, 1));
     IS(RANGE, compactd_open(&pool, 9, 1));
     IS(RANGE, compactd_open(&pool, page_words, 0));
-    IS(RANGE, compactd_open(&pool, page_words, 9));
+    IS(RANGE, compactd_open(&pool, page_words, 32769));
     closed(&pool);
     OK(compactd_open(&pool, page_words, 1));
     described(&pool, page_words, 1, 0);
@@ -740,6 +768,7 @@ static void both_sizes(uint32_t page_words)
     reservations(page_words);
     reservations_of_a_journal(page_words);
     every_number_of_blocks(page_words);
+    many_pageblocks(page_words, 9);
 }
 
 /* What one of these leaves behind is seen by the tools that look for memory that is lost. */
@@ -768,5 +797,6 @@ int main(void)
     a_thousand_pools();
     both_sizes(8);
     both_sizes(512);
+    many_pageblocks(8, 513);
     return wrong;
 }

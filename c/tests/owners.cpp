@@ -48,7 +48,8 @@ template <typename Call> std::uint32_t refusal(Call call)
 
 void pools()
 {
-    HOLDS(refusal([] { Pool(PageSize::bytes64, 9); }) == COMPACTD_RANGE);
+    HOLDS(refusal([] { Pool(PageSize::bytes64, 32769); }) == COMPACTD_RANGE);
+    HOLDS(refusal([] { Pool(PageSize::bytes64, 9, 1); }) == COMPACTD_RANGE);
     HOLDS(refusal([] { Pool(PageSize::bytes64, 1, 0); }) == COMPACTD_RANGE);
     Pool pool(PageSize::bytes64, 1), other(PageSize::bytes4096, 2);
     const Address at = {0, 0}, alias = {1, 1};
@@ -166,7 +167,7 @@ void pages_in_a_buffer()
     HOLDS(pool.look(low).frame == 511 && pool.look(high).frame == 1 && pool.audit().back == 1);
     pool.begin_round();
     HOLDS(pool.isolate(page, words, 8) && pool.next_moving(0, page, move) && move.source == 1 && move.vpage == 1);
-    HOLDS(!pool.next_moving(2, page, move) && refusal([&] { pool.next_moving(4096, page, move); }) == COMPACTD_RANGE);
+    HOLDS(!pool.next_moving(2, page, move) && refusal([&] { pool.next_moving(1 << 24, page, move); }) == COMPACTD_RANGE);
 } // the pool goes while a page of it is moving
 
 void moving_pages()

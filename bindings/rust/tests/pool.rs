@@ -12,7 +12,8 @@ const AT: Address = Address { space: 0, vpage: 0 };
 
 #[test]
 fn refuses_numbers_out_of_their_ranges() {
-    assert_eq!(Pool::open(PageSize::Bytes64, 0).err(), Some(Error::Range));
+    assert_eq!([0, 32_769].map(|blocks| Pool::open(PageSize::Bytes64, blocks).err()), [Some(Error::Range); 2]);
+    assert_eq!(Pool::open_journal(PageSize::Bytes64, 9, 1).err(), Some(Error::Range));
     assert_eq!(Pool::open_journal(PageSize::Bytes4096, 1, 65_537).err(), Some(Error::Range));
     let mut pool = pool();
     assert_eq!(pool.map(8, AT, false), Err(Error::Range));
@@ -75,7 +76,7 @@ fn finds_a_lost_page_and_puts_it_back() {
     assert_eq!(lost.iter().map(|it| (it.source, it.target, it.address.vpage)).collect::<Vec<_>>(), [(3, 511, 0), (7, 510, 1)]);
     assert_eq!(lost.iter().map(|it| (it.page.serial(), it.page.is_dirty())).collect::<Vec<_>>(), [(0, false), (1, true)]);
     assert_eq!(pool.next_moving(4).map(|it| it.page), Ok(lost[1].page));
-    assert_eq!((pool.next_moving(8).err(), pool.next_moving(4096).err()), (Some(Error::NotMoving), Some(Error::Range)));
+    assert_eq!((pool.next_moving(8).err(), pool.next_moving(1 << 24).err()), (Some(Error::NotMoving), Some(Error::Range)));
     assert_eq!(other.put_back_lost(lost[0].page), Err(Error::Stranger));
     assert_eq!(pool.put_back_lost(lost[0].page), Ok(()));
     assert_eq!(pool.put_back_lost(lost[0].page), Err(Error::Stranger));

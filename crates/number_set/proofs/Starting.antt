@@ -1,5 +1,5 @@
 -- Where the words of a level that have a number start.
-use Rattle.std.proofs.Common.{◌≡◌, ℕ, ◌≤◌, Bool, true, false, not, List, length, inl, inr, refl, sym, ap, ◌∙◌, min, eq-eqb, arith}
+use Rattle.std.proofs.Common.{◌≡◌, ◌≢◌, ℕ, ◌≤◌, Bool, true, false, not, List, length, inl, inr, refl, sym, ap, ◌∙◌, min, eq-eqb, arith}
 use Rattle.std.specs.Prelude.{◌<◌, nat_eq, nat_lt, ◌&&◌, ◌||◌}
 use Rattle.std.specs.Ordering.{nat_cmp}
 use Rattle.std.specs.FinSet as set
@@ -39,6 +39,14 @@ module _ (words : List ℕ) (above : set.FinSet nat_cmp) (each : Summarizes abov
     passes = λ within. sym (each lowest) ∙ starts.passes (omega (arith, within, is));
   }
 
+and_false : (b : Bool) → (b && false) ≡ false
+and_false true = refl
+and_false false = refl
+
+-- a word other than the one that is emptied
+pub not_emptied : (emptied : Bool) (word other : ℕ) → other ≢ word → (emptied && nat_eq other word) ≡ false
+not_emptied emptied word other away = ap (λ b. emptied && b) (ne_eqb other word away) ∙ and_false emptied
+
 -- the words that pass q got a number, or lost theirs
 module _ (words new : List ℕ) (long : length new ≡ length words) (q : ℕ → Bool) (lowest : ℕ) (starts : StartsAt (is_filled words) (length words) lowest) where
   pub starts_put : ((word : ℕ) → is_filled new word ≡ (q word || is_filled words word)) → (put least : ℕ) → IsFirst q put → least ≡ min lowest put → StartsAt (is_filled new) (length new) least
@@ -59,10 +67,7 @@ module _ (words new : List ℕ) (long : length new ≡ length words) (q : ℕ �
   starts_cut filled away = record {
     before = λ word less. filled word ∙ ap (λ b. not (q word) && b) (starts.before word less) ∙ and_false (not (q word));
     passes = λ within. filled lowest ∙ ap (λ b. not b && is_filled words lowest) away ∙ starts.passes (omega (arith, within, long));
-  } where
-    and_false : (b : Bool) → (b && false) ≡ false
-    and_false true = refl
-    and_false false = refl
+  }
 
 -- where one word starts, and some in a row
 pub first_of_one : (n : ℕ) → IsFirst (λ k. nat_eq k n) n

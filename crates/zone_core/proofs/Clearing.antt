@@ -233,8 +233,8 @@ module _ (z : ZoneState) (order : ℕ) (firsts : List ℕ) (picked : ArePicked z
 
       pub all_free : (frame : ℕ) → is_in frame ≡ true → is_free v frame ≡ true
       all_free frame there =
-          let unheld : is_held v frame ≡ false = (or_parts (is_held v frame) _ (or_parts _ _ (is.unshut frame there)).1).0 in
           let done_here : frame < m = omega (arith, in_zone frame there, all) in
+          let unheld : is_held v frame ≡ false = (or_parts (is_held v frame) _ (or_parts _ _ (is.unshut frame there)).1).0 in
           and_from (not (is_used v frame)) (not (is_held v frame)) (ap not (is.empty frame there done_here)) (ap not unheld)
 
       pub room_left : length (out v.records) + n ≤ v.room

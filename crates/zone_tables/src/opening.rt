@@ -70,10 +70,9 @@ impl<const W: usize> ZoneTables<W> {
         ensures valid { IfOk result (λ zone. IsValidZone zone) }
     {
         let count = 512 * blocks;
-        let (handed_out, cleared) = open_blocks(alloc, count)?;
+        let (handed_out, cleared, marked) = open_blocks(alloc, blocks)?;
         let (notes, moves) = open_notes(alloc, count)?;
         let (frames, tables, words) = open_memory(alloc, blocks)?;
-        let marked = FixedVec::filled(alloc, false, blocks as usize)?;
         Ok(ZoneTables {
             number,
             blocks,
@@ -126,13 +125,19 @@ fn open_notes(alloc: Global, count: u32) -> Result<(Notes, Moves), AllocError>
     Ok((notes, moves))
 }
 
-/// Which blocks are handed out, and whether each of them is clear of words of pages.
-fn open_blocks(alloc: Global, frames: u32) -> Result<(HandedOut, Cleared), AllocError>
-    requires { frames ≤ 16777216 }
-    ensures handed_out { IfOk result (λ held. held.0 ≡ replicate frames None) }
-    ensures cleared { IfOk result (λ held. held.1 ≡ replicate frames false) }
+/// Which blocks are handed out, whether each of them is clear of words of pages, and which pageblocks are marked.
+fn open_blocks(
+    alloc: Global,
+    blocks: u32,
+) -> Result<(HandedOut, Cleared, FixedVec<bool>), AllocError>
+    requires { blocks ≤ 32768 }
+    ensures handed_out { IfOk result (λ held. held.0 ≡ replicate (512 * blocks) None) }
+    ensures cleared { IfOk result (λ held. held.1 ≡ replicate (512 * blocks) false) }
+    ensures marked { IfOk result (λ held. held.2.items ≡ replicate blocks false) }
 {
+    let frames = 512 * blocks;
     let handed_out = HandedOut::open(alloc, frames)?;
     let cleared = Cleared::open(alloc, frames)?;
-    Ok((handed_out, cleared))
+    let marked = FixedVec::filled(alloc, false, blocks as usize)?;
+    Ok((handed_out, cleared, marked))
 }

@@ -6,6 +6,7 @@ mod contents;
 mod counts;
 mod draws;
 mod lists;
+mod many_pageblocks;
 mod moving;
 mod refusals;
 mod sizes;
@@ -39,11 +40,11 @@ fn word<const W: usize>(rt: &impl Abort, number: u32) -> WordOf<W>
 fn frame(rt: &impl Abort, number: u32) -> FrameNo
     ensures { result ≡ number }
 {
-    FrameNo::new(number).expect(rt, "a frame")
+    FrameNo::in_any_zone(number).expect(rt, "a frame")
 }
 
 fn block(rt: &impl Abort, number: u32) -> BlockNo {
-    BlockNo::new(number).expect(rt, "a pageblock")
+    BlockNo::in_any_zone(number).expect(rt, "a pageblock")
 }
 
 fn order(rt: &impl Abort, number: u32) -> Order {

@@ -1,11 +1,10 @@
-use Rattle.std.proofs.Common.{◌≡◌, ℕ, ◌*◌, ◌/◌, not, length, ap, ◌∙◌, arith}
+use Rattle.std.proofs.Common.{◌≡◌, ℕ, ◌*◌, ◌/◌, not, length, sym, ap, ◌∙◌, arith}
 use Rattle.std.specs.Prelude.{nat_eq, ◌&&◌}
 use Rattle.std.specs.Vec.{with_items}
-use Rattle.std.proofs.lemmas.Bool.Decides.{nat_tests}
 use Rattle.number_set.specs.Bits.{has_number, is_filled}
 use Rattle.number_set.proofs.OneAbove.{left_above, numbers_cut, cut_above, written}
 use Rattle.number_set.proofs.Levels.{bound_of, in_fourth, members_of, of_fourth}
-use Rattle.number_set.proofs.Starting.{starts_above, starts_cut, starts_kept}
+use Rattle.number_set.proofs.Starting.{not_emptied, starts_above, starts_cut, starts_kept}
 use Rattle.number_set.proofs.number_set.NumberSet.remove.Goals as goal
 
 pub invariant_of-self-then-number-self : goal.invariant_of-self-then-number-self
@@ -24,7 +23,7 @@ invariant_of-self-else-number-self g c four =
     let long = written c.self.inside.words c.deref_mut.result.now c.remove-2.new.words c.deref_mut.ensures.value c.remove-2.ensures.as_long (λ old new. length new ≡ length old) c.remove-2.ensures.as_long in
     let filled = written c.self.inside.words c.deref_mut.result.now c.remove-2.new.words c.deref_mut.ensures.value c.remove-2.ensures.as_long (λ old new. (word : ℕ) → is_filled new word ≡ (not (c.remove-2.result && nat_eq word (c.args.number / 64)) && is_filled old word)) c.remove-2.ensures.filled in
     let cut = cut_above words new c.args.number c.remove-2.result filled c.self.inside.above.members (c.self.invariant four).2 c.if-remove.true c.remove-then-remove.new.self.members (members_of c.remove-then-remove.ensures) in
-    (omega (arith, long, (c.self.invariant four).0, bound_of c.remove-then-remove.ensures), omega (arith, (c.self.invariant four).1, bound_of c.remove-then-remove.ensures), cut, starts_cut words new long (λ word. c.remove-2.result && nat_eq word (c.args.number / 64)) c.self.inside.lowest (c.self.invariant four).3 filled (grind (arith, nat_tests, c.if-number-self.false)))
+    (omega (arith, long, (c.self.invariant four).0, bound_of c.remove-then-remove.ensures), omega (arith, (c.self.invariant four).1, bound_of c.remove-then-remove.ensures), cut, starts_cut words new long (λ word. c.remove-2.result && nat_eq word (c.args.number / 64)) c.self.inside.lowest (c.self.invariant four).3 filled (not_emptied c.remove-2.result (c.args.number / 64) c.self.inside.lowest (λ same. c.if-number-self.false (sym same))))
 
 pub invariant_of-self-else-remove : goal.invariant_of-self-else-remove
 invariant_of-self-else-remove g c four =

@@ -19,7 +19,7 @@ new_zone c = record {
   moves = c.in_ok-notes.moves;
   handed_out = c.in_ok-handed_out.handed_out;
   cleared = c.in_ok-handed_out.cleared;
-  marked = c.in_ok-marked.marked;
+  marked = c.in_ok-handed_out.marked;
   fingers = c.new.result;
   history = c.args.history;
 }
@@ -38,7 +38,7 @@ fresh c = record {
   notes = c.in_ok-notes.ensures.notes;
   handed_out = c.in_ok-handed_out.ensures.handed_out;
   cleared = c.in_ok-handed_out.ensures.cleared;
-  marked = c.in_ok-marked.ensures.items;
+  marked = c.in_ok-handed_out.ensures.marked;
   fingers = c.new.ensures;
   moves = c.in_ok-notes.ensures.moves;
   history = c.requires.none;
