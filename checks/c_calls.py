@@ -1,7 +1,7 @@
 """Random calls of the library for C are answered as by the machine of `checks/machine.py`.
 
 A million calls are made through `libcompactd.so` and beside them on the machine, with pages of both sizes, with a journal and without one,
-among them rounds, slices of rounds, pages that are moved by hand, and runs that are emptied. Most are made on pools of 1 to 8 pageblocks, and
+among them rounds, slices of rounds, pages that are moved by hand, runs that are emptied, and up to 4 blocks that are reserved. Most are made on pools of 1 to 8 pageblocks, and
 100,000 on pools of 9 to 513, of which some are filled with blocks but for a few pageblocks at the top. After each the number of its refusal is
 compared, and what it tells; where it is refused, what it would have told has to be untouched. The reserved words of a structure have to
 be 0 once a call has filled it, and are random in those that a call is given. Numbers are also out of their ranges. All refusals come up
@@ -114,6 +114,7 @@ ARGUMENTS = {
     "begin_round": [],
     "move_pages": [u32, told(u32), told(u32)],
     "evacuate": [u32, u32, told(u32)],
+    "reserve": [u32, told(u32), size, told(u32)],
     "isolate": [told(MovingPage), told(u64), size],
     "commit": [told(MovingPage), told(u64), size, told(byte)],
     "put_back": [told(MovingPage)],
@@ -186,6 +187,9 @@ class Chooser:
 
     evacuate = give_order
 
+    def reserve(self):
+        return self.order(), self.chance.randrange(5)
+
     def mark(self):
         return (self.number(self.blocks, MOST_BLOCKS),)
 
@@ -244,7 +248,7 @@ OFTEN = {
     **dict.fromkeys(["isolate", "commit"], 20),
     "next_moving": 10,
     **dict.fromkeys(["put_back", "move_pages"], 5),
-    "begin_round": 2,
+    **dict.fromkeys(["begin_round", "reserve"], 2),
     "compact": 1,
 }
 # The calls that end the quiet of a round where they are accepted.
@@ -274,6 +278,10 @@ class Beside:
         if name.startswith("write"):
             values = arguments[-1]
             return self.call(name, *arguments[:-1], (u64 * (len(values) + 1))(*values), len(values)), []
+        if name == "reserve":
+            order, count = arguments
+            moved, firsts = fresh(u32), fresh(u32 * (count + 1))
+            return self.call(name, order, firsts, count, moved), [moved, firsts]
         places = [fresh(kind._type_) for kind in ARGUMENTS[name] if hasattr(kind, "contents")]
         return self.call(name, *arguments, *places), places
 

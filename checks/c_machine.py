@@ -45,10 +45,16 @@ class Zone(machine.Zone):
         self.note(8, number=page.serial, other=None)
         return page
 
-    def evacuate(self, first, order):
-        moved = super().evacuate(first, order)
+    def clear(self, firsts, count, blocks=0):
+        moved = super().clear(firsts, count, blocks)
         self.is_quiet &= moved == 0
         return moved
+
+    def hand_out_at(self, first, order):
+        super().hand_out_at(first, order)
+        self.contents[first] = {}
+        self.note(11, number=first, other=order)
+        self.is_quiet = False
 
     def end_move(self, page, is_moved, cause=1):
         self.note(9 if is_moved else 10, number=page.serial, other=0 if is_moved else cause)
@@ -162,10 +168,7 @@ class ByMachine:
 
     def take_order(self, order):
         need_order(order)
-        first = self.zone.hand_out(order)
-        self.zone.contents[first] = {}
-        self.zone.note(11, number=first, other=order)
-        return first
+        return self.zone.hand_out(order)
 
     def give_order(self, first, order):
         need_order(order)
@@ -262,6 +265,12 @@ class ByMachine:
     def evacuate(self, first, order):
         need_order(order)
         return self.zone.evacuate(first, order)
+
+    def reserve(self, order, count):
+        """How many pages were moved, and the first frames of the blocks."""
+        need_order(order)
+        firsts, moved = self.zone.take_cheapest(order, count)
+        return moved, *firsts
 
     def isolate(self, count):
         """The serial of the next page, its flags and its words."""

@@ -423,15 +423,44 @@ class Zone:
         return most, None
 
     def evacuate(self, first, order):
-        """Empties a run of frames, the lowest page first: each goes to the highest free frame outside. How many they are."""
+        """Empties a run of frames. How many pages went out of it."""
         self.need_frames(first, 2**order)
-        run = range(first, first + 2**order)
-        sources = [frame for frame in run if self.frames[frame] is not None]
-        outside = (frame for frame in self.frames.downwards(0, self.size) if frame not in run)
-        targets = list(itertools.islice(filter(self.can_take, outside), len(sources)))
-        if any(map(self.is_marked, run)) or not all(map(self.can_move, sources)) or len(sources) > len(targets):
+        if self.cost(first, 2**order) is None:
             raise Refused(11)
-        self.need_places(2 * len(sources))
+        return self.clear([first], 2**order)
+
+    def take_cheapest(self, order, count):
+        """Empties so many open runs with the fewest pages, the lowest first of equals, and hands them out. Their first frames, and how many
+        pages went out of them."""
+        size = 2**order
+        costs = [(self.cost(first, size), first) for first in range(0, self.size, size)]
+        firsts = [first for _, first in sorted(cost for cost in costs if cost[0] is not None)[:count]]
+        if len(firsts) < count:
+            raise Refused(11)
+        moved = self.clear(firsts, size, count)
+        for first in firsts:
+            self.hand_out_at(first, order)
+        return firsts, moved
+
+    def cost(self, first, count):
+        """How many pages a run of frames has, or None where it isn't open: a frame of it can't be emptied."""
+        if self.is_marked(first):
+            return None
+        if self.frames.free(first, count) == count:
+            return 0
+        used = [frame for frame in range(first, first + count) if self.frames[frame] is not None]
+        return len(used) if all(map(self.can_move, used)) else None
+
+    def clear(self, firsts, count, blocks=0):
+        """Empties open runs of so many frames, the lowest page first: each goes to the highest free frame outside of them. There have to be
+        places for so many blocks besides. How many they are."""
+        inside = {frame for first in firsts for frame in range(first, first + count)}
+        sources = [frame for frame in sorted(inside) if self.frames[frame] is not None]
+        outside = (frame for frame in self.frames.downwards(0, self.size) if frame not in inside)
+        targets = list(itertools.islice(filter(self.can_take, outside), len(sources)))
+        if len(sources) > len(targets):
+            raise Refused(11)
+        self.need_places(2 * len(sources) + blocks)
         for source, target in zip(sources, targets):
             self.end_move(self.isolate(source, target), True)
         return len(sources)
@@ -498,10 +527,13 @@ class Zone:
         first = self.frames.lowest_free_run(2**order)
         if first is None:
             raise Refused(11)
+        self.hand_out_at(first, order)
+        return first
+
+    def hand_out_at(self, first, order):
         self.places -= 1
         self.frames.fill(first, 2**order, (first, order))
         self.handed_out.add((first, order))
-        return first
 
     def huge(self):
         return f"block={self.hand_out(PAGEBLOCK) // FRAMES_OF_A_PAGEBLOCK}"

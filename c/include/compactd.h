@@ -18,8 +18,8 @@
  * What the caller owes, since no call can test it:
  * - A pool is all zeros before its first call. Only these calls read, write or copy its field.
  * - Each pointer leads to memory of its type, or to as many words as the count says, and to nothing else of the same call. No pointer is
- *   null, except `values` of compactd_read, compactd_write, compactd_read_block and compactd_write_block where the count is 0. A test
- *   shows that null is right there; the proof assumes a pointer that isn't null.
+ *   null, except `values` of compactd_read, compactd_write, compactd_read_block and compactd_write_block, and `firsts` of compactd_reserve,
+ *   where the count is 0. A test shows that null is right there; the proof assumes a pointer that isn't null.
  * - Calls on one pool don't overlap, unless all of them are questions: compactd_info, _describe, _free_runs, _fragmentation, _look, _marked,
  *   _quiet, _audit, _journal, _record_at and _next_moving. The caller's lock sees to it: a mutex, or a reader-writer lock under whose reading
  *   side only questions are asked. That questions may run side by side is tested and not proved: the proof knows one call at a time. Calls
@@ -27,15 +27,16 @@
  * - An open pool is closed in the end; otherwise its memory is lost.
  *
  * Three caps of a pool's life. The way out of each is to close the pool and open another.
- * - 2^32 - 1 isolations: each page that a round or an evacuation takes is isolated. After them compactd_isolate and compactd_evacuate answer
- *   JOURNAL_FULL, compactd_move_pages stops so, and the scanners of compactd_compact don't meet. At 2 us a page that is 2.4 hours of steady
- *   compaction.
+ * - 2^32 - 1 isolations: each page that a round, an evacuation or a reservation takes is isolated. After them compactd_isolate,
+ *   compactd_evacuate and compactd_reserve answer JOURNAL_FULL where a page has to move, compactd_move_pages stops so, and the scanners of
+ *   compactd_compact don't meet. At 2 us a page that is 2.4 hours of steady compaction.
  * - 2^53 recorded calls of a pool that keeps no journal; each word of compactd_read and compactd_write counts as one. After them recorded
  *   calls are refused as JOURNAL_FULL.
  * - A journal that is kept has the places that it was opened with. It can't be emptied.
  *
- * As long as the caller does what it owes, no call prints, waits, starts a thread or ends the process. Only compactd_open and
- * compactd_open_journal ask for memory, as a test counts. A signal handler that may interrupt a call on a pool doesn't use that pool. */
+ * As long as the caller does what it owes, no call prints, waits, starts a thread or ends the process. Only compactd_open,
+ * compactd_open_journal and compactd_reserve ask for memory, as a test counts; the last gives it back before it answers. A signal handler
+ * that may interrupt a call on a pool doesn't use that pool. */
 #ifndef COMPACTD_H
 #define COMPACTD_H
 
@@ -50,7 +51,7 @@
 #define COMPACTD_VERSION_TEXT "0.2.0"
 
 /* What a compiler may warn of: an answer that nobody looks at, and a pointer that is null. COMPACTD_CALL_WITH_WORDS stands where `values`
- * may be null. */
+ * or `firsts` may be null. */
 #ifdef __GNUC__
 #define COMPACTD_NOT_NULL __attribute__((nonnull))
 #define COMPACTD_CALL __attribute__((warn_unused_result, nonnull))
@@ -441,6 +442,19 @@ uint32_t compactd_put_back(compactd_pool *pool, const compactd_moving_page *page
  * is in a marked pageblock, in a block that is handed out, or taken up by a page that is moving, pinned or unmovable, or where there are
  * fewer frames to go to than pages; JOURNAL_FULL where there aren't two places for each page, or fewer isolations are left than pages. */
 uint32_t compactd_evacuate(compactd_pool *pool, uint32_t first, uint32_t order, uint32_t *moved) COMPACTD_CALL;
+
+/* Reservations. */
+
+/* Hands out `count` blocks of 2^order frames with the fewest moves that there can be. Gets their first frames, for which `firsts` has room,
+ * and how many pages were moved. A run is open where compactd_evacuate wouldn't be refused for a frame of it. The open runs with the fewest
+ * pages are picked, the lowest first of equals, and `firsts` has them in this order. They are emptied and then handed out, as by
+ * compactd_take_order. Their lowest page goes to the highest free frame that is outside of all of them and in no marked pageblock, the next
+ * page to the next of these frames below, and so on. Each page is copied once. Where a page is moved, the latest round isn't quiet any more.
+ * With `count` 0 nothing is done, and `firsts` may be null.
+ * Refused: CLOSED; RANGE; MEMORY where there isn't enough for a list of the blocks; NO_BLOCK where fewer runs are open, or fewer frames
+ * of unmarked pageblocks are free than the blocks have; JOURNAL_FULL where there aren't two places for each page and one for each block, or
+ * fewer isolations are left than pages. */
+uint32_t compactd_reserve(compactd_pool *pool, uint32_t order, uint32_t *firsts, size_t count, uint32_t *moved) COMPACTD_CALL_WITH_WORDS;
 
 #ifdef __cplusplus
 }

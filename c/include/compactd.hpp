@@ -220,6 +220,12 @@ struct Slice {
     std::uint32_t stopped;
 };
 
+// What Pool::reserve did: the blocks that it handed out, and how many pages it moved for them.
+struct Reserved {
+    std::vector<Huge> blocks;
+    std::uint32_t moved;
+};
+
 // An open pool. One that was moved from is closed: its calls throw CLOSED.
 class Pool {
 public:
@@ -448,6 +454,21 @@ public:
         std::uint32_t moved = 0;
         detail::done(compactd_evacuate(raw(), first, order, &moved));
         return moved;
+    }
+
+    // Reservations.
+
+    // Hands out `count` blocks of 2^order frames with the fewest moves that there can be: the open runs with the fewest pages are emptied
+    // for that, the lowest first of equals. Where a page is moved, the latest round isn't quiet any more.
+    Reserved reserve(std::size_t count, std::uint32_t order = 9)
+    {
+        std::vector<std::uint32_t> firsts(count);
+        Reserved reserved = {std::vector<Huge>(), 0};
+        reserved.blocks.reserve(count);
+        detail::done(compactd_reserve(raw(), order, firsts.data(), count, &reserved.moved));
+        for (std::uint32_t first : firsts)
+            reserved.blocks.push_back(Huge(handle_, first, order));
+        return reserved;
     }
 
 private:

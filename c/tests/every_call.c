@@ -35,6 +35,7 @@ static uint64_t records, room;
 static uint32_t runs;
 static int32_t fragmentation;
 static uint32_t moved, stopped;
+static uint32_t firsts[4];
 
 /* Each call on a pool that is closed: from the beginning, or by compactd_close. */
 static void closed(compactd_pool *pool)
@@ -72,7 +73,9 @@ static void closed(compactd_pool *pool)
     IS(CLOSED, compactd_move_pages(pool, 1, &moved, &stopped));
     HOLDS(moved == 7 && stopped == 7);
     IS(CLOSED, compactd_evacuate(pool, 0, 9, &moved));
-    HOLDS(moved == 7);
+    firsts[0] = 7;
+    IS(CLOSED, compactd_reserve(pool, 9, firsts, 1, &moved));
+    HOLDS(moved == 7 && firsts[0] == 7);
     IS(CLOSED, compactd_isolate(pool, &page, words, 8));
     IS(CLOSED, compactd_commit(pool, &page, words, 8, &is_so));
     IS(CLOSED, compactd_put_back(pool, &page));
@@ -129,7 +132,11 @@ static void ranges(compactd_pool *pool, uint32_t page_words)
     IS(RANGE, compactd_evacuate(pool, 512, 3, &moved));
     IS(RANGE, compactd_evacuate(pool, 4096, 3, &moved));
     IS(RANGE, compactd_evacuate(pool, far - 7, 3, &moved));
-    HOLDS(moved == 7);
+    firsts[0] = 7;
+    IS(RANGE, compactd_reserve(pool, 2, firsts, 1, &moved));
+    IS(RANGE, compactd_reserve(pool, 10, firsts, 4, &moved));
+    IS(RANGE, compactd_reserve(pool, far, NULL, 0, &moved));
+    HOLDS(moved == 7 && firsts[0] == 7);
     IS(RANGE, compactd_isolate(pool, &page, words, page_words - 1));
     IS(RANGE, compactd_commit(pool, &page, words, 1, &is_so));
 }
@@ -497,6 +504,79 @@ static void evacuations_of_a_journal(uint32_t page_words)
     OK(compactd_close(&pool));
 }
 
+/* Runs of 128 frames: the first one has three pages, the next one a pinned page, the third one a page, and the last one two. Mapping them
+ * takes 15 records. */
+static void map_four_runs(compactd_pool *pool)
+{
+    static const uint32_t at[] = {0, 1, 2, 130, 300, 400, 401};
+    uint32_t vpage;
+
+    for (vpage = 0; vpage < 7; vpage++)
+        map_into(pool, vpage, at[vpage]);
+    OK(compactd_pin(pool, 0, 0, 3));
+}
+
+/* A reservation of so many of these runs moves as many pages as these. */
+static void reserves(compactd_pool *pool, size_t count, uint32_t wanted)
+{
+    moved = firsts[count] = 7;
+    OK(compactd_reserve(pool, 7, firsts, count, &moved));
+    HOLDS(moved == wanted && firsts[count] == 7);
+    OK(compactd_info(pool, &counts));
+    HOLDS(counts.huge == count && counts.held == 128 * count && counts.pages == 7);
+}
+
+/* One, two and three of the runs are emptied and handed out, those with the fewest pages first; four aren't open. */
+static void reservations(uint32_t page_words)
+{
+    static const uint32_t wanted[] = {256, 384, 0}, pages[] = {1, 3, 6};
+    static const uint32_t frames[][7] = {
+        {0, 1, 2, 130, 511, 400, 401}, {0, 1, 2, 130, 255, 254, 253}, {255, 254, 253, 130, 252, 251, 250}};
+    compactd_pool pool = {0};
+    uint32_t count, vpage;
+
+    for (count = 1; count < 4; count++) {
+        OK(compactd_open(&pool, page_words, 1));
+        map_four_runs(&pool);
+        moved = firsts[0] = 7;
+        IS(NO_BLOCK, compactd_reserve(&pool, 7, firsts, 4, &moved));
+        HOLDS(moved == 7 && firsts[0] == 7);
+        OK(compactd_reserve(&pool, 7, NULL, 0, &moved));
+        HOLDS(moved == 0);
+        reserves(&pool, count, pages[count - 1]);
+        HOLDS(memcmp(firsts, wanted, count * sizeof *firsts) == 0);
+        for (vpage = 0; vpage < 7; vpage++)
+            is_in_frame(&pool, vpage, frames[count - 1][vpage]);
+        OK(compactd_read_block(&pool, 256, 7, 0, words, 1));
+        HOLDS(words[0] == 0);
+        OK(compactd_close(&pool));
+    }
+}
+
+/* Fewer frames are free than the block has; then a journal has places for a move and for no block; then it has one place more. */
+static void reservations_of_a_journal(uint32_t page_words)
+{
+    compactd_pool pool = {0};
+
+    OK(compactd_open_journal(&pool, page_words, 1, 19));
+    OK(compactd_map_at(&pool, 0, 0, 9, 0, 511));
+    moved = firsts[0] = 7;
+    IS(NO_BLOCK, compactd_reserve(&pool, 9, firsts, 1, &moved));
+    OK(compactd_unmap(&pool, 0, 0, 9));
+    map_four_runs(&pool);
+    IS(JOURNAL_FULL, compactd_reserve(&pool, 7, firsts, 1, &moved));
+    HOLDS(moved == 7 && firsts[0] == 7);
+    OK(compactd_close(&pool));
+    OK(compactd_open_journal(&pool, page_words, 1, 18));
+    map_four_runs(&pool);
+    reserves(&pool, 1, 1);
+    OK(compactd_record_at(&pool, 16, &record));
+    HOLDS(record.kind == COMPACTD_WAS_MOVED && record.number == 0);
+    OK(compactd_record_at(&pool, 17, &record));
+    HOLDS(record.kind == COMPACTD_WAS_TAKEN && record.number == 256 && record.other == 7);
+    OK(compactd_close(&pool));
+}
+
 /* Two moving pages whose serials and numbers nobody kept are found, from any frame on, and put back. */
 static void lost(compactd_pool *pool, uint32_t page_words)
 {
@@ -685,6 +765,8 @@ static void both_sizes(uint32_t page_words)
     evacuations(page_words);
     evacuations_of_a_full_pool(page_words);
     evacuations_of_a_journal(page_words);
+    reservations(page_words);
+    reservations_of_a_journal(page_words);
     every_number_of_blocks(page_words);
     many_pageblocks(page_words, 9);
 }

@@ -229,6 +229,21 @@ void evacuations()
     HOLDS(refusal([&] { pool.evacuate(0, 3); }) == COMPACTD_JOURNAL_FULL && pool.look(low).frame == 0);
 }
 
+// Two runs without a page are handed out, and one whose page has to go. Their blocks go back where they are destroyed.
+void reservations()
+{
+    Pool pool = with_round();
+    pool.map_at(0, {1, 0}, 300);
+    HOLDS(refusal([&] { pool.reserve(1); }) == COMPACTD_NO_BLOCK && refusal([&] { pool.reserve(1, 2); }) == COMPACTD_RANGE);
+    {
+        const compactd::Reserved three = pool.reserve(3, 7);
+        const std::vector<Huge> &blocks = three.blocks;
+        HOLDS(three.moved == 1 && blocks.size() == 3 && pool.info().held == 384 && pool.look({1, 0}).frame == 127);
+        HOLDS(blocks[0].first() == 128 && blocks[1].first() == 384 && blocks[2].first() == 256 && blocks[2].order() == 7);
+    }
+    HOLDS(pool.info().held == 0 && pool.reserve(0).blocks.empty());
+}
+
 // A page whose carrier goes is put back, also by an exception, by another page that takes its place, and where another ended its move.
 void carriers_that_go()
 {
@@ -286,6 +301,7 @@ int main()
     moving_pages();
     slices();
     evacuations();
+    reservations();
     carriers_that_go();
     questions();
     journals();

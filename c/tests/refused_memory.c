@@ -1,6 +1,7 @@
 /* Refuses each request for memory that an opening makes, one in each try. The opening has to answer MEMORY, to leave the pool closed, and
- * to give back what it had. No other call may ask for memory, whether it is accepted or refused, on a pool that is open or closed. It is
- * linked with malloc, realloc and free wrapped. Prints how many requests an opening makes. */
+ * to give back what it had. A reservation makes one request, gives back what it got, and answers MEMORY where it is refused. No other call
+ * may ask for memory, whether it is accepted or refused, on a pool that is open or closed. It is linked with malloc, realloc and free
+ * wrapped. Prints how many requests an opening makes. */
 #include "compactd.h"
 
 #include <stdio.h>
@@ -136,7 +137,7 @@ static void ask(compactd_pool *pool)
     made(compactd_record_at(pool, 0, &record));
 }
 
-/* Makes each call but those that open and close. On a closed pool each one is refused, and where the journal is full many are. A second
+/* Makes each call but those that open, close and reserve. On a closed pool each one is refused, and where the journal is full many are. A second
  * time many are refused by what the first one left. */
 static void make_calls(compactd_pool *pool, uint32_t page_words)
 {
@@ -148,6 +149,28 @@ static void make_calls(compactd_pool *pool, uint32_t page_words)
         make_calls_on_blocks(pool, page_words);
         ask(pool);
     }
+}
+
+/* Whether a reservation asks once for memory and gives it back, and does nothing where it gets none. */
+static int asks_for_a_list(compactd_pool *pool)
+{
+    const long opening = requests, kept = held;
+    uint32_t first = 7, moved = 7, answer;
+
+    requests = 0;
+    refused = 1;
+    answer = compactd_reserve(pool, 3, &first, 1, &moved);
+    if (answer != COMPACTD_MEMORY || first != 7 || moved != 7)
+        return 0;
+    refused = 0;
+    if (compactd_reserve(pool, 2, &first, 1, &moved) != COMPACTD_RANGE || compactd_reserve(pool, 3, NULL, 0, &moved) != COMPACTD_OK)
+        return 0;
+    answer = compactd_reserve(pool, 3, &first, 1, &moved);
+    if (answer != COMPACTD_OK || first != 0 || moved != 0 || requests != 2 || held != kept)
+        return 0;
+    made(compactd_give_order(pool, first, 3));
+    requests = opening;
+    return 1;
 }
 
 /* Whether calls on an open pool, and then on the closed one, ask for no memory, and nothing is lost. */
@@ -176,7 +199,7 @@ static int try_each(uint32_t page_words, uint32_t places)
         answer = open_pool(&pool, page_words, places);
         if (requests < refused) {
             refused = 0;
-            return answer == COMPACTD_OK && asks_no_more(&pool, page_words);
+            return answer == COMPACTD_OK && asks_for_a_list(&pool) && asks_no_more(&pool, page_words);
         }
         if (answer != COMPACTD_MEMORY || held != 0)
             return 0;

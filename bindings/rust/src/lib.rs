@@ -55,4 +55,4 @@ pub use pool::{version, Address, PageSize, Pool};
 pub use questions::{Look, Place};
 pub use raw::{Counts, Geometry, RoundCounts};
 pub use record::Record;
-pub use rounds::{Slice, Stopped};
+pub use rounds::{Reserved, Slice, Stopped};

@@ -131,6 +131,7 @@ extern "C" {
     pub fn compactd_commit(pool: *mut Handle, page: *const MovingPage, words: *const u64, count: usize, moved: *mut bool) -> u32;
     pub fn compactd_put_back(pool: *mut Handle, page: *const MovingPage) -> u32;
     pub fn compactd_evacuate(pool: *mut Handle, first: u32, order: u32, moved: *mut u32) -> u32;
+    pub fn compactd_reserve(pool: *mut Handle, order: u32, firsts: *mut u32, count: usize, moved: *mut u32) -> u32;
     pub fn compactd_next_moving(pool: *mut Handle, from: u32, page: *mut MovingPage, at: *mut Move) -> u32;
     pub fn compactd_journal(pool: *mut Handle, records: *mut u64, room: *mut u64) -> u32;
     pub fn compactd_record_at(pool: *mut Handle, place: usize, record: *mut Record) -> u32;

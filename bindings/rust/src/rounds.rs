@@ -1,6 +1,6 @@
 use crate::pool::{done, is_done};
 use crate::raw;
-use crate::{Error, Kept, Moving, MovingPage, Pool};
+use crate::{Error, Huge, Kept, Moving, MovingPage, Pool};
 
 /// The number where the scanners have met: the answer of an isolation, and why a slice stopped.
 const MET: u32 = 53;
@@ -23,7 +23,17 @@ pub enum Stopped {
     JournalFull,
 }
 
-/// Rounds and evacuations.
+/// What [`Pool::reserve`] did.
+#[derive(Debug, PartialEq, Eq)]
+#[must_use = "blocks that are dropped stay handed out until their pool is dropped"]
+pub struct Reserved {
+    /// The blocks that were handed out.
+    pub blocks: Vec<Huge>,
+    /// How many pages were moved for them.
+    pub moved: u32,
+}
+
+/// Rounds, evacuations and reservations.
 impl Pool {
     /// Makes a whole round on this thread: it moves the lowest page that can be moved to the highest free frame, and so on until its two
     /// scanners meet.
@@ -117,6 +127,38 @@ impl Pool {
         let mut moved = 0;
         done(unsafe { raw::compactd_evacuate(&mut self.raw, first, order, &mut moved) })?;
         Ok(moved)
+    }
+
+    /// Hands out `count` blocks of `2^order` frames, order 3 to 9, with the fewest moves that there can be. The open runs with the fewest
+    /// pages are emptied for that, the lowest first of equals; a run is open where [`Pool::evacuate`] wouldn't be refused for a frame of it.
+    /// Their lowest page goes to the highest free frame that is outside of all of them and in no marked pageblock, and so on; each page is
+    /// copied once. Where a page is moved, the latest round isn't quiet any more.
+    ///
+    /// ```
+    /// # use compactd::{Address, Error, PageSize, Pool};
+    /// # fn main() -> Result<(), Error> {
+    /// # let mut pool = Pool::open(PageSize::Bytes64, 2)?;
+    /// for page in 0..3 {
+    ///     pool.map(0, Address::new(0, page), false)?;
+    /// }
+    /// pool.map_at(0, Address::new(0, 9), false, 700)?;
+    /// let reserved = pool.reserve(1, 9)?;
+    /// assert_eq!((reserved.moved, reserved.blocks[0].first()), (1, 512));
+    /// for huge in reserved.blocks {
+    ///     pool.give(huge)?;
+    /// }
+    /// # Ok(())
+    /// # }
+    /// ```
+    ///
+    /// Refused as [`Error::Range`]; as [`Error::Memory`] where there isn't enough for a list of the blocks; as [`Error::NoBlock`] where fewer
+    /// runs are open, or fewer frames of unmarked pageblocks are free than the blocks have; or as [`Error::JournalFull`] where there aren't
+    /// two places for each page and one for each block, or fewer isolations are left than pages.
+    pub fn reserve(&mut self, count: usize, order: u32) -> Result<Reserved, Error> {
+        let (mut firsts, mut moved) = (vec![0; count], 0);
+        done(unsafe { raw::compactd_reserve(&mut self.raw, order, firsts.as_mut_ptr(), count, &mut moved) })?;
+        let blocks = firsts.into_iter().map(|first| Huge { pool: self.number, first, order }).collect();
+        Ok(Reserved { blocks, moved })
     }
 
     /// Isolates the next page of the round, which is moving from then on; None where the scanners have met. It allocates the words.

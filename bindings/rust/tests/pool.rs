@@ -2,7 +2,7 @@
 
 use std::sync::Mutex;
 
-use compactd::{Address, Error, Kept, MovingGuard, PageSize, Place, Pool, Record, Slice, Stopped};
+use compactd::{Address, Error, Kept, MovingGuard, PageSize, Place, Pool, Record, Reserved, Slice, Stopped};
 
 fn pool() -> Pool {
     Pool::open(PageSize::Bytes64, 1).expect("a pool of one pageblock can be opened")
@@ -132,6 +132,21 @@ fn empties_a_run() {
     let places = [0, 1, 2].map(|page| pool.look(Address::new(0, page)).unwrap().place);
     assert_eq!(places, [(510, false), (509, true), (511, false)].map(|(frame, dirty)| Place::At { frame, unmovable: false, dirty }));
     assert_eq!((pool.evacuate(504, 3), pool.journal(), pool.free_runs(8)), (Err(Error::JournalFull), (12, 0), Ok(1)));
+}
+
+#[test]
+fn reserves_the_cheapest_runs() {
+    let mut pool = Pool::open_journal(PageSize::Bytes64, 1, 7).unwrap();
+    for (page, frame) in [(0, 1), (1, 2), (2, 300)] {
+        pool.map_at(0, Address::new(0, page), false, frame).unwrap();
+    }
+    let refused = [(1, 2), (1, 10), (1, 9), (3, 7)].map(|(count, order)| pool.reserve(count, order).unwrap_err());
+    assert_eq!(refused, [Error::Range, Error::Range, Error::NoBlock, Error::JournalFull]);
+    assert_eq!(pool.reserve(0, 8), Ok(Reserved { blocks: vec![], moved: 0 }));
+    let Reserved { blocks, moved } = pool.reserve(1, 8).unwrap();
+    assert_eq!((blocks.len(), blocks[0].first(), blocks[0].order(), moved), (1, 256, 8, 1));
+    assert_eq!(pool.look(Address::new(0, 2)).unwrap().place, Place::At { frame: 255, unmovable: false, dirty: false });
+    assert_eq!((pool.journal(), pool.info().held), ((6, 1), 256));
 }
 
 #[test]

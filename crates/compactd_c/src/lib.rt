@@ -16,5 +16,6 @@ mod looking;
 mod moving;
 mod pool;
 mod records;
+mod reserving;
 mod rounds;
 mod zone;

@@ -1,9 +1,11 @@
 //! A zone whose pages have one of two sizes.
 
-ghost use Rattle.std.specs.Prelude.{◌≡◌, ◌+◌, ◌≤◌, ◌↔◌, ◌&&◌, ◌/◌, ◌^◌, nat_lt, true, ℕ, false, length, reverse, slice_get, is_some, Some, None, IsTrue, IsOk, IfOk, IfErr, OnOk, OnErr, IfSome};
+ghost use Rattle.std.specs.Prelude.{◌≡◌, ◌+◌, ◌<◌, ◌≤◌, ◌↔◌, ◌&&◌, ◌/◌, ◌^◌, nat_lt, true, ℕ, false, length, reverse, slice_get, slice_index, is_some, Some, None, IsTrue, IsOk, IfOk, IfErr, OnOk, OnErr, IfSome};
+ghost use Rattle.std.specs.FinMap as map;
 ghost use Rattle.std.specs.Result.{result_err};
-ghost use Rattle.fewest_core.specs.Evacuation.{evacuate_refusal, evacuated, IsCarriedOut};
-ghost use Rattle.fewest_core.specs.FewestMoves.{cost};
+ghost use Rattle.fewest_core.specs.Evacuation.{evacuate_refusal, evacuated, IsCarriedFrom, IsCarriedOut};
+ghost use Rattle.fewest_core.specs.FewestMoves.{cost, least};
+ghost use Rattle.fewest_core.specs.Reservation.{is_in_runs, reserve_refusal, reserved, ArePicked};
 ghost use Rattle.frame_core.specs.Moves.{moved, out};
 ghost use Rattle.frame_core.specs.declared.record.Cause.{Cause};
 ghost use Rattle.state_core.specs.Access.{access_refusal, value_at, loaded, stored};
@@ -421,6 +423,24 @@ impl Zone {
         match &mut self.kind {
             Kind::Small(zone) => zone.evacuate(first, order),
             Kind::Large(zone) => zone.evacuate(first, order),
+        }
+    }
+
+    /// Hands out as many blocks as `firsts` has places, and answers how many pages were moved for it.
+    pub(crate) fn reserve(&mut self, order: Order, firsts: &mut [FrameNo]) -> Result<u32, ZoneError>
+        ensures refused { result_err result ≡ reserve_refusal self.old (length firsts.old) order }
+        ensures err { OnErr result ((self.new ≡ self.old) × (firsts.new ≡ firsts.old)) }
+        ensures pages { IfOk result (λ pages. pages ≡ least (length firsts.old) self.old (2 ^ order)) }
+        ensures picked { OnOk result (ArePicked self.old order firsts.new) }
+        ensures ok { OnOk result (self.new ≡ reserved self.old order firsts.new) }
+        ensures moved { IfOk result (λ pages. moved self.new.records ≡ moved self.old.records + pages) }
+        ensures taken { OnOk result ((place : ℕ) → place < length firsts.new → map.get self.new.handed_out (slice_index firsts.new place) ≡ Some order) }
+        ensures carried { OnOk result (IsCarriedFrom (is_in_runs firsts.new (2 ^ order)) self.old self.new) }
+        ensures count { length firsts.new ≡ length firsts.old }
+    {
+        match &mut self.kind {
+            Kind::Small(zone) => zone.reserve(order, firsts),
+            Kind::Large(zone) => zone.reserve(order, firsts),
         }
     }
 
