@@ -7,7 +7,7 @@ use super::calls::{Call, PAGE, told, value_of};
 use super::{address, block, client, frame, order};
 use frame_core::ZoneNo;
 use std::process::Abort;
-use zone_core::{Answered, BareZone, Look, ZoneError};
+use zone_core::{Answered, BareZone, ZoneError};
 
 /// The lowest run of each order beside a page in frame 0.
 const LOWEST_RUNS: &[(Call, Answer)] = &[
@@ -35,8 +35,8 @@ fn plays(rt: &impl Abort, zone: &mut BareZone<1>, name: &str, rows: &[(Call, Ans
 
 /// The frame of the page.
 fn frame_of(rt: &impl Abort, zone: &BareZone<1>) -> u32 {
-    match zone.look(address(rt, PAGE)) {
-        Ok(Look::At { frame, .. }) => frame.get(),
+    match zone.look(address(rt, PAGE)).shown() {
+        Answer::At { frame, .. } => frame,
         _ => panic!(rt; "there is no page"),
     }
 }
