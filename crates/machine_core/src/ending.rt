@@ -62,7 +62,7 @@ pub(crate) fn put_all_back_in<const W: usize, I: Ledger, M: Ledger, B: Ledger>(
     requires valid { IsValidZone zone.old }
     requires own { AreOwn zone.old waiting.old.items }
     requires rising { IsRising (serials_of waiting.old.items) }
-    requires few { length waiting.old.items ≤ 4096 }
+    requires few { length waiting.old.items ≤ 16777216 }
     ensures count { result ≡ length waiting.old.items }
     ensures zone { zone.new ≡ all_put_back zone.old (serials_of waiting.old.items) }
     ensures blocks { zone.new.blocks ≡ zone.old.blocks }
