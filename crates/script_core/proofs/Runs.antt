@@ -69,4 +69,4 @@ module _ (places : ℕ) where
 
 pub opened_orderly : (zone blocks places : ℕ) → (0 < blocks) × (blocks ≤ 8) → (0 < places) × (places ≤ 65536) → IsOrderly (world_opened zone blocks places)
 opened_orderly zone blocks places b p =
-    (carried_closed (opened zone blocks places) fresh_scan_seat fresh_end_seat (opened_valid 8 zone blocks places b (omega (arith, p.1))) refl (λ serial. refl) (256 * blocks) refl).orderly
+    (carried_closed (opened zone blocks places) fresh_scan_seat fresh_end_seat (opened_valid 8 zone blocks places (b.0, omega (arith, b.1)) (omega (arith, p.1))) refl (λ serial. refl) (256 * blocks) refl).orderly
