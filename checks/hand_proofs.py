@@ -79,6 +79,10 @@ HAND_PROOFS = {
         "the prover has no steps that make a pointer of a box",
         "ef41be606049381647691973304bcb6ddaefc82358c4aa7580cdb5f70c2de208",
     ),
+    "crates/compactd_c/proofs/reserving/write_numbers/Invariants.antt": (
+        "it says how many of the numbers are written, and proves no function by hand",
+        "18903cc8d90fcb315c40b3a13ba86e87e8b8d112b0fe74cecc4b40d486cb26aa",
+    ),
     "crates/compactd_c/proofs/zone/move_named/Answers.antt": (
         "it cites a law of every zone, and proves no function by hand",
         "9fbe5e123b3db01332eefadd6f449f764dd41f6d1737ac0163f5aad47344e5c7",
