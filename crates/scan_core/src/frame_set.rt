@@ -77,7 +77,6 @@ impl<const L: usize> FrameSet<L> {
     }
 
     /// Puts in a frame that isn't a member.
-    #[inline(always)]
     pub(crate) fn insert(&mut self, frame: FrameNo)
         requires within { frame < self.old.bound }
         requires none { set.contains self.old.members frame ≡ false }
@@ -90,7 +89,6 @@ impl<const L: usize> FrameSet<L> {
     }
 
     /// Takes out a frame that is a member.
-    #[inline(always)]
     pub(crate) fn remove(&mut self, frame: FrameNo)
         requires within { frame < self.old.bound }
         requires member { set.contains self.old.members frame ≡ true }

@@ -73,7 +73,6 @@ impl Notes {
     }
 
     /// Notes a page under a number that isn't in use, which is in use then.
-    #[inline(always)]
     pub fn add(&mut self, page: PageNo, note: PageNote)
         requires within { page < length self.old }
         requires unused { is_in_use self.old page ≡ false }

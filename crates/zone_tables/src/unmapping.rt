@@ -30,7 +30,6 @@ impl<const W: usize> ZoneTables<W> {
     }
 
     /// Takes one of its addresses from a page that has others.
-    #[inline(always)]
     fn unmap_one(&mut self, client: ClientNo, address: Address, page: PageNo)
         requires room { IsTrue (has_room self.old) }
         requires named { page_at self.old.records address ≡ Some page }
