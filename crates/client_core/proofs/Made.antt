@@ -8,11 +8,11 @@ use Rattle.state_core.specs.declared.call.ZoneAnswer.{ZoneAnswer}
 use Rattle.state_core.specs.declared.call.ZoneAnswer.TheVariants.{Mapped, Value}
 use Rattle.state_core.specs.declared.call.ZoneCall.{ZoneCall}
 use Rattle.state_core.specs.declared.call.ZoneCall.TheVariants.{Map, MapAt, Load}
-use Rattle.state_core.specs.declared.error.ZoneError.TheVariants.{JournalFull, NoFrame, Occupied}
+use Rattle.state_core.specs.declared.error.ZoneError.TheVariants.{JournalFull, NoFrame, Occupied, Range}
 use Rattle.state_core.specs.Access.{access_refusal, value_at}
 use Rattle.state_core.specs.Calls.{refusal_of, answer_of, after, record_of}
 use Rattle.state_core.specs.Mapping.{map_refusal, map_at_refusal, mapped}
-use Rattle.state_core.specs.ZoneState.{ZoneState, has_room, lowest_free_frame, lowest_unused_page}
+use Rattle.state_core.specs.ZoneState.{ZoneState, has_address, has_room, lowest_free_frame, lowest_unused_page}
 use Rattle.client_core.specs.Calls.{HasMade, IsAccepted, leaving, loading, mapping, mapping_lowest}
 use Rattle.client_core.specs.Receipts.{Client, with_receipt}
 use Rattle.client_core.proofs.ManyCalls.{passes}
@@ -24,7 +24,8 @@ found (Some n) e = refl
 
 free_frame : (z : ZoneState) (address : Address) → map_refusal z address ≡ None → lowest_free_frame z ≡ Some (unwrap_or (lowest_free_frame z) 0)
 free_frame z address passed =
-    let unless_full = passes (not (has_room z)) JournalFull _ passed in
+    let unless_ranged = passes (not (has_address z address)) Range _ passed in
+    let unless_full = passes (not (has_room z)) JournalFull _ unless_ranged.1 in
     let unless_occupied = passes (is_some (page_at z.records address)) Occupied _ unless_full.1 in
     found (lowest_free_frame z) (passes (is_none (lowest_free_frame z)) NoFrame None unless_occupied.1).0
 

@@ -186,7 +186,7 @@ impl<J: Telling, T: Receipts> Client<J, T> {
     /// Makes an address name a fresh page in the lowest free frame, and answers this frame. The receipt has the number of
     /// the page. The flags must not have DIRTY.
     ///
-    /// The zone refuses as JournalFull, Occupied or NoFrame.
+    /// The zone refuses as Range, JournalFull, Occupied or NoFrame.
     pub fn map<K: Keeping, I: Ledger, M: Ledger, B: Ledger, R: Wait>(
         &mut self,
         rt: &R,
@@ -238,7 +238,7 @@ impl<J: Telling, T: Receipts> Client<J, T> {
 
     /// Makes an alias name the page of an address too.
     ///
-    /// The zone refuses as JournalFull, Unmapped, Occupied or ShareFull.
+    /// The zone refuses as Range, JournalFull, Unmapped, Occupied or ShareFull.
     pub fn share<K: Keeping, I: Ledger, M: Ledger, B: Ledger, R: Wait>(
         &mut self,
         rt: &R,

@@ -15,9 +15,9 @@ use Rattle.compactd_c.specs.declared.asked.Asked.TheVariants.{Map, MapAt, Share,
 abbrev pub address_of : ℕ → ℕ → Address
 address_of space vpage = record { space = space; vpage = vpage }
 
--- there is such an address
+-- there may be such an address
 abbrev pub is_address : ℕ → ℕ → Bool
-is_address space vpage = nat_lt space 8 && nat_lt vpage 4096
+is_address space vpage = nat_lt space 256 && nat_lt vpage 16777216
 
 -- there is such a client
 abbrev pub is_client : ℕ → Bool

@@ -7,4 +7,5 @@ pub mod Looks
 pub mod Moving
 pub mod Owned
 pub mod Records
+pub mod Sizes
 pub mod Told

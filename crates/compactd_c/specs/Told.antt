@@ -30,7 +30,7 @@ places_of z = if nat_le (length z.records + z.room) 65536 then length z.records 
 
 -- what the pool was opened with
 abbrev pub geometry_of : ZoneState → Geometry
-geometry_of z = record { page_words = z.page_size; blocks = z.blocks; places = places_of z; reserved = reserved }
+geometry_of z = record { page_words = z.page_size; blocks = z.blocks; places = places_of z; spaces = z.spaces; vpages = z.vpages; reserved = 0 }
 
 -- what is known of a page, if it is in use
 abbrev pub page_info_of : Option Look → Option PageInfo

@@ -119,8 +119,8 @@ pub(crate) fn address(space: u32, vpage: u32) -> Option<Address>
     ensures some { is_some result ≡ is_address space vpage }
     ensures value { IfSome result (λ address. address ≡ address_of space vpage) }
 {
-    let space = SpaceNo::new(space)?;
-    let vpage = VPage::new(vpage)?;
+    let space = SpaceNo::in_any_zone(space)?;
+    let vpage = VPage::in_any_zone(vpage)?;
     Some(Address { space, vpage })
 }
 

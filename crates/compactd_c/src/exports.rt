@@ -9,7 +9,8 @@ ghost use Rattle.state_core.specs.Access.{access_refusal, value_at, loaded, stor
 ghost use Rattle.state_core.specs.HandingOut.{lowest_run, take_order_refusal, give_order_refusal, block_taken, block_given};
 ghost use Rattle.state_core.specs.Mapping.{map_refusal, map_at_refusal, mapped};
 ghost use Rattle.state_core.specs.Marking.{mark_refusal, unmark_refusal, block_marked, block_unmarked};
-ghost use Rattle.state_core.specs.Opening.{IsOpenable, IsSize, opened_unrecorded, opened_with};
+ghost use Rattle.compactd_c.specs.Sizes.{size_with, some_places};
+ghost use Rattle.state_core.specs.Opening.{IsAllowed, IsOpenable, IsSize, opened_sized, opened_unrecorded, opened_with, places_of as opened_places};
 ghost use Rattle.state_core.specs.Pinning.{pin_refusal, pinned, unpin_refusal, unpinned};
 ghost use Rattle.state_core.specs.Sharing.{share_refusal, shared};
 ghost use Rattle.state_core.specs.Unmapping.{unmap_refusal, unmapped};
@@ -19,14 +20,14 @@ use crate::asked::Asked;
 use crate::calls::{CLOSED, done, framed, make, number, numbered, told};
 use crate::pool::Pool;
 use crate::zone::Zone;
-use state_core::ZoneError;
+use state_core::{ZoneError, ZoneSize};
 use std::alloc::Global;
 
 /// The number of an opening of a pool that is open.
 const OPEN: u32 = 52;
 
-/// Opens a closed pool: an empty zone whose pages have 8 or 512 words, with 1 to 32,768 pageblocks of 512 frames. No record of its
-/// history is kept in memory.
+/// Opens a closed pool: an empty zone whose pages have 8 or 512 words, with 1 to 32,768 pageblocks of 512 frames and with 8 address spaces of
+/// 4,096 virtual pages. No record of its history is kept in memory.
 ///
 /// Refused as OPEN where the pool is open, as RANGE where a number is out of its range, or as MEMORY where there isn't enough memory.
 #[unsafe(no_mangle)]
@@ -43,8 +44,51 @@ pub extern "C" fn compactd_open(alloc: Global, pool: &mut Pool, page_words: u32,
     opened(
         pool,
         alloc,
-        Zone::open_unrecorded(alloc, page_words, blocks),
+        Zone::open_sized(alloc, page_words, ZoneSize::of_blocks(blocks), None),
     )
+}
+
+/// Opens a closed pool of any size: an empty zone whose pages have 8 or 512 words, with 1 to 32,768 pageblocks of 512 frames and 1 to 256
+/// address spaces of 1 to 16,777,216 virtual pages each, 67,108,864 at most in all. Its journal keeps its records in so many places, 1 to
+/// 65,536; where there are none no record is kept.
+///
+/// Refused as `compactd_open` is.
+#[unsafe(no_mangle)]
+pub extern "C" fn compactd_open_sized(
+    alloc: Global,
+    pool: &mut Pool,
+    page_words: u32,
+    blocks: u32,
+    spaces: u32,
+    vpages: u32,
+    places: u32,
+) -> u32
+    ensures open { ¬ (pool.old.zone ≡ None) → result ≡ 52 }
+    ensures range { pool.old.zone ≡ None → ¬ (IsPageSize page_words × IsAllowed (size_with blocks spaces vpages) (some_places places)) → result ≡ 1 }
+    ensures memory { pool.old.zone ≡ None → IsPageSize page_words × IsAllowed (size_with blocks spaces vpages) (some_places places) → ¬ (result ≡ 0) → result ≡ 14 }
+    ensures zone { result ≡ 0 → pool.new.zone ≡ Some (opened_sized page_words 0 (size_with blocks spaces vpages) (opened_places (some_places places))) }
+    ensures kept { ¬ (result ≡ 0) → pool.new.zone ≡ pool.old.zone }
+{
+    if let Some(_) = pool.zone() {
+        return OPEN;
+    }
+    let size = ZoneSize {
+        blocks,
+        spaces,
+        vpages,
+    };
+    opened(
+        pool,
+        alloc,
+        Zone::open_sized(alloc, page_words, size, some_places(places)),
+    )
+}
+
+/// The places of a journal that is kept, or none where there are 0.
+fn some_places(places: u32) -> Option<u32>
+    ensures { result ≡ some_places places }
+{
+    (places > 0).then_some(places)
 }
 
 /// Opens a closed pool whose zone keeps its journal: each record of it, at most as many as there are places, 1 to 65,536.

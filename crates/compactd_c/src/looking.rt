@@ -47,7 +47,11 @@ pub struct Geometry {
     pub blocks: u32,
     /// How many places its journal has, used or not; 0 where no record is kept.
     pub places: u64,
-    pub reserved: [u64; 2],
+    /// How many address spaces it has, 1 to 256.
+    pub spaces: u32,
+    /// How many virtual pages each space has, 1 to 16,777,216.
+    pub vpages: u32,
+    pub reserved: u64,
 }
 
 /// What is known of the page that an address names.

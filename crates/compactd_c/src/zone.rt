@@ -16,7 +16,7 @@ ghost use Rattle.state_core.specs.HandingOut.{is_run};
 ghost use Rattle.state_core.specs.Isolating.{isolate_refusal, next_state};
 ghost use Rattle.state_core.specs.Looking.{look_of, info_of};
 ghost use Rattle.state_core.specs.Marking.{marked_of};
-ghost use Rattle.state_core.specs.Opening.{IsOpenable, IsSize, opened_unrecorded, opened_with};
+ghost use Rattle.state_core.specs.Opening.{IsAllowed, IsOpenable, opened_sized, opened_with, places_of as opened_places};
 ghost use Rattle.state_core.specs.Packed.{IsPacked};
 ghost use Rattle.state_core.specs.Pairs.{HaveMet, next_pair};
 ghost use Rattle.state_core.specs.Rounds.{round_begun};
@@ -40,7 +40,7 @@ use frame_core::{
     BlockNo, ClientNo, FrameNo, IsolatedOf, Journal, Order, PageFlags, PageNo, PageOf, Record,
     Serial, ZoneNo,
 };
-use state_core::{Audit, Ended, Info, Look, Next, ZoneAnswer, ZoneError};
+use state_core::{Audit, Ended, Info, Look, Next, ZoneAnswer, ZoneError, ZoneSize};
 use std::alloc::Global;
 use std::marker::Model;
 use zone_core::{Answered, BareZone, MovingPage as Found, Slice};
@@ -73,19 +73,21 @@ impl Model for Zone {
 }
 
 impl Zone {
-    /// An empty zone whose journal is unrecorded: pages of 8 or of 512 words, and 1 to 32,768 pageblocks.
-    pub(crate) fn open_unrecorded(
+    /// An empty zone of any size: pages of 8 or of 512 words, and a journal that keeps its records in so many places, or is unrecorded
+    /// where that is none.
+    pub(crate) fn open_sized(
         alloc: Global,
         page_words: u32,
-        blocks: u32,
+        size: ZoneSize,
+        places: Option<u32>,
     ) -> Result<Zone, ZoneError>
-        ensures range { ¬ (IsPageSize page_words × IsSize blocks) → result ≡ Err ZoneError.Range }
-        ensures memory { IsPageSize page_words × IsSize blocks → IfErr result (λ error. error ≡ ZoneError.Memory) }
-        ensures zone { IfOk result (λ zone. zone ≡ opened_unrecorded page_words 0 blocks) }
+        ensures range { ¬ (IsPageSize page_words × IsAllowed size places) → result ≡ Err ZoneError.Range }
+        ensures memory { IsPageSize page_words × IsAllowed size places → IfErr result (λ error. error ≡ ZoneError.Memory) }
+        ensures zone { IfOk result (λ zone. zone ≡ opened_sized page_words 0 size (opened_places places)) }
     {
         let kind = match page_words {
-            8 => Kind::Small(BareZone::open_unrecorded(alloc, lowest(), blocks)?),
-            512 => Kind::Large(BareZone::open_unrecorded(alloc, lowest(), blocks)?),
+            8 => Kind::Small(BareZone::open_sized(alloc, lowest(), size, places)?),
+            512 => Kind::Large(BareZone::open_sized(alloc, lowest(), size, places)?),
             _ => return Err(ZoneError::Range),
         };
         Ok(Zone { kind })
@@ -278,15 +280,17 @@ impl Zone {
     pub(crate) fn geometry(&self) -> Geometry
         ensures { result ≡ geometry_of self.now }
     {
-        let (page_words, blocks) = match &self.kind {
-            Kind::Small(zone) => (zone.page_words(), zone.blocks()),
-            Kind::Large(zone) => (zone.page_words(), zone.blocks()),
+        let (page_words, size) = match &self.kind {
+            Kind::Small(zone) => (zone.page_words(), zone.size()),
+            Kind::Large(zone) => (zone.page_words(), zone.size()),
         };
         Geometry {
             page_words: page_words as u32,
-            blocks,
+            blocks: size.blocks,
             places: self.places(),
-            reserved: RESERVED,
+            spaces: size.spaces,
+            vpages: size.vpages,
+            reserved: 0,
         }
     }
 

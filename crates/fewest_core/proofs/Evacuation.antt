@@ -109,6 +109,7 @@ module _ (z : ZoneState) (m : Move) (law : IsValidZone z) (is : IsMove z m) wher
       let places = law.journal.places in
       subst (λ (p : map.FinMap nat_cmp Placement). IsValidZone (record (moved_away z m) { placement = p })) (sym placement_after) (record {
         size = law.size;
+        addresses = law.addresses;
         journal = record {
           places = omega (arith, places, left.0);
           serials = omega (arith, left.1);

@@ -2,12 +2,12 @@
 use Rattle.std.proofs.Common.{◌≡◌, ℕ, zero, suc, ◌+◌, ◌<◌, ◌≤◌, Bool, true, false, ◌⊎◌, inl, inr, refl, sym, ap, ◌∙◌, arith}
 use Rattle.std.specs.Prelude.{Option, Some, None, nat_eq, ◌||◌, if◌then◌else◌}
 use Rattle.std.specs.Option.{option_or}
-use Rattle.std.proofs.lemmas.Bool.{eq-eqb, ne_eqb}
+use Rattle.std.proofs.lemmas.Bool.{eq-eqb, false_from_ne_true, ne_eqb}
 use Rattle.std.proofs.lemmas.Bool.Decides.{leb_tells}
-use Rattle.frame_core.specs.Below.{lowest, highest, one_if, count_below, count_from}
+use Rattle.frame_core.specs.Below.{lowest, highest, one_if, count_below, sum_below, count_from, count_pairs}
 pub use Rattle.frame_core.proofs.Searches.{count_most}
 use Rattle.std.proofs.lemmas.Bool.{cond-true as taken, cond-false as skipped}
-use Rattle.frame_core.proofs.Searches.{below_suc, count_from_more, count_from_most}
+use Rattle.frame_core.proofs.Searches.{below_suc, count_none, count_from_more, count_from_most, sum_same}
 
 -- the last number passes, or it doesn't and the rest is searched
 by_last : (n k : ℕ) (o : Option ℕ) (b : Bool) → (if b then Some n else o) ≡ Some k → ((b ≡ true) × (n ≡ k)) ⊎ ((b ≡ false) × (o ≡ Some k))
@@ -83,3 +83,18 @@ module _ (p : ℕ → Bool) where
       let more = count_from_more p (λ q. nat_eq q k || p q) first n k low high fails (ap (λ b. b || p k) (eq-eqb k k refl))
       (λ q ne. ap (λ b. b || p q) (ne_eqb q k ne)) in
       omega (arith, more, count_from_most (λ q. nat_eq q k || p q) first n)
+
+-- terms that are 0 add nothing
+sum_past : (f : ℕ → ℕ) (n m : ℕ) → n ≤ m → ((k : ℕ) → n ≤ k → f k ≡ 0) → sum_below f m ≡ sum_below f n
+sum_past f n zero most none = let same : zero ≡ n = omega arith in ap (sum_below f) same
+sum_past f n (suc m) most none = elim (leb_tells n m) [
+  | inl under ↦ omega (arith, none m under.1, sum_past f n m under.1 none)
+  | inr over ↦ let same : suc m ≡ n = omega (arith, over.1) in ap (sum_below f) same
+]
+
+-- where each pair that passes is in a smaller table, the pairs of this table are all that there are
+pub pairs_within : (p : ℕ → ℕ → Bool) (m n rows places : ℕ) → m ≤ rows → n ≤ places → ((i j : ℕ) → p i j ≡ true → (i < m) × (j < n)) → count_pairs p rows places ≡ count_pairs p m n
+unfolding count_pairs
+pairs_within p m n rows places low short inside =
+    sum_past (λ i. count_below (p i) places) m rows low (λ i above. count_none (p i) places (λ j h. false_from_ne_true (p i j) (λ e. absurd (omega (arith, above, (inside i j e).0)))))
+    ∙ sum_same (λ i. count_below (p i) places) (λ i. count_below (p i) n) m (λ i h. count_past (p i) n places short (λ j above k. false_from_ne_true (p i j) (λ e. absurd (omega (arith, above, (inside i j e).1)))))

@@ -25,19 +25,19 @@ one_address a b e =
 
 module _ (records new : List Record) (page : ℕ) where
   pub maps_same : ((a : Address) → names new a page ≡ names records a page) → maps new page ≡ maps records page
-  maps_same same = pairs_same _ _ 8 4096 (λ i j. same (record { space = i; vpage = j }))
+  maps_same same = pairs_same _ _ 256 16777216 (λ i j. same (record { space = i; vpage = j }))
 
   -- where one more address names the page, its count is one more
-  pub maps_more : (at : Address) → at.space < 8 → at.vpage < 4096 → names records at page ≡ false → names new at page ≡ true → ((a : Address) → same_address a at ≡ false → names new a page ≡ names records a page) → maps new page ≡ maps records page + 1
+  pub maps_more : (at : Address) → at.space < 256 → at.vpage < 16777216 → names records at page ≡ false → names new at page ≡ true → ((a : Address) → same_address a at ≡ false → names new a page ≡ names records a page) → maps new page ≡ maps records page + 1
   maps_more at space vpage before after others =
-      pairs_more _ _ 8 4096 at.space at.vpage space vpage before after
+      pairs_more _ _ 256 16777216 at.space at.vpage space vpage before after
       (λ i j apart. others (record { space = i; vpage = j }) (two_addresses (record { space = i; vpage = j }) at apart))
 
 pub maps_none : (records : List Record) (page : ℕ) → ((a : Address) → names records a page ≡ false) → maps records page ≡ 0
-maps_none records page none = pairs_none _ 8 4096 (λ i j. none (record { space = i; vpage = j }))
+maps_none records page none = pairs_none _ 256 16777216 (λ i j. none (record { space = i; vpage = j }))
 
 pub maps_some : (records : List Record) (page : ℕ) (at : Address) → InRange at → names records at page ≡ true → 0 < maps records page
-maps_some records page at range named = pairs_some _ 8 4096 at.space at.vpage range.space range.vpage named
+maps_some records page at range named = pairs_some _ 256 16777216 at.space at.vpage range.space range.vpage named
 
 -- one address changes what it names, and each other address names what it named before
 module _ (records new : List Record) (at : Address) (range : InRange at) (others : (a : Address) → same_address a at ≡ false → page_at new a ≡ page_at records a) (page : ℕ) where

@@ -26,9 +26,9 @@ is_page (Some named) page = nat_eq named page
 abbrev pub names : List Record → Address → ℕ → Bool
 names records address page = is_page (page_at records address) page
 
--- how many addresses name a page, of all in 8 spaces with 4096 virtual pages each
+-- how many addresses name a page, of all in 256 spaces with 16777216 virtual pages each, which are the most that a zone has
 abbrev pub maps : List Record → ℕ → ℕ
-maps records page = count_pairs (λ space vpage. names records (record { space = space; vpage = vpage }) page) 8 4096
+maps records page = count_pairs (λ space vpage. names records (record { space = space; vpage = vpage }) page) 256 16777216
 
 -- the last value that was stored in a word of a page since the page was mapped, and 0 before the first
 abbrev pub last : List Record → ℕ → ℕ → ℕ

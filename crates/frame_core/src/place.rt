@@ -157,7 +157,9 @@ impl BlockNo {
 
 const SPACES: u32 = 8;
 
-/// An address space's number in its zone, 0 to 7.
+const MOST_SPACES: u32 = 256;
+
+/// An address space's number in its zone: 0 to 7 in a zone that a script opens, and 0 to 255 in any.
 #[derive(Clone, Copy, Debug, Default, PartialEq, Eq, PartialOrd, Ord, Hash)]
 pub struct SpaceNo {
     space: u8,
@@ -168,7 +170,7 @@ impl Model for SpaceNo {
 
     ghost view = { λ n. n.space };
 
-    ghost invariant = { λ n. n.space < 8 };
+    ghost invariant = { λ n. n.space < 256 };
 
     ghost inverse = { λ n. record { space = n } };
 }
@@ -188,10 +190,24 @@ impl SpaceNo {
         }
     }
 
-    /// The number, 0 to 7.
+    /// The number as one of 0 to 255. None where it is out of this range.
+    pub fn in_any_zone(number: u32) -> Option<Self>
+        ensures valid { IsSome result ↔ (number < 256) }
+        ensures value { IfSome result (λ n. n ≡ number) }
+    {
+        if number < MOST_SPACES {
+            Some(SpaceNo {
+                space: number as u8,
+            })
+        } else {
+            None
+        }
+    }
+
+    /// The number, 0 to 255.
     pub fn get(self) -> u32
         ensures value { result ≡ self }
-        ensures range { result < 8 }
+        ensures range { result < 256 }
     {
         u32::from(self.space)
     }
@@ -199,10 +215,12 @@ impl SpaceNo {
 
 const VPAGES: u32 = 4096;
 
-/// A virtual page's number in its space, 0 to 4095.
+const MOST_VPAGES: u32 = 16777216;
+
+/// A virtual page's number in its space: 0 to 4095 in a zone that a script opens, and 0 to 16,777,215 in any.
 #[derive(Clone, Copy, Debug, Default, PartialEq, Eq, PartialOrd, Ord, Hash)]
 pub struct VPage {
-    vpage: u16,
+    vpage: u32,
 }
 
 impl Model for VPage {
@@ -210,7 +228,7 @@ impl Model for VPage {
 
     ghost view = { λ n. n.vpage };
 
-    ghost invariant = { λ n. n.vpage < 4096 };
+    ghost invariant = { λ n. n.vpage < 16777216 };
 
     ghost inverse = { λ n. record { vpage = n } };
 }
@@ -222,20 +240,30 @@ impl VPage {
         ensures value { IfSome result (λ n. n ≡ number) }
     {
         if number < VPAGES {
-            Some(VPage {
-                vpage: number as u16,
-            })
+            Some(VPage { vpage: number })
         } else {
             None
         }
     }
 
-    /// The number, 0 to 4095.
+    /// The number as one of 0 to 16,777,215. None where it is out of this range.
+    pub fn in_any_zone(number: u32) -> Option<Self>
+        ensures valid { IsSome result ↔ (number < 16777216) }
+        ensures value { IfSome result (λ n. n ≡ number) }
+    {
+        if number < MOST_VPAGES {
+            Some(VPage { vpage: number })
+        } else {
+            None
+        }
+    }
+
+    /// The number, 0 to 16,777,215.
     pub fn get(self) -> u32
         ensures value { result ≡ self }
-        ensures range { result < 4096 }
+        ensures range { result < 16777216 }
     {
-        u32::from(self.vpage)
+        self.vpage
     }
 }
 

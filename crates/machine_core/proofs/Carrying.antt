@@ -40,7 +40,7 @@ use Rattle.state_core.specs.Mapping.{map_refusal, map_at_refusal, mapped, placed
 use Rattle.state_core.specs.Unmapping.{is_last}
 use Rattle.state_core.specs.HandingOut.{block_taken}
 use Rattle.machine_core.specs.World.{WorldState, IsOrderly, isolated_by}
-use Rattle.state_core.specs.ZoneState.{ZoneState, frame_count, has_room, is_free, placement_at, lowest_free_frame, lowest_unused_page}
+use Rattle.state_core.specs.ZoneState.{ZoneState, frame_count, has_address, has_room, is_free, placement_at, lowest_free_frame, lowest_unused_page}
 use Rattle.state_core.proofs.Finding.{some_lowest, unused_left, unused_is}
 use Rattle.state_core.proofs.Carried.{own_begun, own_loaded, own_stored, own_placed, own_isolated, own_fresh, own_unmapped}
 use Rattle.state_core.proofs.Facts.{not_none}
@@ -197,7 +197,7 @@ frame_left z address accepted = grind arith
 
 pub frame_left_at : (z : ZoneState) (address : Address) (frame : ℕ) → map_at_refusal z address frame ≡ None → IsSome (lowest_free_frame z)
 frame_left_at z address frame accepted =
-    let within = passed (not (nat_lt frame (frame_count z))) Range _ accepted in
+    let within = passed (not (has_address z address && nat_lt frame (frame_count z))) Range _ accepted in
     let room = passed (not (has_room z)) JournalFull _ within.1 in
     let vacant = passed (is_some (page_at z.records address)) Occupied _ room.1 in
     let free = passed (not (is_free z frame)) NoFrame _ vacant.1 in

@@ -2,7 +2,6 @@
 use Rattle.std.proofs.Common.{◌≡◌, ℕ, zero, suc, ◌+◌, ◌*◌, refl, ap, ◌∙◌, arith, Option, Some, None}
 use Rattle.std.specs.Prelude.{nat_eq, IfSome}
 use Rattle.std.specs.List.{list_any}
-use Rattle.frame_core.specs.Address.{InRange}
 use Rattle.frame_core.specs.declared.place.Address.{Address}
 use Rattle.state_core.specs.declared.call.ZoneAnswer.{ZoneAnswer}
 use Rattle.state_core.specs.declared.call.ZoneCall.{ZoneCall}
@@ -24,7 +23,7 @@ use Rattle.text_core.specs.declared.command.Repeated.TheVariants as repeated
 use Rattle.text_core.specs.declared.reply.Reply.{Reply}
 use Rattle.text_core.specs.declared.reply.Reply.TheVariants as reply
 use Rattle.text_core.specs.Grammar.{address_of}
-use Rattle.text_core.proofs.Ranges.{IsCallInRange, in_space}
+use Rattle.text_core.proofs.Ranges.{IsCallInRange}
 use Rattle.machine_core.specs.Machine.{Answered, call_at, call_step, ending, page_step, reply_for, reply_for_huge, series_from, unless_refused, zone_step}
 use Rattle.script_core.proofs.EitherAnswer.{copied_by, hand_by, looked_by, unless_by}
 use Rattle.script_core.proofs.PagesMoved.{leaves_call}
@@ -74,17 +73,16 @@ pub keeps_call : (w : WorldState) → IsOrderly w → (c : Call) → IsCallInRan
 keeps_call w o c r = record { orderly = orderly_call w o c r; blocks = (leaves_call w c).blocks }
 
 -- the call of a series at an address is in range
-at_ranged : (c : Repeated) (p : Option Address) → IfSome p InRange → IfSome p (λ a. IsInRange (call_at c a))
-at_ranged repeated.Map p r = r
-at_ranged repeated.Unmap None r = tt
-at_ranged repeated.Unmap (Some a) r = tt
+at_ranged : (c : Repeated) (a : Address) → IsInRange (call_at c a)
+at_ranged repeated.Map a = tt
+at_ranged repeated.Unmap a = tt
 
-keeps_at : (w : WorldState) → IsOrderly w → (c : Repeated) (p : Option Address) → IfSome p (λ a. IsInRange (call_at c a)) → Keeps w (page_step c w p).world
-keeps_at w o c None r = keeps_all w o
-keeps_at w o c (Some a) r = keeps_zone_step w o (call_at c a) (reply_for (call_at c a)) r
+keeps_at : (w : WorldState) → IsOrderly w → (c : Repeated) (p : Option Address) → Keeps w (page_step c w p).world
+keeps_at w o c None = keeps_all w o
+keeps_at w o c (Some a) = keeps_zone_step w o (call_at c a) (reply_for (call_at c a)) (at_ranged c a)
 
 pub keeps_page_step : (w : WorldState) → IsOrderly w → (c : Repeated) (s v : ℕ) → Keeps w (page_step c w (address_of s v)).world
-keeps_page_step w o c s v = keeps_at w o c (address_of s v) (at_ranged c (address_of s v) (in_space s v))
+keeps_page_step w o c s v = keeps_at w o c (address_of s v)
 
 keeps_on : (w after : WorldState) (done : ℕ) (r : Reply) (rest : Answered) → Keeps w after → Keeps after rest.world → Keeps w (unless_refused done r after rest).world
 keeps_on w after done (reply.Refused number) rest first second = first

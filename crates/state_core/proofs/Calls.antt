@@ -2,9 +2,8 @@
 use Rattle.std.proofs.Common.{◌≡◌, ℕ, ◌+◌, ◌<◌, ◌≤◌, Bool, true, false, cond, length, refl, sym, ap, subst, arith, ◌-◌, not, is_some, Option, Some, None, IsSome}
 use Rattle.std.specs.Prelude.{IsTrue, ◌∷◌, unwrap_or}
 use Rattle.std.specs.Option.{option_or}
-use Rattle.std.proofs.lemmas.Bool.{not-false, ltb-true, leb-false, eqb-true}
+use Rattle.std.proofs.lemmas.Bool.{and_parts, not-false, ltb-true, leb-false, eqb-true}
 use Rattle.frame_core.proofs.Searches.{lowest_some}
-use Rattle.frame_core.specs.Address.{InRange}
 use Rattle.frame_core.specs.declared.place.Address.{Address}
 use Rattle.frame_core.specs.declared.record.Record.TheVariants as entry
 use Rattle.frame_core.specs.History.{page_at, maps}
@@ -22,9 +21,9 @@ use Rattle.state_core.specs.Mapping.{map_refusal, map_at_refusal, mapped}
 use Rattle.state_core.specs.Pinning.{pin_refusal, unpin_refusal, pinned, unpinned}
 use Rattle.state_core.specs.Sharing.{share_refusal, shared}
 use Rattle.state_core.specs.Unmapping.{is_last, unmap_refusal, unmapped}
-use Rattle.state_core.specs.ZoneState.{ZoneState, frame_count, has_room, is_free, lowest_free_frame, lowest_unused_page}
+use Rattle.state_core.specs.ZoneState.{ZoneState, frame_count, has_address, has_room, is_free, lowest_free_frame, lowest_unused_page}
 use Rattle.state_core.proofs.Accessed.{valid_loaded, valid_stored}
-use Rattle.state_core.proofs.Facts.{none_is, spare, page_named}
+use Rattle.state_core.proofs.Facts.{in_table, none_is, spare, page_named}
 use Rattle.state_core.proofs.Finding.{some_lowest, unused_is, unused_left}
 use Rattle.state_core.proofs.HandingOut.{valid_block_taken, valid_block_given}
 use Rattle.state_core.proofs.Mapping.{CanPlace, placed_valid}
@@ -65,16 +64,16 @@ module _ (z : ZoneState) where
       by None e = absurd (unused_left z law some e)
       by (Some page) e = (page, e)
 
-    kept_placed : (address : Address) (unmovable : Bool) (frame : ℕ) → InRange address → length (out z.records) < z.room → page_at z.records address ≡ None
+    kept_placed : (address : Address) (unmovable : Bool) (frame : ℕ) → has_address z address ≡ true → length (out z.records) < z.room → page_at z.records address ≡ None
         → is_free z frame ≡ true → frame < frame_count z → IsValidZone (mapped z client address unmovable frame)
-    kept_placed address unmovable frame range room vacant free within =
+    kept_placed address unmovable frame known room vacant free within =
         let page = unused (some_lowest z frame free within) in
         let is = unused_is z page.0 page.1 in
         let named : unwrap_or (lowest_unused_page z) 0 ≡ page.0 = ap (λ (o : Option ℕ). unwrap_or o 0) page.1 in
         placed_valid z client address unmovable _ frame (subst (λ (p : ℕ). CanPlace z address p frame) (sym named) (record {
           valid = law;
           spare = room;
-          range = range;
+          inside = in_table z address known;
           vacant = vacant;
           unused = is.1;
           numbered = is.0;
@@ -82,21 +81,23 @@ module _ (z : ZoneState) where
           within = within;
         }))
 
-    kept_map : (address : Address) (unmovable : Bool) → InRange address → map_refusal z address ≡ None → IsValidZone (mapped z client address unmovable (unwrap_or (lowest_free_frame z) 0))
-    kept_map address unmovable range accepted =
-        let room = passed _ _ _ accepted in
+    kept_map : (address : Address) (unmovable : Bool) → map_refusal z address ≡ None → IsValidZone (mapped z client address unmovable (unwrap_or (lowest_free_frame z) 0))
+    kept_map address unmovable accepted =
+        let known = passed _ _ _ accepted in
+        let room = passed _ _ _ known.1 in
         let vacant = passed _ _ _ room.1 in
         let some = passed _ _ _ vacant.1 in
         let free = lowest_some (is_free z) (frame_count z) _ (found (lowest_free_frame z) (not-false _ some.0)) in
-        kept_placed address unmovable _ range (room_passed room.0) (none_is _ vacant.0) free.1 free.0
+        kept_placed address unmovable _ (not-false _ known.0) (room_passed room.0) (none_is _ vacant.0) free.1 free.0
 
-    kept_map_at : (address : Address) (unmovable : Bool) (frame : ℕ) → InRange address → map_at_refusal z address frame ≡ None → IsValidZone (mapped z client address unmovable frame)
-    kept_map_at address unmovable frame range accepted =
-        let within = passed _ _ _ accepted in
-        let room = passed _ _ _ within.1 in
+    kept_map_at : (address : Address) (unmovable : Bool) (frame : ℕ) → map_at_refusal z address frame ≡ None → IsValidZone (mapped z client address unmovable frame)
+    kept_map_at address unmovable frame accepted =
+        let ranges = passed _ _ _ accepted in
+        let within = and_parts _ _ (not-false _ ranges.0) in
+        let room = passed _ _ _ ranges.1 in
         let vacant = passed _ _ _ room.1 in
         let free = passed _ _ _ vacant.1 in
-        kept_placed address unmovable frame range (room_passed room.0) (none_is _ vacant.0) (not-false _ free.0) (ltb-true _ _ (not-false _ within.0))
+        kept_placed address unmovable frame within.0 (room_passed room.0) (none_is _ vacant.0) (not-false _ free.0) (ltb-true _ _ within.1)
 
     kept_load : (address : Address) (word : ℕ) → access_refusal z address ≡ None → IsValidZone (loaded z client address word)
     kept_load address word accepted =
@@ -107,9 +108,10 @@ module _ (z : ZoneState) where
     kept_store : (address : Address) (word value : ℕ) → access_refusal z address ≡ None → IsValidZone (stored z client address word value)
     kept_store address word value accepted = valid_stored z law (room_passed (passed _ _ _ accepted).0) client address word value
 
-    kept_share : (address alias : Address) → InRange alias → share_refusal z address alias ≡ None → IsValidZone (shared z client address alias)
-    kept_share address alias range accepted =
-        let room = passed _ _ _ accepted in
+    kept_share : (address alias : Address) → share_refusal z address alias ≡ None → IsValidZone (shared z client address alias)
+    kept_share address alias accepted =
+        let known = passed _ _ _ accepted in
+        let room = passed _ _ _ known.1 in
         let both = both_passed _ _ room.1 in
         let at = in_a_frame _ both.0 in
         let vacant = passed _ _ _ both.1 in
@@ -120,7 +122,7 @@ module _ (z : ZoneState) where
           spare = room_passed room.0;
           named = page.1;
           at = page.2;
-          range = range;
+          inside = in_table z alias (not-false _ known.0);
           vacant = none_is _ vacant.0;
           few = subst (λ (o : Option ℕ). maps z.records (unwrap_or o 0) < 4) page.1 (leb-false _ _ few.0);
         })
@@ -160,11 +162,11 @@ module _ (z : ZoneState) where
 
 -- each call that isn't refused leaves a valid zone valid
 pub call_valid : (W : ℕ) (call : ZoneCall W) (client : ℕ) (z : ZoneState) → IsValidZone z → IsInRange call → refusal_of call z ≡ None → IsValidZone (after call client z)
-call_valid W (Map address unmovable) client z law range accepted = kept_map z law client address unmovable range accepted
-call_valid W (MapAt address unmovable frame) client z law range accepted = kept_map_at z law client address unmovable frame range accepted
+call_valid W (Map address unmovable) client z law range accepted = kept_map z law client address unmovable accepted
+call_valid W (MapAt address unmovable frame) client z law range accepted = kept_map_at z law client address unmovable frame accepted
 call_valid W (Load address word) client z law range accepted = kept_load z law client address word accepted
 call_valid W (Store address word value) client z law range accepted = kept_store z law client address word value accepted
-call_valid W (Share address alias) client z law range accepted = kept_share z law client address alias range accepted
+call_valid W (Share address alias) client z law range accepted = kept_share z law client address alias accepted
 call_valid W (Unmap address) client z law range accepted = kept_unmap z law client address accepted
 call_valid W (Pin address) client z law range accepted = kept_pin z law client address accepted
 call_valid W (Unpin address) client z law range accepted = kept_unpin z law client address accepted
@@ -184,6 +186,8 @@ call_shape W _ client z = (refl, refl, refl)
 
 -- the room that a call finds which isn't refused
 call_room : (W : ℕ) (call : ZoneCall W) (z : ZoneState) → refusal_of call z ≡ None → length (out z.records) < z.room
+call_room W (Map address unmovable) z accepted = room_passed z (passed _ _ _ (passed _ _ _ accepted).1).0
+call_room W (Share address alias) z accepted = room_passed z (passed _ _ _ (passed _ _ _ accepted).1).0
 call_room W (MapAt address unmovable frame) z accepted = room_passed z (passed _ _ _ (passed _ _ _ accepted).1).0
 call_room W (GiveOrder first order) z accepted = room_passed z (passed _ _ _ (passed _ _ _ accepted).1).0
 call_room W (Mark block) z accepted = room_passed z (passed _ _ _ (passed _ _ _ accepted).1).0

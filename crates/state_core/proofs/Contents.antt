@@ -47,6 +47,7 @@ module _ (v : ZoneState) (law : IsValidZone v) (first order : ℕ) (at : map.get
     pub valid_contents_written : IsValidZone (contents_written v first from values)
     valid_contents_written = record {
       size = law.size;
+      addresses = law.addresses;
       journal = law.journal;
       agrees = law.agrees;
       pages = law.pages;

@@ -1,10 +1,11 @@
 -- What is known of a valid zone.
-use Rattle.std.proofs.Common.{◌≡◌, ◌≢◌, ℕ, ◌+◌, ◌-◌, ◌^◌, ◌<◌, Bool, true, false, cond, length, refl, sym, ap, ◌∙◌, Option, Some, None, IsSome, is_some, nat_eq, ◌||◌, if◌then◌else◌, eq-eqb, ltb-true}
+use Rattle.std.proofs.Common.{◌≡◌, ◌≢◌, ℕ, ◌+◌, ◌-◌, ◌^◌, ◌<◌, Bool, true, false, cond, length, refl, sym, ap, ◌∙◌, Option, Some, None, IsSome, is_some, nat_eq, ◌||◌, if◌then◌else◌, eq-eqb, ltb-true, arith}
 use Rattle.std.specs.FinMap as map
 pub use Rattle.std.proofs.lemmas.Bool.{cond-true as taken, cond-false as skipped}
 use Rattle.std.proofs.lemmas.Bool.{and_parts}
 use Rattle.std.specs.Option.{option_and_then}
 use Rattle.std.proofs.lemmas.Option.{option_and_then_some}
+use Rattle.frame_core.specs.Address.{InRange, InTable}
 use Rattle.frame_core.specs.declared.place.Address.{Address}
 use Rattle.frame_core.specs.History.{page_at}
 use Rattle.frame_core.specs.Moves.{out, isolated}
@@ -13,7 +14,7 @@ use Rattle.state_core.specs.declared.placement.Placement.{Placement}
 use Rattle.state_core.specs.declared.placement.Placement.TheVariants.{At, Moving}
 use Rattle.state_core.specs.Isolating.{isolate_refusal}
 use Rattle.state_core.specs.Valid.{IsValidZone}
-use Rattle.state_core.specs.ZoneState.{words_frame, ZoneState, frame_count, takes_up, has_room, placement_at}
+use Rattle.state_core.specs.ZoneState.{words_frame, ZoneState, frame_count, takes_up, has_address, has_room, placement_at}
 
 pub chosen : {A : Type 0} (n : ℕ) (x y : A) → (if nat_eq n n then x else y) ≡ x
 chosen n x y = ap (λ b. if b then x else y) (eq-eqb n n refl)
@@ -40,6 +41,18 @@ not_full false e = cc
 -- where an isolation isn't refused, the journal has its two places, and its serial is left
 pub room_and_serial : (v : ZoneState) → isolate_refusal v ≡ None → (length (out v.records) + 1 < v.room) × (isolated v.records < 2 ^ 32 - 1)
 room_and_serial v accepted = let both = and_parts _ _ (not_full _ accepted) in (ltb-true _ _ both.0, ltb-true _ _ both.1)
+
+-- an address of the zone is in its table
+pub in_table : (v : ZoneState) (address : Address) → has_address v address ≡ true → InTable v.spaces v.vpages address
+in_table v address e = let both = and_parts _ _ e in record { space = ltb-true _ _ both.0; vpage = ltb-true _ _ both.1 }
+
+-- an address of a table of a zone's size is in range
+pub in_range : (v : ZoneState) → IsValidZone v → (address : Address) → InTable v.spaces v.vpages address → InRange address
+in_range v law address inside = record { space = omega (arith, inside.space, law.addresses.0); vpage = omega (arith, inside.vpage, law.addresses.1) }
+
+-- an address that names a page is in range
+pub named_in_range : (v : ZoneState) → IsValidZone v → (address : Address) (page : ℕ) → page_at v.records address ≡ Some page → InRange address
+named_in_range v law address page named = in_range v law address (law.agrees.named address page named).0
 
 -- an address that names a page in a frame
 pub page_named : (v : ZoneState) (address : Address) (placement : Placement) → placement_at v address ≡ Some placement → (page : ℕ) × (page_at v.records address ≡ Some page) × (map.get v.placement page ≡ Some placement)

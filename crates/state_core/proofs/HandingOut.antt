@@ -168,6 +168,7 @@ module _ (v : ZoneState) (first order : ℕ) (run : is_run v order first ≡ tru
     pub valid_block_taken : IsValidZone (block_taken v first order)
     valid_block_taken = record {
       size = law.size;
+      addresses = law.addresses;
       journal = journal_noted (TakeHuge first order) law.journal spare law.journal.truthful law.journal.well_ended law.journal.serials refl;
       agrees = record { named = law.agrees.named; in_use = law.agrees.in_use; under_way = law.agrees.under_way; handed = handed_taken; marks = law.agrees.marks };
       pages = record { numbered = law.pages.numbered; upward = law.pages.upward; apart = law.pages.apart; within = law.pages.within; clear = clear_taken; unmovable = law.pages.unmovable };
@@ -251,6 +252,7 @@ module _ (v : ZoneState) (law : IsValidZone v) (first order : ℕ) (at : map.get
   pub valid_block_given : length (out v.records) < v.room → IsValidZone (block_given v first order)
   valid_block_given spare = record {
     size = law.size;
+    addresses = law.addresses;
     journal = journal_noted (GiveHuge first order) law.journal spare law.journal.truthful law.journal.well_ended law.journal.serials refl;
     agrees = record { named = law.agrees.named; in_use = law.agrees.in_use; under_way = law.agrees.under_way; handed = handed_fewer; marks = law.agrees.marks };
     pages = record { numbered = law.pages.numbered; upward = law.pages.upward; apart = law.pages.apart; within = law.pages.within; clear = (λ page frame e. (or_parts _ _ (sym (held_given frame) ∙ law.pages.clear page frame e)).0); unmovable = law.pages.unmovable };

@@ -4,7 +4,7 @@ use Rattle.std.specs.FinMap as map
 use Rattle.std.specs.FinSet as set
 use Rattle.std.proofs.lemmas.Bool.{and_from, both_ways, cases_Bool, cond-true, cond-false, eq-eqb, eqb-true, ne_eqb}
 use Rattle.std.proofs.lemmas.Option.{same_Some}
-use Rattle.frame_core.specs.Address.{InRange}
+use Rattle.frame_core.specs.Address.{InTable}
 use Rattle.frame_core.specs.Below.{one_if}
 use Rattle.frame_core.specs.declared.place.Address.{Address}
 use Rattle.frame_core.proofs.Maps.{one_address, maps_changed, maps_none}
@@ -16,6 +16,7 @@ use Rattle.state_core.specs.Valid.{IsValidZone, is_under}
 use Rattle.state_core.specs.Mapping.{placed}
 use Rattle.state_core.specs.ZoneState.{ZoneState, frame_count, is_free}
 use Rattle.state_core.proofs.Entries.{contains_insert_other}
+use Rattle.state_core.proofs.Facts.{in_range}
 use Rattle.state_core.proofs.Quiet.{swept_ended}
 use Rattle.state_core.proofs.Places as places
 use Rattle.state_core.proofs.Places.{CanChangePlace, IsTold, put, page_count, valid_told}
@@ -24,7 +25,7 @@ use Rattle.state_core.proofs.Places.{CanChangePlace, IsTold, put, page_count, va
 pub record CanPlace (v : ZoneState) (address : Address) (page frame : ℕ) : Type 0 where
   pub valid : IsValidZone v
   pub spare : length (out v.records) < v.room
-  pub range : InRange address
+  pub inside : InTable v.spaces v.vpages address
   pub vacant : page_at v.records address ≡ None
   pub unused : map.get v.placement page ≡ None
   pub numbered : page < frame_count v
@@ -76,7 +77,7 @@ module _ (v : ZoneState) (client : ℕ) (address : Address) (unmovable : Bool) (
   maps_changed_by : (q : ℕ) → maps next.records q ≡ maps v.records q + one_if (nat_eq page q)
   maps_changed_by q = omega (
     arith,
-    maps_changed v.records next.records address can.range named_there q,
+    maps_changed v.records next.records address (in_range v can.valid address can.inside) named_there q,
     ap (λ (o : Option ℕ). one_if (is_page o q)) can.vacant,
     ap (λ (o : Option ℕ). one_if (is_page o q)) (named_here address (and_from _ _ (eq-eqb address.space address.space refl) (eq-eqb address.vpage address.vpage refl))),
   )
@@ -118,7 +119,7 @@ module _ (v : ZoneState) (client : ℕ) (address : Address) (unmovable : Bool) (
         spare = omega arith;
         room_left = omega arith;
         named = λ b q is. elim (cases_Bool (same_address b address)) [
-          | inl here ↦ (subst InRange (sym (one_address b address here)) can.range, page_used q (same_Some q page (sym is ∙ named_here b here)))
+          | inl here ↦ (subst (InTable v.spaces v.vpages) (sym (one_address b address here)) can.inside, page_used q (same_Some q page (sym is ∙ named_here b here)))
           | inr there ↦ (let before = law.agrees.named b q (sym (named_there b there) ∙ is) in (before.0, still_used q before.1))
         ];
         in_use = λ q used. elim (places.where_is can_map q) [

@@ -2,7 +2,7 @@
 use Rattle.std.proofs.Common.{◌≡◌, ℕ, ◌<◌, ◌≤◌, ◌^◌, ◌-◌, List, ◌∷◌, length, arith, ap, Some, IsSome, sym, ◌∙◌}
 use Rattle.std.specs.Prelude.{◌↔◌}
 use Rattle.std.specs.FinMap as map
-use Rattle.frame_core.specs.Address.{InRange}
+use Rattle.frame_core.specs.Address.{InTable}
 use Rattle.frame_core.specs.declared.place.Address.{Address}
 use Rattle.frame_core.specs.declared.record.Record.{Record}
 use Rattle.frame_core.specs.Blocks.{handed_out_by, is_marked_by}
@@ -20,7 +20,7 @@ pub record IsNoted (v : ZoneState) (entry : Record) : Type 0 where
   pub truthful : IsTruthful (entry ∷ v.records)
   pub well_ended : IsWellEnded (entry ∷ v.records)
   pub serials : isolated (entry ∷ v.records) < 2 ^ 32
-  pub named : (address : Address) (page : ℕ) → page_at (entry ∷ v.records) address ≡ Some page → InRange address × IsSome (map.get v.placement page)
+  pub named : (address : Address) (page : ℕ) → page_at (entry ∷ v.records) address ≡ Some page → InTable v.spaces v.vpages address × IsSome (map.get v.placement page)
   pub in_use : (page : ℕ) → IsSome (map.get v.placement page) → (0 < maps (entry ∷ v.records) page) × (maps (entry ∷ v.records) page ≤ 4) × (pins (entry ∷ v.records) page ≤ 255)
   pub out : out (entry ∷ v.records) ≡ out v.records
   pub ways : (page serial : ℕ) → IsOutWith v.records page serial ↔ IsOutWith (entry ∷ v.records) page serial
@@ -36,6 +36,7 @@ journal_noted entry journal spare truthful well_ended serials out =
 pub valid_noted : (v : ZoneState) → IsValidZone v → (entry : Record) → length (out v.records) < v.room → IsNoted v entry → IsValidZone (noted v entry)
 valid_noted v law entry spare told = record {
   size = law.size;
+  addresses = law.addresses;
   journal = journal_noted entry law.journal spare told.truthful told.well_ended told.serials told.out;
   agrees = record {
     named = told.named;

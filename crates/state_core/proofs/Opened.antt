@@ -9,13 +9,14 @@ use Rattle.std.proofs.lemmas.Option.{none-some}
 use Rattle.frame_core.proofs.Searches.{count_all, count_none, none_some}
 use Rattle.frame_core.specs.Below.{count_below}
 use Rattle.state_core.specs.declared.placement.Placement.{Placement}
-use Rattle.state_core.specs.Opening.{opened_with, IsSize}
+use Rattle.state_core.specs.declared.size.ZoneSize.{ZoneSize}
+use Rattle.state_core.specs.Opening.{opened_sized, IsZoneSize}
 use Rattle.state_core.specs.Valid.{IsValidZone, is_under}
 use Rattle.state_core.specs.ZoneState.{ZoneState, frame_count, takes_up, covers, is_held, is_free}
 
-module _ (words number blocks places : ℕ) where
+module _ (words number : ℕ) (size : ZoneSize) (places : ℕ) where
   abbrev new_zone : ZoneState
-  new_zone = opened_with words number blocks places
+  new_zone = opened_sized words number size places
 
   no_page : (page : ℕ) → map.get new_zone.placement page ≡ None
   no_page page = map.get-empty nat_cmp page
@@ -35,7 +36,7 @@ module _ (words number blocks places : ℕ) where
   pub all_free : (frame : ℕ) → is_free new_zone frame ≡ true
   all_free frame = and_from _ _ (ap not (none_some (λ page. takes_up (map.get new_zone.placement page) frame) (frame_count new_zone) (λ page h. untaken page frame))) (ap not (unheld frame))
 
-  pub free_count : count_below (is_free new_zone) (frame_count new_zone) ≡ 512 * blocks
+  pub free_count : count_below (is_free new_zone) (frame_count new_zone) ≡ 512 * size.blocks
   free_count = count_all (is_free new_zone) (frame_count new_zone) (λ frame h. all_free frame)
 
   pub page_count : count_below (λ page. is_some (map.get new_zone.placement page)) (frame_count new_zone) ≡ 0
@@ -44,9 +45,10 @@ module _ (words number blocks places : ℕ) where
   pub held_count : count_below (is_held new_zone) (frame_count new_zone) ≡ 0
   held_count = count_none (is_held new_zone) (frame_count new_zone) (λ frame h. unheld frame)
 
-  pub opened_valid : IsSize blocks → places ≤ 2 ^ 53 → IsValidZone new_zone
-  opened_valid size few = record {
-    size = size;
+  pub opened_valid : IsZoneSize size → places ≤ 2 ^ 53 → IsValidZone new_zone
+  opened_valid within few = record {
+    size = within.0;
+    addresses = (within.2, within.4);
     journal = record { places = omega arith; serials = omega arith; truthful = tt; well_ended = tt; room_left = omega arith };
     agrees = record {
       named = λ address page e. cc;

@@ -7,7 +7,7 @@ use Rattle.std.proofs.Math.Bool.{or-false}
 use Rattle.std.proofs.lemmas.Bool.{and_parts, both_ways, cases_Bool, eq-eqb, false_from_ne_true, ne_eqb, not-true, or_right}
 use Rattle.std.proofs.lemmas.Bool.Decides.{eqb_tells, leb_tells}
 use Rattle.frame_core.proofs.Searches.{some_at, some_none, none_some, count_more, count_none, count_same}
-use Rattle.frame_core.specs.Address.{InRange}
+use Rattle.frame_core.specs.Address.{InTable}
 use Rattle.frame_core.specs.Below.{one_if, some_below, count_below}
 use Rattle.frame_core.specs.declared.place.Address.{Address}
 use Rattle.frame_core.specs.declared.record.Record.{Record}
@@ -222,7 +222,7 @@ pub record IsTold (v : ZoneState) (page : ℕ) (new : Option Placement) (entry :
   pub serials : isolated (entry ∷ v.records) < 2 ^ 32
   pub spare : 0 < v.room
   pub room_left : length (out (entry ∷ v.records)) ≤ v.room - 1
-  pub named : (address : Address) (q : ℕ) → page_at (entry ∷ v.records) address ≡ Some q → InRange address × IsSome (map.get (put v.placement page new) q)
+  pub named : (address : Address) (q : ℕ) → page_at (entry ∷ v.records) address ≡ Some q → InTable v.spaces v.vpages address × IsSome (map.get (put v.placement page new) q)
   pub in_use : (q : ℕ) → IsSome (map.get (put v.placement page new) q) → (0 < maps (entry ∷ v.records) q) × (maps (entry ∷ v.records) q ≤ 4) × (pins (entry ∷ v.records) q ≤ 255)
   -- this page is moving under exactly the serial that it is out with, and the other pages stay out as they were
   pub own_way : (serial : ℕ) → IsTrue (is_under new serial) ↔ IsOutWith (entry ∷ v.records) page serial
@@ -253,6 +253,7 @@ module _ {v : ZoneState} {page : ℕ} {old new : Option Placement} (can : CanCha
       let law = can.valid in
       record {
         size = law.size;
+        addresses = law.addresses;
         journal = record {
           places = (let before = law.journal.places in let spare = told.spare in omega arith);
           serials = told.serials;

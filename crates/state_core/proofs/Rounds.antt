@@ -20,6 +20,7 @@ calm v none free = sym (λ i. eq-eqb (length (out v.records)) 0 none i && not (n
 pub valid_from : (v : ZoneState) → IsValidZone v → (start : RoundStart) → start.records ≡ length v.records → start.calm ≡ is_calm v → IsValidZone (begun v start)
 valid_from v law start here as_calm = record {
   size = law.size;
+  addresses = law.addresses;
   journal = law.journal;
   agrees = law.agrees;
   pages = law.pages;

@@ -3,7 +3,7 @@ use Rattle.std.proofs.Common.{◌≡◌, ◌≢◌, ℕ, ◌+◌, ◌<◌, true,
 use Rattle.std.specs.FinMap as map
 use Rattle.std.proofs.lemmas.Bool.{and_from, cases_Bool, cond-true, cond-false, eq-eqb, ne_eqb}
 use Rattle.std.proofs.lemmas.Bool.Decides.{eqb_tells}
-use Rattle.frame_core.specs.Address.{InRange}
+use Rattle.frame_core.specs.Address.{InTable}
 use Rattle.frame_core.specs.Below.{one_if}
 use Rattle.frame_core.specs.declared.place.Address.{Address}
 use Rattle.frame_core.proofs.Maps.{one_address, maps_changed}
@@ -14,6 +14,7 @@ use Rattle.state_core.specs.declared.placement.Placement.TheVariants.{At}
 use Rattle.state_core.specs.Valid.{IsValidZone}
 use Rattle.state_core.specs.Sharing.{shared}
 use Rattle.state_core.specs.ZoneState.{ZoneState}
+use Rattle.state_core.proofs.Facts.{in_range}
 use Rattle.state_core.proofs.Noted.{valid_noted}
 use Rattle.state_core.proofs.Quiet.{swept_ended}
 
@@ -23,7 +24,7 @@ pub record CanShare (v : ZoneState) (address alias : Address) (page frame : ℕ)
   pub spare : length (out v.records) < v.room
   pub named : page_at v.records address ≡ Some page
   pub at : map.get v.placement page ≡ Some (At frame)
-  pub range : InRange alias
+  pub inside : InTable v.spaces v.vpages alias
   pub vacant : page_at v.records alias ≡ None
   pub few : maps v.records page < 4
 
@@ -41,7 +42,7 @@ module _ (v : ZoneState) (client : ℕ) (address alias : Address) (page frame : 
   maps_then : (q : ℕ) → maps next.records q ≡ maps v.records q + one_if (nat_eq page q)
   maps_then q = omega (
     arith,
-    maps_changed v.records next.records alias can.range named_there q,
+    maps_changed v.records next.records alias (in_range v can.valid alias can.inside) named_there q,
     ap (λ (o : Option ℕ). one_if (is_page o q)) can.vacant,
     ap (λ (o : Option ℕ). one_if (is_page o q)) (named_here alias (and_from _ _ (eq-eqb alias.space alias.space refl) (eq-eqb alias.vpage alias.vpage refl))),
   )
@@ -60,7 +61,7 @@ module _ (v : ZoneState) (client : ℕ) (address alias : Address) (page frame : 
         well_ended = law.journal.well_ended;
         serials = law.journal.serials;
         named = λ a q is. elim (cases_Bool (same_address a alias)) [
-          | inl here ↦ (subst InRange (sym (one_address a alias here)) can.range, (law.agrees.named address q (can.named ∙ sym (named_here a here) ∙ is)).1)
+          | inl here ↦ (subst (InTable v.spaces v.vpages) (sym (one_address a alias here)) can.inside, (law.agrees.named address q (can.named ∙ sym (named_here a here) ∙ is)).1)
           | inr there ↦ law.agrees.named a q (sym (named_there a there) ∙ is)
         ];
         in_use = λ q used.

@@ -16,7 +16,7 @@ use Rattle.state_core.specs.Valid.{IsValidZone, is_under}
 use Rattle.state_core.specs.Unmapping.{is_last, without_page, unmapped}
 use Rattle.state_core.specs.ZoneState.{ZoneState, noted}
 use Rattle.state_core.proofs.Entries.{contains_remove_same, contains_remove_other}
-use Rattle.state_core.proofs.Facts.{not_none}
+use Rattle.state_core.proofs.Facts.{named_in_range, not_none}
 use Rattle.state_core.proofs.Noted.{valid_noted}
 use Rattle.state_core.proofs.Quiet.{swept_ended}
 use Rattle.state_core.proofs.Places.{CanChangePlace, IsTold, with_place, where_is, ways_of, valid_told}
@@ -42,7 +42,7 @@ module _ (v : ZoneState) (client : ℕ) (address : Address) (page frame : ℕ) (
   maps_then : (q : ℕ) → maps after.records q + one_if (nat_eq page q) ≡ maps v.records q
   maps_then q = omega (
     arith,
-    maps_changed v.records after.records address (can.valid.agrees.named address page can.named).0 named_there q,
+    maps_changed v.records after.records address (named_in_range v can.valid address page can.named) named_there q,
     ap (λ (o : Option ℕ). one_if (is_page o q)) can.named,
     ap (λ (o : Option ℕ). one_if (is_page o q)) (named_here address (and_from _ _ (eq-eqb address.space address.space refl) (eq-eqb address.vpage address.vpage refl))),
   )
@@ -104,7 +104,7 @@ module _ (v : ZoneState) (client : ℕ) (address : Address) (page frame : ℕ) (
   -- no other address names the page
   pub none_left : maps v.records page ≡ 1 → (a : Address) (q : ℕ) → page_at after.records a ≡ Some q → q ≢ page
   none_left one a q is same =
-      let range = (can.valid.agrees.named a q (named_before a q is)).0 in
+      let range = named_in_range v can.valid a q (named_before a q is) in
       let some = maps_some after.records page a range (ap (λ (o : Option ℕ). is_page o page) is ∙ eq-eqb q page same) in
       absurd (omega (arith, maps_one_less))
 

@@ -1,6 +1,5 @@
 -- The calls of a zone in four tables, with a row for each call: why it is refused, what it answers, what it leaves, and its record.
 use Rattle.std.specs.Prelude.{ℕ, ◌≤◌, ⊤, Bool, true, false, Option, unwrap_or}
-use Rattle.frame_core.specs.Address.{InRange}
 use Rattle.frame_core.specs.declared.record.Record.{Record}
 use Rattle.frame_core.specs.declared.record.Record.TheVariants as entry
 use Rattle.state_core.specs.declared.call.ZoneAnswer.{ZoneAnswer}
@@ -120,11 +119,7 @@ is_access (Load address word) = true
 is_access (Store address word value) = true
 is_access _ = false
 
--- the arguments of a call are in range that a valid zone rests on: an address that is to name a page, and the order of a block that
--- is to be handed out
+-- the argument of a call is in range that a valid zone rests on: the order of a block that is to be handed out
 abbrev pub IsInRange : {W : ℕ} → ZoneCall W → Type 0
-IsInRange (Map address unmovable) = InRange address
-IsInRange (MapAt address unmovable frame) = InRange address
-IsInRange (Share address alias) = InRange alias
 IsInRange (TakeOrder order) = (3 ≤ order) × (order ≤ 9)
 IsInRange _ = ⊤

@@ -5,9 +5,9 @@ use Rattle.frame_core.specs.declared.place.Address.{Address}
 use Rattle.frame_core.specs.declared.record.Record.TheVariants.{Share}
 use Rattle.frame_core.specs.History.{page_at, maps}
 use Rattle.state_core.specs.declared.error.ZoneError.{ZoneError}
-use Rattle.state_core.specs.declared.error.ZoneError.TheVariants.{JournalFull, Occupied, ShareFull}
+use Rattle.state_core.specs.declared.error.ZoneError.TheVariants.{Range, JournalFull, Occupied, ShareFull}
 use Rattle.state_core.specs.Access.{placement_refusal}
-use Rattle.state_core.specs.ZoneState.{ZoneState, has_room, placement_at, noted}
+use Rattle.state_core.specs.ZoneState.{ZoneState, has_address, has_room, placement_at, noted}
 
 -- how many addresses name the page that an address names
 abbrev pub maps_at : ZoneState → Address → ℕ
@@ -23,7 +23,8 @@ alias_refusal z address alias =
 -- why a share is refused, if it is
 abbrev pub share_refusal : ZoneState → Address → Address → Option ZoneError
 share_refusal z address alias =
-    if not (has_room z) then Some JournalFull
+    if not (has_address z alias) then Some Range
+    else if not (has_room z) then Some JournalFull
     else option_or (placement_refusal (placement_at z address)) (alias_refusal z address alias)
 
 -- the zone after a share: the alias names the page of the address too

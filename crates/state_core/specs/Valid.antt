@@ -5,7 +5,7 @@ use Rattle.std.specs.FinSet as set
 use Rattle.std.specs.Option.{option_map}
 use Rattle.std.specs.Ordering.{nat_cmp}
 use Rattle.frame_core.specs.Below.{count_below}
-use Rattle.frame_core.specs.Address.{InRange}
+use Rattle.frame_core.specs.Address.{InTable}
 use Rattle.frame_core.specs.declared.place.Address.{Address}
 use Rattle.frame_core.specs.declared.record.Record.{Record}
 use Rattle.frame_core.specs.Blocks.{handed_out_by, is_marked_by}
@@ -43,10 +43,10 @@ pub record HasValidJournal (records : List Record) (room : ℕ) : Type 0 where
   -- the journal has a place for the end of each page that is out
   pub room_left : length (out records) ≤ room
 
--- the pages, the blocks and the marks of a zone are those that its journal tells of
-pub record AgreesWithJournal (records : List Record) (placement : map.FinMap nat_cmp Placement) (handed_out : map.FinMap nat_cmp ℕ) (marked : set.FinSet nat_cmp) : Type 0 where
-  -- only an address in range names a page, and only a page in use; each page in use has 1 to 4 addresses and at most 255 pins
-  pub named : (address : Address) (page : ℕ) → page_at records address ≡ Some page → InRange address × IsSome (map.get placement page)
+-- the pages, the blocks and the marks of a zone with this many spaces of this many virtual pages are those that its journal tells of
+pub record AgreesWithJournal (spaces vpages : ℕ) (records : List Record) (placement : map.FinMap nat_cmp Placement) (handed_out : map.FinMap nat_cmp ℕ) (marked : set.FinSet nat_cmp) : Type 0 where
+  -- only an address of the zone names a page, and only a page in use; each page in use has 1 to 4 addresses and at most 255 pins
+  pub named : (address : Address) (page : ℕ) → page_at records address ≡ Some page → InTable spaces vpages address × IsSome (map.get placement page)
   pub in_use : (page : ℕ) → IsSome (map.get placement page) → (0 < maps records page) × (maps records page ≤ 4) × (pins records page ≤ 255)
   -- a page is moving under exactly the serial that it is out with
   pub under_way : (page serial : ℕ) → IsTrue (is_under (map.get placement page) serial) ↔ (IsTrue (is_out records serial) × (page_of records serial ≡ Some page))
@@ -87,8 +87,10 @@ pub record HasValidFingers (z : ZoneState) : Type 0 where
 pub record IsValidZone (z : ZoneState) : Type 0 where
   -- a zone has 1 to 32768 pageblocks
   pub size : (0 < z.blocks) × (z.blocks ≤ 32768)
+  -- it has at most 256 address spaces, with at most 16777216 virtual pages each
+  pub addresses : (z.spaces ≤ 256) × (z.vpages ≤ 16777216)
   pub journal : HasValidJournal z.records z.room
-  pub agrees : AgreesWithJournal z.records z.placement z.handed_out z.marked
+  pub agrees : AgreesWithJournal z.spaces z.vpages z.records z.placement z.handed_out z.marked
   pub pages : HasValidPages z.placement z.unmovable (frame_count z) (is_held z)
   pub blocks : HasValidBlocks (frame_count z) z.page_size z.handed_out z.contents
   pub fingers : HasValidFingers z

@@ -2,6 +2,7 @@
 -- whether the latest round is quiet.
 use Rattle.std.specs.Prelude.{ℕ, ◌+◌, true, false, List, length, nat_eq, Option, Some, None, ◌-◌, ◌*◌, ◌^◌, Bool, not, ◌&&◌, ◌||◌, ◌∷◌, take, nat_lt, nat_le, is_none}
 use Rattle.std.specs.FinMap as map
+use Rattle.frame_core.specs.Address.{is_in_table}
 use Rattle.frame_core.specs.declared.place.Address.{Address}
 use Rattle.frame_core.specs.Moves.{out}
 use Rattle.state_core.specs.declared.placement.Placement.{Placement}
@@ -21,6 +22,9 @@ pub record ZoneState : Type 0 where
   pub number : ℕ
   -- how many pageblocks it has
   pub blocks : ℕ
+  -- how many address spaces it has, and how many virtual pages each of them has
+  pub spaces : ℕ
+  pub vpages : ℕ
   -- how many words a page has
   pub page_size : ℕ
   -- the journal, the newest record first
@@ -46,6 +50,10 @@ pub record ZoneState : Type 0 where
 -- the number of frames in a zone: 512 for each pageblock
 abbrev pub frame_count : ZoneState → ℕ
 frame_count z = 512 * z.blocks
+
+-- whether an address is one of the zone's: in one of its spaces, among the virtual pages that each of them has
+abbrev pub has_address : ZoneState → Address → Bool
+has_address z address = is_in_table z.spaces z.vpages address
 
 -- whether a page with this placement takes up a frame: the one that it is in, or the source or the target of its move
 abbrev pub takes_up : Option Placement → ℕ → Bool

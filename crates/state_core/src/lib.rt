@@ -14,6 +14,7 @@ mod law;
 mod moves;
 mod placement;
 mod round;
+mod size;
 
 pub use call::{ZoneAnswer, ZoneCall as ZoneCallOf};
 pub use client_call::ClientCall as ClientCallOf;
@@ -23,6 +24,7 @@ pub use law::calls_keep_the_law;
 pub use moves::{Ended, Next, Stranger};
 pub use placement::Placement;
 pub use round::{Pair, RoundStart};
+pub use size::ZoneSize;
 
 /// A call on a zone with pages of eight words.
 pub type ZoneCall = ZoneCallOf<8>;

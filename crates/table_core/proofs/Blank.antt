@@ -2,9 +2,10 @@
 use Rattle.std.proofs.Common.{◌≡◌, ℕ, ◌*◌, Bool, true, false, List, length, replicate, refl, ap, sym, ◌∙◌}
 use Rattle.std.specs.Prelude.{if◌then◌else◌, Option, Some, None, slice_get, unwrap_or}
 use Rattle.std.proofs.lemmas.List.{length-replicate}
+use Rattle.frame_core.specs.Address.{is_in_table}
 use Rattle.table_core.specs.declared.size.Size.{Size}
 use Rattle.table_core.specs.EntriesInside.{entry_by, entries_of, AreKept}
-use Rattle.table_core.specs.Tables.{is_in_table, place_of, IsBlank}
+use Rattle.table_core.specs.Tables.{place_of, IsBlank}
 use Rattle.table_core.proofs.Listing.{all_same}
 use Rattle.table_core.proofs.Writing.{seen}
 

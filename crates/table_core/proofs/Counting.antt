@@ -6,10 +6,11 @@ use Rattle.std.proofs.lemmas.Bool.Decides.{same_from_decides}
 use Rattle.frame_core.proofs.Searches.{pairs_same_below, pairs_more, pairs_none}
 use Rattle.frame_core.specs.Below.{count_pairs}
 use Rattle.frame_core.specs.declared.place.Address.{Address}
+use Rattle.frame_core.specs.Address.{InTable}
 use Rattle.table_core.specs.Listed.{IsListOf, AreListed}
 use Rattle.table_core.specs.Names.{IsIn, IsRising, order_of}
 use Rattle.table_core.proofs.Places.{listed_some, listed_inside}
-use Rattle.table_core.specs.Tables.{EntryTable, InTable, entry_at, is_listed, count_listed}
+use Rattle.table_core.specs.Tables.{EntryTable, entry_at, is_listed, count_listed}
 
 abbrev named_by : List Address → ℕ → ℕ → Bool
 named_by [] space vpage = false

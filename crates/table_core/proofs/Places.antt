@@ -6,13 +6,13 @@ use Rattle.std.proofs.lemmas.Bool.Decides.{eqb_tells, leb_tells}
 use Rattle.std.proofs.lemmas.Nat.{div-mul-add, mod-mul-add, mul-add-lt, div-add-mod'}
 use Rattle.std.proofs.Math.Nat.{mod-lt, mul-le-mul_right}
 use Rattle.frame_core.proofs.Lists.{slice_get_set_same, slice_get_set_other}
-use Rattle.frame_core.specs.Address.{InRange}
+use Rattle.frame_core.specs.Address.{InRange, InTable, is_in_table}
 use Rattle.frame_core.specs.declared.place.Address.{Address}
 use Rattle.table_core.specs.declared.entry.Entry.{Entry}
 use Rattle.table_core.specs.declared.entry.Entry.TheVariants.{Absent, Migration}
 use Rattle.table_core.specs.declared.size.Size.{Size}
 use Rattle.table_core.specs.Names.{order_of}
-use Rattle.table_core.specs.Tables.{EntryTable, InTable, is_in_table, place_of, entry_at, is_listed, with_entry, ChangesOnly}
+use Rattle.table_core.specs.Tables.{EntryTable, place_of, entry_at, is_listed, with_entry, ChangesOnly}
 
 -- two addresses are equal or not
 pub address_tells : (a b : Address) → (a ≡ b) ⊎ (a ≢ b)

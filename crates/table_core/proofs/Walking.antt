@@ -3,13 +3,13 @@ use Rattle.std.proofs.Common.{◌≡◌, ◌≢◌, ℕ, ◌+◌, ◌*◌, ◌<�
 use Rattle.std.proofs.lemmas.Bool.{eq-eqb}
 use Rattle.std.proofs.lemmas.Bool.Decides.{eqb_tells}
 use Rattle.std.proofs.lemmas.Option.{slice_get-get_or}
-use Rattle.frame_core.specs.Address.{InRange}
+use Rattle.frame_core.specs.Address.{InRange, InTable}
 use Rattle.frame_core.specs.declared.place.Address.{Address}
 use Rattle.table_core.specs.declared.entry.Entry.{Entry}
 use Rattle.table_core.specs.declared.entry.Entry.TheVariants.{Absent, Present, Migration}
 use Rattle.table_core.specs.Listed.{AreListed}
 use Rattle.table_core.specs.Names.{IsIn, IsRising, AreJust}
-use Rattle.table_core.specs.Tables.{EntryTable, InTable, place_of, entry_at, is_listed}
+use Rattle.table_core.specs.Tables.{EntryTable, place_of, entry_at, is_listed}
 use Rattle.table_core.proofs.Places.{same_place, place_within, rising_places, named_inside, moving_inside}
 use Rattle.table_core.proofs.Rising.{from_pushed, to_pushed, rising_pushed, no_longer}
 

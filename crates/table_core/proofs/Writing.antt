@@ -7,11 +7,12 @@ use Rattle.std.proofs.lemmas.List.{map-set, length-set}
 use Rattle.std.proofs.lemmas.Option.{slice_get-map, slice_get_within}
 use Rattle.frame_core.proofs.Lists.{slice_get_set_same, slice_get_set_other}
 use Rattle.frame_core.specs.declared.place.Address.{Address}
+use Rattle.frame_core.specs.Address.{InTable, is_in_table}
 use Rattle.table_core.specs.declared.entry.Entry.{Entry}
 use Rattle.table_core.specs.declared.entry.Entry.TheVariants.{Absent, Present, Migration}
 use Rattle.table_core.specs.EntriesInside.{serial_at, entry_under, entry_by, entries_of, AreKept}
 use Rattle.table_core.specs.Names.{IsIn}
-use Rattle.table_core.specs.Tables.{EntryTable, InTable, is_in_table, place_of, entry_at, is_listed, Replaces}
+use Rattle.table_core.specs.Tables.{EntryTable, place_of, entry_at, is_listed, Replaces}
 use Rattle.table_core.specs.declared.size.Size.{Size}
 use Rattle.table_core.proofs.Places.{address_at, place_at, inside_at, is_inside, same_place, table_tells, moving_inside}
 

@@ -1,5 +1,6 @@
 -- What contracts see of a zone's tables: the entry of each address.
-use Rattle.std.specs.Prelude.{◌≡◌, ◌≢◌, ℕ, ◌+◌, ◌*◌, ◌<◌, Bool, false, List, ◌&&◌, if◌then◌else◌, nat_eq, nat_lt, slice_get, slice_set, unwrap_or}
+use Rattle.std.specs.Prelude.{◌≡◌, ◌≢◌, ℕ, ◌+◌, ◌*◌, Bool, false, List, if◌then◌else◌, nat_eq, slice_get, slice_set, unwrap_or}
+use Rattle.frame_core.specs.Address.{is_in_table}
 use Rattle.frame_core.specs.Below.{count_pairs}
 use Rattle.frame_core.specs.declared.place.Address.{Address}
 use Rattle.table_core.specs.declared.entry.Entry.{Entry}
@@ -15,15 +16,6 @@ pub record EntryTable : Type 0 where
 pub record Tables : Type 0 where
   pub entries : EntryTable
   pub frames : ℕ
-
--- an address is in a table of so many spaces, with so many virtual pages each
-pub record InTable (spaces pages : ℕ) (address : Address) : Type 0 where
-  pub space : address.space < spaces
-  pub vpage : address.vpage < pages
-
--- whether an address is in such a table
-abbrev pub is_in_table : ℕ → ℕ → Address → Bool
-is_in_table spaces pages address = nat_lt address.space spaces && nat_lt address.vpage pages
 
 -- the place of an address in the list of entries: the spaces stand one after the other, with so many virtual pages each
 abbrev pub place_of : ℕ → Address → ℕ

@@ -2,8 +2,9 @@
 
 ghost use Rattle.std.specs.Prelude.{◌≡◌, ◌≢◌, ◌↔◌, ℕ, ◌*◌, ◌<◌, true, false, length, slice_get, IfOk, Some};
 ghost use Rattle.frame_core.specs.declared.place.Address.{Address as Named};
+ghost use Rattle.frame_core.specs.Address.{InTable};
 ghost use Rattle.table_core.specs.Names.{IsIn};
-ghost use Rattle.table_core.specs.Tables.{InTable, place_of, entry_at, with_entry, is_listed, IsBlank, Replaces};
+ghost use Rattle.table_core.specs.Tables.{place_of, entry_at, with_entry, is_listed, IsBlank, Replaces};
 
 use crate::entry::Entry;
 use crate::size::Size;

@@ -1,9 +1,9 @@
 //! How many addresses a table has, and where each of them stands in it.
 
 ghost use Rattle.std.specs.Prelude.{◌≡◌, ◌≢◌, ◌<◌, ◌*◌, IfSome, IfNone};
-ghost use Rattle.frame_core.specs.Address.{InRange};
+ghost use Rattle.frame_core.specs.Address.{InRange, InTable};
 ghost use Rattle.frame_core.specs.declared.place.Address.{Address as Named};
-ghost use Rattle.table_core.specs.Tables.{InTable, place_of};
+ghost use Rattle.table_core.specs.Tables.{place_of};
 
 use frame_core::{Address, SpaceNo, VPage};
 
@@ -38,8 +38,8 @@ impl Size {
         ensures some { IfSome result (λ a. InRange a × InTable self.spaces self.pages a × (place_of self.pages a ≡ place)) }
         ensures none { IfNone result ((a : Named) → InRange a → InTable self.spaces self.pages a → place_of self.pages a ≢ place) }
     {
-        let space = SpaceNo::new((place / self.pages as usize) as u32)?;
-        let vpage = VPage::new((place % self.pages as usize) as u32)?;
+        let space = SpaceNo::in_any_zone((place / self.pages as usize) as u32)?;
+        let vpage = VPage::in_any_zone((place % self.pages as usize) as u32)?;
         Some(Address { space, vpage })
     }
 }

@@ -1,8 +1,8 @@
 ghost use Rattle.std.specs.Prelude.{◌≡◌, ◌≢◌, ◌↔◌, ℕ, ◌*◌, ◌^◌, ◌<◌, ◌≤◌, true, false, length, IfOk, IsTrue};
-ghost use Rattle.frame_core.specs.Address.{InRange};
+ghost use Rattle.frame_core.specs.Address.{InRange, InTable};
 ghost use Rattle.frame_core.specs.declared.place.Address.{Address as Named};
 ghost use Rattle.table_core.specs.Names.{IsIn, IsRising, AreJust};
-ghost use Rattle.table_core.specs.Tables.{InTable, entry_at, is_listed, count_listed, IsBlank, ChangesOnly, Replaces};
+ghost use Rattle.table_core.specs.Tables.{entry_at, is_listed, count_listed, IsBlank, ChangesOnly, Replaces};
 
 use crate::entries::Entries;
 use crate::entry::Entry;
@@ -81,7 +81,7 @@ impl Tables {
     /// may name a page that left it.
     #[inline(always)]
     pub fn set(&mut self, address: Address, frame: FrameNo)
-        requires inside { InRange address → InTable self.old.entries.size.spaces self.old.entries.size.pages address }
+        requires inside { InTable self.old.entries.size.spaces self.old.entries.size.pages address }
         requires absent { entry_at self.old.entries address ≡ Entry.Absent }
         requires within { frame < self.old.frames }
         requires room { count_listed self.old.entries frame < 4 }

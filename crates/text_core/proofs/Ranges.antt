@@ -3,7 +3,6 @@ use Rattle.std.proofs.Common.{◌≡◌, ℕ, ◌<◌, ◌≤◌, Bool, true, fa
 use Rattle.std.specs.Prelude.{◌&&◌, nat_le, nat_lt, map, if◌then◌else◌, IfSome, ⊤, option_map}
 use Rattle.std.specs.Option.{option_or}
 use Rattle.std.proofs.lemmas.Bool.{and_parts, leb-true, ltb-true}
-use Rattle.frame_core.specs.Address.{InRange}
 use Rattle.frame_core.specs.declared.place.Address.{Address}
 use Rattle.state_core.specs.declared.call.ZoneCall.{ZoneCall}
 use Rattle.state_core.specs.declared.call.ZoneCall.TheVariants as zone_call
@@ -52,12 +51,6 @@ between : (low high n : ℕ) (b : Bool) → (nat_le low n && nat_le n high) ≡ 
 between low high n true e = let both = and_parts (nat_le low n) _ e in (leb-true low n both.0, leb-true n high both.1)
 between low high n false e = tt
 
-pub in_space : (s v : ℕ) → IfSome (address_of s v) InRange
-in_space s v = by_test (nat_lt s 8 && nat_lt v 4096) refl where
-  by_test : (b : Bool) → (nat_lt s 8 && nat_lt v 4096) ≡ b → IfSome (if b then Some (record { space = s; vpage = v }) else None) InRange
-  by_test true e = let both = and_parts (nat_lt s 8) _ e in record { space = ltb-true s 8 both.0; vpage = ltb-true v 4096 both.1 }
-  by_test false e = tt
-
 -- what an opening, a round, a pool and a call are made of is in range
 opening_ranged : (z b : Option ℕ) → IfSome b (λ n. (1 ≤ n) × (n ≤ 8)) → IsInRange (opening z b)
 opening_ranged z b r = grind arith
@@ -83,14 +76,14 @@ zone_call_ranged z c r = grind arith
 series_ranged : (z : Option ℕ) (s : Option Series) → IsInRange (series_on z s)
 series_ranged z s = grind arith
 
-map_ranged : (o : Option Address) (unmovable : Bool) → IfSome o InRange → IfSome (map_call o unmovable) IsZoneCallInRange
-map_ranged o unmovable r = grind arith
+map_ranged : (o : Option Address) (unmovable : Bool) → IfSome (map_call o unmovable) IsZoneCallInRange
+map_ranged o unmovable = grind arith
 
-map_at_ranged : (o : Option Address) (f : Option ℕ) (unmovable : Bool) → IfSome o InRange → IfSome (map_at_call o f unmovable) IsZoneCallInRange
-map_at_ranged o f unmovable r = grind arith
+map_at_ranged : (o : Option Address) (f : Option ℕ) (unmovable : Bool) → IfSome (map_at_call o f unmovable) IsZoneCallInRange
+map_at_ranged o f unmovable = grind arith
 
-share_ranged : (o alias : Option Address) → IfSome alias InRange → IfSome (share_call o alias) IsZoneCallInRange
-share_ranged o alias r = grind arith
+share_ranged : (o alias : Option Address) → IfSome (share_call o alias) IsZoneCallInRange
+share_ranged o alias = grind arith
 
 store_ranged : (o : Option Address) (w : Option ℕ) (x : ℕ) → IfSome (store_call o w x) IsZoneCallInRange
 store_ranged o w x = grind arith
@@ -119,10 +112,10 @@ at_ranged Q f g s v = mapped_ranged (λ a. ⊤) Q f (λ a r. g a) (address_of s 
 -- the commands of the rows that both profiles have are in range
 row_ranged : (keyword : Token) (z : Option ℕ) (arguments : List Token) → IfSome (row_of keyword z arguments) IsInRange
 row_ranged Zone z (Number b ∷ []) = opening_ranged z (blocks_of b) (between 1 8 b (nat_le 1 b && nat_le b 8) refl)
-row_ranged Map z (Number s ∷ Number v ∷ []) = zone_call_ranged z _ (map_ranged (address_of s v) false (in_space s v))
-row_ranged Map z (Number s ∷ Number v ∷ Unmovable ∷ []) = zone_call_ranged z _ (map_ranged (address_of s v) true (in_space s v))
-row_ranged MapAt z (Number s ∷ Number v ∷ Number f ∷ []) = zone_call_ranged z _ (map_at_ranged (address_of s v) (frame_of f) false (in_space s v))
-row_ranged MapAt z (Number s ∷ Number v ∷ Number f ∷ Unmovable ∷ []) = zone_call_ranged z _ (map_at_ranged (address_of s v) (frame_of f) true (in_space s v))
+row_ranged Map z (Number s ∷ Number v ∷ []) = zone_call_ranged z _ (map_ranged (address_of s v) false)
+row_ranged Map z (Number s ∷ Number v ∷ Unmovable ∷ []) = zone_call_ranged z _ (map_ranged (address_of s v) true)
+row_ranged MapAt z (Number s ∷ Number v ∷ Number f ∷ []) = zone_call_ranged z _ (map_at_ranged (address_of s v) (frame_of f) false)
+row_ranged MapAt z (Number s ∷ Number v ∷ Number f ∷ Unmovable ∷ []) = zone_call_ranged z _ (map_at_ranged (address_of s v) (frame_of f) true)
 row_ranged Store z (Number s ∷ Number v ∷ Number w ∷ Number x ∷ []) = zone_call_ranged z _ (store_ranged (address_of s v) (word_of w) x)
 row_ranged Load z (Number s ∷ Number v ∷ Number w ∷ []) = zone_call_ranged z _ (load_ranged (address_of s v) (word_of w))
 row_ranged Info z [] = call_ranged z (Some call.Info) tt
@@ -132,7 +125,7 @@ row_ranged Copy z (Number k ∷ []) = call_ranged z _ (hand_ranged call.Copy (λ
 row_ranged Finish z (Number k ∷ []) = call_ranged z _ (hand_ranged call.Finish (λ n r. r) k)
 row_ranged Shut z [] = call_ranged z (Some call.Shut) tt
 row_ranged Look z (Number s ∷ Number v ∷ []) = call_ranged z _ (at_ranged IsCallInRange call.Look (λ a. tt) s v)
-row_ranged Share z (Number s ∷ Number v ∷ Number s2 ∷ Number v2 ∷ []) = zone_call_ranged z _ (share_ranged (address_of s v) (address_of s2 v2) (in_space s2 v2))
+row_ranged Share z (Number s ∷ Number v ∷ Number s2 ∷ Number v2 ∷ []) = zone_call_ranged z _ (share_ranged (address_of s v) (address_of s2 v2))
 row_ranged Unmap z (Number s ∷ Number v ∷ []) = zone_call_ranged z _ (at_ranged IsZoneCallInRange zone_call.Unmap (λ a. tt) s v)
 row_ranged Pin z (Number s ∷ Number v ∷ []) = zone_call_ranged z _ (at_ranged IsZoneCallInRange zone_call.Pin (λ a. tt) s v)
 row_ranged Unpin z (Number s ∷ Number v ∷ []) = zone_call_ranged z _ (at_ranged IsZoneCallInRange zone_call.Unpin (λ a. tt) s v)

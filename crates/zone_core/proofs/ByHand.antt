@@ -114,6 +114,8 @@ same_outcome z w at_z at_w none_z none_w backs e =
     record {
       number = ap (λ (r : Outcome). r.number) e;
       blocks = ap (λ (r : Outcome). r.blocks) e;
+      spaces = ap (λ (r : Outcome). r.spaces) e;
+      vpages = ap (λ (r : Outcome). r.vpages) e;
       page_size = ap (λ (r : Outcome). r.page_size) e;
       records = ap (λ (r : Outcome). r.records) e;
       room = omega (arith, room, ap length none_z, ap length none_w);

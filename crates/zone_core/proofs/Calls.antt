@@ -28,7 +28,7 @@ use Rattle.state_core.specs.Sharing.{maps_at, share_refusal}
 use Rattle.state_core.specs.Unmapping.{is_last, unmap_refusal, without_page, unmapped}
 use Rattle.state_core.specs.ZoneState.{ZoneState, frame_count, is_free, lowest_free_frame, lowest_unused_page, noted}
 use Rattle.zone_core.specs.Outcome.{without_ends, IsSame}
-use Rattle.zone_core.proofs.Same.{line, page_same, number_same, last_same, dirty_same, pins_same, maps_same, room_same, place_same, noted_same, with_books}
+use Rattle.zone_core.proofs.Same.{line, page_same, number_same, last_same, dirty_same, pins_same, maps_same, has_address_same, room_same, place_same, noted_same, with_books}
 
 module _ (z w : ZoneState) (same : IsSame z w) where
   -- one more record, which is the same in both
@@ -51,13 +51,14 @@ module _ (z w : ZoneState) (same : IsSame z w) where
 
   map_agrees : (a : Address) → map_refusal z a ≡ map_refusal w a
   map_agrees a = λ i.
-      cond (not (room_same z w same i)) (Some JournalFull)
+      cond (not (has_address_same z w same a i)) (Some Range)
+      (cond (not (room_same z w same i)) (Some JournalFull)
       (cond (is_some (page_same z w same a i)) (Some Occupied)
-      (cond (is_none (frame_agrees i)) (Some NoFrame) None))
+      (cond (is_none (frame_agrees i)) (Some NoFrame) None)))
 
   map_at_agrees : (a : Address) (frame : ℕ) → map_at_refusal z a frame ≡ map_at_refusal w a frame
   map_at_agrees a frame = λ i.
-      cond (not (nat_lt frame (frame_count (line z w same i)))) (Some Range)
+      cond (not (has_address_same z w same a i && nat_lt frame (frame_count (line z w same i)))) (Some Range)
       (cond (not (room_same z w same i)) (Some JournalFull)
       (cond (is_some (page_same z w same a i)) (Some Occupied)
       (cond (not (is_free (line z w same i) frame)) (Some NoFrame) None)))
@@ -78,9 +79,10 @@ module _ (z w : ZoneState) (same : IsSame z w) where
 
   share_agrees : (a alias : Address) → share_refusal z a alias ≡ share_refusal w a alias
   share_agrees a alias = λ i.
-      cond (not (room_same z w same i)) (Some JournalFull)
+      cond (not (has_address_same z w same alias i)) (Some Range)
+      (cond (not (room_same z w same i)) (Some JournalFull)
       (option_or (placement_refusal (place_same z w same a i))
-      (cond (is_some (page_same z w same alias i)) (Some Occupied) (cond (nat_le 4 (maps_agrees a i)) (Some ShareFull) None)))
+      (cond (is_some (page_same z w same alias i)) (Some Occupied) (cond (nat_le 4 (maps_agrees a i)) (Some ShareFull) None))))
 
   -- pins
 

@@ -17,6 +17,8 @@ module _ (z w : ZoneState) (rest_z : IsAtRest z) (rest_w : IsAtRest w) (same : I
   begun_agrees = λ i. record {
     number = same.number i;
     blocks = same.blocks i;
+    spaces = same.spaces i;
+    vpages = same.vpages i;
     page_size = same.page_size i;
     records = same.records i;
     room = same.room i - length (same.out_is i);

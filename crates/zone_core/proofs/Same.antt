@@ -4,6 +4,7 @@ use Rattle.std.specs.FinMap as map
 use Rattle.std.specs.FinSet as set
 use Rattle.std.specs.Ordering.{nat_cmp}
 use Rattle.std.specs.Option.{option_and_then}
+use Rattle.frame_core.specs.Address.{is_in_table}
 use Rattle.frame_core.specs.Below.{count_pairs, some_below}
 use Rattle.frame_core.specs.declared.place.Address.{Address}
 use Rattle.frame_core.specs.declared.record.Record.{Record}
@@ -12,17 +13,17 @@ use Rattle.frame_core.specs.Moves.{out, put_back}
 use Rattle.state_core.specs.declared.placement.Placement.{Placement}
 use Rattle.state_core.specs.declared.round.RoundStart.{RoundStart}
 use Rattle.state_core.specs.Pairs.{is_marked, can_move, stays_if_some, holder, is_stuck, is_calm}
-use Rattle.state_core.specs.ZoneState.{ZoneState, frame_count, is_held, has_room, noted, placement_at}
+use Rattle.state_core.specs.ZoneState.{ZoneState, frame_count, is_held, has_address, has_room, noted, placement_at}
 use Rattle.zone_core.specs.Outcome.{without_ends, IsSame}
 use Rattle.zone_core.proofs.Records.{page_at-without_ends, pins-without_ends, last-without_ends, dirty-without_ends}
 
 module _ (z w : ZoneState) (same : IsSame z w) where
   -- all but the records, the fingers, and how the latest round began
   abbrev pub there : ZoneState
-  there = record z { number = w.number; blocks = w.blocks; page_size = w.page_size; room = w.room; unmovable = w.unmovable; marked = w.marked; handed_out = w.handed_out; contents = w.contents; placement = w.placement }
+  there = record z { number = w.number; blocks = w.blocks; spaces = w.spaces; vpages = w.vpages; page_size = w.page_size; room = w.room; unmovable = w.unmovable; marked = w.marked; handed_out = w.handed_out; contents = w.contents; placement = w.placement }
 
   pub line : z ≡ there
-  line = λ i. record z { number = same.number i; blocks = same.blocks i; page_size = same.page_size i; room = same.room i; unmovable = same.unmovable i; marked = same.marked i; handed_out = same.handed_out i; contents = same.contents i; placement = same.placement i }
+  line = λ i. record z { number = same.number i; blocks = same.blocks i; spaces = same.spaces i; vpages = same.vpages i; page_size = same.page_size i; room = same.room i; unmovable = same.unmovable i; marked = same.marked i; handed_out = same.handed_out i; contents = same.contents i; placement = same.placement i }
 
   -- what the records say
   pub page_same : (a : Address) → page_at z.records a ≡ page_at w.records a
@@ -41,10 +42,13 @@ module _ (z w : ZoneState) (same : IsSame z w) where
   pins_same page = sym (pins-without_ends z.records page) ∙ ap (λ rs. pins rs page) same.records ∙ pins-without_ends w.records page
 
   pub maps_same : (page : ℕ) → maps z.records page ≡ maps w.records page
-  maps_same page = λ i. count_pairs (λ space vpage. is_page (page_same (record { space = space; vpage = vpage }) i) page) 8 4096
+  maps_same page = λ i. count_pairs (λ space vpage. is_page (page_same (record { space = space; vpage = vpage }) i) page) 256 16777216
 
   pub room_same : has_room z ≡ has_room w
   room_same = λ i. nat_lt (length (same.out_is i)) (same.room i)
+
+  pub has_address_same : (a : Address) → has_address z a ≡ has_address w a
+  has_address_same a = λ i. is_in_table (same.spaces i) (same.vpages i) a
 
   pub place_same : (a : Address) → placement_at z a ≡ placement_at w a
   place_same a = λ i. option_and_then (map.get (same.placement i)) (page_same a i)
@@ -71,6 +75,8 @@ module _ (z w : ZoneState) (same : IsSame z w) where
   noted_same entry entry' records back outs = record {
     number = same.number;
     blocks = same.blocks;
+    spaces = same.spaces;
+    vpages = same.vpages;
     page_size = same.page_size;
     placement = same.placement;
     unmovable = same.unmovable;
@@ -91,6 +97,8 @@ module _ (z w : ZoneState) (same : IsSame z w) where
     with_books placement unmovable marked handed_out contents = record {
       number = same.number;
       blocks = same.blocks;
+      spaces = same.spaces;
+      vpages = same.vpages;
       page_size = same.page_size;
       placement = placement;
       unmovable = unmovable;

@@ -28,6 +28,8 @@ without_ends (entry ∷ older) = entry ∷ without_ends older
 pub record Outcome : Type 0 where
   pub number : ℕ
   pub blocks : ℕ
+  pub spaces : ℕ
+  pub vpages : ℕ
   pub page_size : ℕ
   pub records : List Record
   -- the places that the journal has left once each move has its end
@@ -48,6 +50,8 @@ abbrev pub outcome_of : ZoneState → Outcome
 outcome_of z = record {
   number = z.number;
   blocks = z.blocks;
+  spaces = z.spaces;
+  vpages = z.vpages;
   page_size = z.page_size;
   records = without_ends z.records;
   room = z.room - length (out z.records);
@@ -67,6 +71,8 @@ outcome_of z = record {
 pub record IsSame (z w : ZoneState) : Type 0 where
   pub number : z.number ≡ w.number
   pub blocks : z.blocks ≡ w.blocks
+  pub spaces : z.spaces ≡ w.spaces
+  pub vpages : z.vpages ≡ w.vpages
   pub page_size : z.page_size ≡ w.page_size
   -- each page stands where it stands in the other, or is moving alike
   pub placement : z.placement ≡ w.placement

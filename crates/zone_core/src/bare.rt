@@ -6,7 +6,7 @@ ghost use Rattle.state_core.specs.Clear.{BlocksAreApart, BlocksAreClear};
 ghost use Rattle.state_core.specs.Valid.{IsValidZone};
 ghost use Rattle.state_core.specs.Looking.{look_of, info_of};
 ghost use Rattle.state_core.specs.Marking.{marked_of};
-ghost use Rattle.state_core.specs.Opening.{IsOpenable, IsSize, opened_unrecorded, opened_with};
+ghost use Rattle.state_core.specs.Opening.{IsAllowed, IsOpenable, IsSize, opened_sized, opened_unrecorded, opened_with, places_of, size_of};
 ghost use Rattle.state_core.specs.Packed.{IsPacked, IsPlacement, unmarked_free, marked_whole, free_runs, left_whole, left_runs, places_now};
 ghost use Rattle.state_core.specs.Swept.{IsSwept};
 ghost use Rattle.state_core.specs.ZoneState.{frame_count, noted, keeps_quiet, is_quiet};
@@ -24,7 +24,7 @@ mod words;
 
 use frame_core::{Address, BlockNo, Journal, ZoneNo};
 pub use one_thread::Slice;
-use state_core::{Info, Look, ZoneError};
+use state_core::{Info, Look, ZoneError, ZoneSize};
 use std::alloc::Global;
 use std::marker::Model;
 use zone_tables::ZoneTables;
@@ -59,11 +59,11 @@ impl<const W: usize> Model for BareZone<W> {
     ghost invariant = { λ z. IsValidZone z.tables.value };
 }
 
-/// The pageblocks of the largest zone: 2^24 frames.
-const MOST_BLOCKS: u32 = 32768;
+/// The places of the longest journal that is kept.
+const MOST_PLACES: u32 = 65536;
 
 impl<const W: usize> BareZone<W> {
-    /// An empty zone with this many pageblocks and this many places in its journal.
+    /// An empty zone with this many pageblocks and this many places in its journal, and with 8 address spaces of 4,096 virtual pages.
     ///
     /// Refused as Range unless there are 1 to 8 pageblocks and 1 to 65,536 places, else as Memory where there isn't enough.
     pub fn open(
@@ -78,16 +78,14 @@ impl<const W: usize> BareZone<W> {
         ensures zone { IfOk result (λ zone. zone ≡ opened_with W number blocks places) }
         ensures valid { IfOk result (λ zone. IsValidZone zone) }
     {
-        if blocks < 1 || blocks > 8 || places < 1 || places > 65536 {
+        if blocks > 8 {
             return Err(ZoneError::Range);
         }
-        let tables = ZoneTables::open(alloc, number, blocks, places)?;
-        let tables = boxed(alloc, tables)?;
-        Ok(BareZone { tables })
+        Self::open_sized(alloc, number, ZoneSize::of_blocks(blocks), Some(places))
     }
 
-    /// An empty zone of any size whose journal is unrecorded, as `open` gives one whose journal is kept. The records exist in the proofs alone, and
-    /// there is room for 2^53. A zone isolates at most 2^32 - 1 pages in its life.
+    /// An empty zone whose journal is unrecorded, with this many pageblocks and with 8 address spaces of 4,096 virtual pages. The records
+    /// exist in the proofs alone, and there is room for 2^53. A zone isolates at most 2^32 - 1 pages in its life.
     ///
     /// Refused as Range unless there are 1 to 32,768 pageblocks, else as Memory where there isn't enough.
     pub fn open_unrecorded(
@@ -101,10 +99,30 @@ impl<const W: usize> BareZone<W> {
         ensures zone { IfOk result (λ zone. zone ≡ opened_unrecorded W number blocks) }
         ensures valid { IfOk result (λ zone. IsValidZone zone) }
     {
-        if blocks < 1 || blocks > MOST_BLOCKS {
+        Self::open_sized(alloc, number, ZoneSize::of_blocks(blocks), None)
+    }
+
+    /// An empty zone of any size, whose journal keeps its records in so many places, or is unrecorded where that is none. The tables of
+    /// the addresses take 8 bytes for each, whether or not it is ever mapped.
+    ///
+    /// Refused as Range unless each number of the size is in its range and there are 1 to 65,536 places, else as Memory where there isn't
+    /// enough.
+    pub fn open_sized(
+        alloc: Global,
+        number: ZoneNo,
+        size: ZoneSize,
+        places: Option<u32>,
+    ) -> Result<BareZone<W>, ZoneError>
+        requires words { W ≤ 65536 }
+        ensures range { ¬ (IsAllowed size places) → result ≡ Err ZoneError.Range }
+        ensures memory { IsAllowed size places → IfErr result (λ error. error ≡ ZoneError.Memory) }
+        ensures zone { IfOk result (λ zone. zone ≡ opened_sized W number size (places_of places)) }
+        ensures valid { IfOk result (λ zone. IsValidZone zone) }
+    {
+        if !size.is_valid() || places.is_some_and(|count| count < 1 || count > MOST_PLACES) {
             return Err(ZoneError::Range);
         }
-        let tables = ZoneTables::open_unrecorded(alloc, number, blocks)?;
+        let tables = ZoneTables::open(alloc, number, size, places)?;
         let tables = boxed(alloc, tables)?;
         Ok(BareZone { tables })
     }
@@ -165,6 +183,13 @@ impl<const W: usize> BareZone<W> {
         ensures valid { IsValidZone self.now }
     {
         self.tables.blocks()
+    }
+
+    /// How large the zone is: its pageblocks, its address spaces and the virtual pages of each.
+    pub fn size(&self) -> ZoneSize
+        ensures { result ≡ size_of self.now }
+    {
+        self.tables.size()
     }
 
     /// The counts of the zone.

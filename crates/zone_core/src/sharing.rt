@@ -16,7 +16,8 @@ use std::sync::ledger::Ledger;
 impl<const W: usize, I: Ledger, M: Ledger, B: Ledger> Zone<W, I, M, B> {
     /// Makes an alias name the page of an address too. A page has at most 4 addresses.
     ///
-    /// Refused as JournalFull, as Unmapped or Moving for the address, as Occupied for the alias, or as ShareFull.
+    /// Refused as Range where the zone has no such alias, as JournalFull, as Unmapped or Moving for the address, as Occupied for the alias, or as
+    /// ShareFull.
     pub fn share(
         &mut self,
         client: ClientNo,

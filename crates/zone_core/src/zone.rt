@@ -10,7 +10,8 @@ ghost use Rattle.zone_core.specs.Seats.{fresh_scan_seat, fresh_end_seat};
 ghost use Rattle.state_core.specs.Packed.{IsPacked, IsPlacement, unmarked_free, marked_whole, free_runs, left_whole, left_runs, places_now};
 ghost use Rattle.state_core.specs.Pairs.{HaveMet};
 ghost use Rattle.state_core.specs.Swept.{IsSwept};
-ghost use Rattle.state_core.specs.Opening.{IsOpenable, IsSize, opened_unrecorded, opened_with};
+ghost use Rattle.state_core.specs.Opening.{IsAllowed, IsOpenable, IsSize, opened_sized, opened_unrecorded, opened_with, places_of, size_of};
+ghost use Rattle.state_core.specs.declared.size.ZoneSize.{ZoneSize as Size};
 ghost use Rattle.std.specs.Result.{result_err};
 ghost use Rattle.state_core.specs.Mapping.{map_refusal, map_at_refusal, mapped};
 ghost use Rattle.state_core.specs.Access.{access_refusal, value_at, loaded, stored};
@@ -20,7 +21,7 @@ ghost use Rattle.state_core.specs.ZoneState.{frame_count, lowest_free_frame, not
 use crate::bare::BareZone;
 use crate::seats::{Blanks, EndSeat, ScanSeat};
 use frame_core::{Address, ClientNo, FrameNo, Journal, PageFlags, WordOf, ZoneNo};
-use state_core::{Info, Look, ZoneError};
+use state_core::{Info, Look, ZoneError, ZoneSize};
 use std::alloc::Global;
 use std::marker::Model;
 use std::sync::ledger::{Book, Ledger};
@@ -31,8 +32,8 @@ use std::sync::ledger::{Book, Ledger};
 /// Each call says what it may be refused as, in the order of the tests. A refused call leaves the zone as it was. JournalFull
 /// means that the journal has no more places left than pages are moving, since the end of each move needs a place.
 ///
-/// A zone is opened in one of two kinds, and every clause is for both. `open` keeps each record of the journal, in 65,536 places at
-/// most. `open_unrecorded` keeps none of them: they exist in the proofs alone, and there is room for 2^53.
+/// A zone's journal is of one of two kinds, and every clause is for both. A journal that is kept has each record, in 65,536 places at
+/// most. One that is unrecorded keeps none of them: they exist in the proofs alone, and there is room for 2^53.
 pub struct Zone<const W: usize, I: Ledger, M: Ledger, B: Ledger> {
     pub(crate) bare: BareZone<W>,
     pub(crate) isolated: Book<I>,
@@ -115,12 +116,35 @@ impl<const W: usize, I: Ledger, M: Ledger, B: Ledger> Zone<W, I, M, B> {
         Ok(Self::seated(bare, blanks))
     }
 
+    /// An empty zone of any size, and its two seats. Its journal keeps its records in so many places, or is unrecorded where that is none.
+    ///
+    /// Refused as `BareZone::open_sized` is.
+    pub fn open_sized<N: Ledger>(
+        alloc: Global,
+        number: ZoneNo,
+        size: ZoneSize,
+        places: Option<u32>,
+        blanks: Blanks,
+    ) -> Result<(Zone<W, I, M, B>, ScanSeat<I, N>, EndSeat<M, B>), ZoneError>
+        requires blanks { AreFor blanks I.name I.parts N.name N.parts M.name M.parts B.name B.parts }
+        requires words { W ≤ 65536 }
+        ensures range { ¬ (IsAllowed size places) → result ≡ Err ZoneError.Range }
+        ensures memory { IsAllowed size places → IfErr result (λ error. error ≡ ZoneError.Memory) }
+        ensures zone { IfOk result (λ opening. opening.0 ≡ opened_sized W number size (places_of places)) }
+        ensures scan { IfOk result (λ opening. opening.1 ≡ fresh_scan_seat) }
+        ensures ends { IfOk result (λ opening. opening.2 ≡ fresh_end_seat) }
+        ensures valid { IfOk result (λ opening. IsValidZone opening.0) }
+    {
+        let bare = BareZone::open_sized(alloc, number, size, places)?;
+        Ok(Self::seated(bare, blanks))
+    }
+
     /// The zone with its ledgers and seats.
     fn seated<N: Ledger>(
         bare: BareZone<W>,
         blanks: Blanks,
     ) -> (Zone<W, I, M, B>, ScanSeat<I, N>, EndSeat<M, B>)
-        requires fresh { (number blocks places : ℕ) × (bare ≡ opened_with W number blocks places) }
+        requires fresh { (number : ℕ) × (size : Size) × (places : ℕ) × (bare ≡ opened_sized W number size places) }
         requires valid { IsValidZone bare }
         requires blanks { AreFor blanks I.name I.parts N.name N.parts M.name M.parts B.name B.parts }
         ensures zone { result.0 ≡ bare.entry }
@@ -151,7 +175,7 @@ impl<const W: usize, I: Ledger, M: Ledger, B: Ledger> Zone<W, I, M, B> {
     /// Makes an address name a fresh page in the lowest free frame, and answers this frame. The page holds zeros, has no
     /// pin and isn't dirty. It is unmovable where the flags say so. The flags must not have DIRTY.
     ///
-    /// Refused as JournalFull, Occupied or NoFrame.
+    /// Refused as Range where the zone has no such address, as JournalFull, Occupied or NoFrame.
     pub fn map(
         &mut self,
         client: ClientNo,
@@ -173,7 +197,7 @@ impl<const W: usize, I: Ledger, M: Ledger, B: Ledger> Zone<W, I, M, B> {
 
     /// Makes an address name a fresh page in a given frame, as `map` does in the lowest. The flags must not have DIRTY.
     ///
-    /// Refused as Range where the zone has no such frame, as JournalFull, as Occupied, or as NoFrame where the frame isn't free.
+    /// Refused as Range where the zone has no such address or no such frame, as JournalFull, as Occupied, or as NoFrame where the frame isn't free.
     pub fn map_at(
         &mut self,
         client: ClientNo,
@@ -279,6 +303,13 @@ impl<const W: usize, I: Ledger, M: Ledger, B: Ledger> Zone<W, I, M, B> {
         ensures valid { IsValidZone self.now }
     {
         self.bare.blocks()
+    }
+
+    /// How large the zone is: its pageblocks, its address spaces and the virtual pages of each.
+    pub fn size(&self) -> ZoneSize
+        ensures { result ≡ size_of self.now }
+    {
+        self.bare.size()
     }
 
     /// The counts of the zone.

@@ -3,19 +3,20 @@ use Rattle.std.proofs.Common.{◌≡◌, ◌≢◌, true, false, ◌⊎◌, inl,
 use Rattle.std.specs.FinMap as map
 use Rattle.std.specs.Prelude.{nat_eq, ◌&&◌, Option, Some, None}
 use Rattle.std.proofs.lemmas.Bool.Decides.{eqb_tells}
-use Rattle.frame_core.specs.Address.{InRange}
+use Rattle.frame_core.specs.Address.{InRange, InTable}
 use Rattle.frame_core.specs.declared.place.Address.{Address}
 use Rattle.frame_core.specs.History.{same_address, page_at}
 use Rattle.table_core.specs.declared.entry.Entry.{Entry}
 use Rattle.table_core.specs.declared.size.Size.{Size}
-use Rattle.table_core.specs.Tables.{EntryTable, InTable, entry_at, ChangesOnly}
-use Rattle.state_core.specs.ZoneState.{ZoneState, placement_at}
-use Rattle.zone_tables.specs.Fits.{size_of_zone, entry_for, EntriesFit}
+use Rattle.table_core.specs.Tables.{EntryTable, entry_at, ChangesOnly}
+use Rattle.state_core.specs.ZoneState.{ZoneState, has_address, placement_at}
+use Rattle.state_core.proofs.Facts.{in_table}
+use Rattle.zone_tables.specs.Fits.{table_size, entry_for, EntriesFit}
 use Rattle.std.specs.Option.{option_and_then}
 
--- an address in range is in the tables of a zone
-pub in_tables : (entries : EntryTable) → entries.size ≡ size_of_zone → (a : Address) → InRange a → InTable entries.size.spaces entries.size.pages a
-in_tables entries size a range = subst (λ (s : Size). InTable s.spaces s.pages a) (sym size) (record { space = range.space; vpage = range.vpage })
+-- an address of a zone is in its tables
+pub in_tables : (v : ZoneState) (entries : EntryTable) → entries.size ≡ table_size v → (a : Address) → has_address v a ≡ true → InTable entries.size.spaces entries.size.pages a
+in_tables v entries size a known = subst (λ (s : Size). InTable s.spaces s.pages a) (sym size) (in_table v a known)
 
 pub entries_changed : (v w : ZoneState) (old new : EntryTable) (address : Address) (entry : Entry) → EntriesFit old v → ChangesOnly old new address entry → ((a : Address) → same_address a address ≡ true → entry ≡ entry_for (placement_at w a)) → ((a : Address) → same_address a address ≡ false → placement_at w a ≡ placement_at v a) → EntriesFit new w
 entries_changed v w old new address entry fit changes here there = record { each = λ b range. by_place b range (eqb_tells b.space address.space) (eqb_tells b.vpage address.vpage) } where

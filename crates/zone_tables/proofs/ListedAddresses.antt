@@ -1,12 +1,13 @@
 -- Which addresses are listed under a frame, by the pages that they name.
-use Rattle.std.proofs.Common.{◌≡◌, ◌≢◌, ◌<◌, ℕ, Bool, true, false, inl, inr, refl, sym, ap, ◌∙◌, arith}
+use Rattle.std.proofs.Common.{◌≡◌, ◌≢◌, ◌<◌, ℕ, Bool, true, false, inl, inr, refl, sym, ap, subst, ◌∙◌, arith}
 use Rattle.std.specs.Prelude.{Option, Some, None}
 use Rattle.std.specs.FinMap as map
 use Rattle.std.specs.Option.{option_and_then}
 use Rattle.std.proofs.lemmas.Bool.{eq-eqb, or_left, or_right, false_from_ne_true, eqb-true}
 use Rattle.std.proofs.lemmas.Bool.Decides.{eqb_tells}
+use Rattle.frame_core.proofs.Bounds.{pairs_within}
 use Rattle.frame_core.proofs.Searches.{pairs_same_below, pairs_none, some_none}
-use Rattle.frame_core.specs.Address.{InRange}
+use Rattle.frame_core.specs.Address.{InRange, InTable}
 use Rattle.frame_core.specs.Below.{count_pairs}
 use Rattle.frame_core.specs.declared.place.Address.{Address}
 use Rattle.frame_core.proofs.OnTheWay.{out_below}
@@ -20,10 +21,15 @@ use Rattle.state_core.specs.declared.placement.Placement.{Placement}
 use Rattle.state_core.specs.declared.placement.Placement.TheVariants.{At, Moving}
 use Rattle.state_core.specs.Valid.{IsValidZone, is_under}
 use Rattle.state_core.specs.ZoneState.{ZoneState, frame_count, placement_at, takes_up, is_used}
-use Rattle.state_core.proofs.Facts.{page_named, not_none}
+use Rattle.state_core.proofs.Facts.{in_range, page_named, not_none}
 use Rattle.state_core.proofs.Placed.{untrue}
-use Rattle.zone_tables.specs.Fits.{size_of_zone, entry_for, EntriesFit}
+use Rattle.zone_tables.specs.Fits.{table_size, entry_for, EntriesFit}
 use Rattle.zone_tables.proofs.Tables.{migration_is}
+
+-- an address that names a page by a test names it
+pub page_is : (o : Option ℕ) (page : ℕ) → is_page o page ≡ true → o ≡ Some page
+page_is None page e = cc
+page_is (Some named) page e = ap Some (eqb-true named page e)
 
 -- a page whose entry is listed under a frame takes it up
 takes_listed : (p : Placement) (frame : ℕ) → is_listed (entry_for (Some p)) frame ≡ true → takes_up (Some p) frame ≡ true
@@ -66,13 +72,13 @@ module _ (entries : EntryTable) (v : ZoneState) (fit : EntriesFit entries v) (la
       untrue _ (some_none (λ page. takes_up (map.get v.placement page) frame) (frame_count v) unused by.page (law.pages.numbered by.page (not_none _ by.placement by.at))) by.takes))
 
   -- an address of the tables is in range
-  in_range : entries.size ≡ size_of_zone → (a : Address) → a.space < entries.size.spaces → a.vpage < entries.size.pages → InRange a
-  in_range size a h l = record { space = omega (arith, h, ap (λ (s : Size). s.spaces) size); vpage = omega (arith, l, ap (λ (s : Size). s.pages) size) }
+  listed_range : entries.size ≡ table_size v → (a : Address) → a.space < entries.size.spaces → a.vpage < entries.size.pages → InRange a
+  listed_range size a h l = in_range v law a (subst (λ (s : Size). InTable s.spaces s.pages a) size (record { space = h; vpage = l }))
 
-  pub count_none : entries.size ≡ size_of_zone → (frame : ℕ) → is_used v frame ≡ false → count_listed entries frame ≡ 0
+  pub count_none : entries.size ≡ table_size v → (frame : ℕ) → is_used v frame ≡ false → count_listed entries frame ≡ 0
   count_none size frame unused =
       pairs_same_below _ (λ space vpage. false) entries.size.spaces entries.size.pages
-      (λ space vpage h l. (let a : Address = record { space = space; vpage = vpage } in none_listed frame unused a (in_range size a h l)))
+      (λ space vpage h l. (let a : Address = record { space = space; vpage = vpage } in none_listed frame unused a (listed_range size a h l)))
       ∙ pairs_none (λ space vpage. false) entries.size.spaces entries.size.pages (λ i j. refl)
 
   -- exactly the addresses that name a page are listed under its frame
@@ -90,11 +96,14 @@ module _ (entries : EntryTable) (v : ZoneState) (fit : EntriesFit entries v) (la
       | inr other ↦ sym (ap (λ (p : Option ℕ). is_page p page) is ∙ other.0)
     ]
 
-  pub count_names : entries.size ≡ size_of_zone → (page frame : ℕ) → map.get v.placement page ≡ Some (At frame) → count_listed entries frame ≡ maps v.records page
+  pub count_names : entries.size ≡ table_size v → (page frame : ℕ) → map.get v.placement page ≡ Some (At frame) → count_listed entries frame ≡ maps v.records page
   count_names size page frame at =
       pairs_same_below _ (λ space vpage. names v.records (record { space = space; vpage = vpage }) page) entries.size.spaces entries.size.pages
-      (λ space vpage h l. (let a : Address = record { space = space; vpage = vpage } in listed_names page frame at a (in_range size a h l)))
+      (λ space vpage h l. (let a : Address = record { space = space; vpage = vpage } in listed_names page frame at a (listed_range size a h l)))
       ∙ ap (λ (s : Size). count_pairs (λ space vpage. names v.records (record { space = space; vpage = vpage }) page) s.spaces s.pages) size
+      ∙ sym (pairs_within (λ space vpage. names v.records (record { space = space; vpage = vpage }) page) v.spaces v.vpages 256 16777216 law.addresses.0 law.addresses.1 (λ i j e.
+          (let a : Address = record { space = i; vpage = j } in
+          let inside = (law.agrees.named a page (page_is (page_at v.records a) page e)).0 in (inside.space, inside.vpage))))
 
   -- no entry has the serial that is given next
   pub fresh_serial : (a : Address) (source : ℕ) → InRange a → entry_at entries a ≢ Migration (isolated v.records) source

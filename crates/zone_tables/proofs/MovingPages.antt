@@ -23,24 +23,20 @@ use Rattle.zone_tables.specs.Notes.{placement_of}
 use Rattle.zone_tables.specs.Sound.{state_of, IsSound}
 use Rattle.zone_tables.specs.declared.zone.ZoneTables.TheInside.{Inside}
 
-page_is : (o : Option ℕ) (page : ℕ) → is_page o page ≡ true → o ≡ Some page
-page_is None page e = cc
-page_is (Some named) page e = ap Some (eqb-true named page e)
-
 -- some address names a page in use
 pub has_name : (v : ZoneState) → IsValidZone v → (page : ℕ) (placement : Placement) → map.get v.placement page ≡ Some placement → ((a : Address) → page_at v.records a ≡ Some page → ⊥) → ⊥
 has_name v valid page placement at none =
-    let unnamed = λ (i j : ℕ) (h : i < 8) (l : j < 4096). let a : Address = record { space = i; vpage = j } in
+    let unnamed = λ (i j : ℕ) (h : i < 256) (l : j < 16777216). let a : Address = record { space = i; vpage = j } in
     false_from_ne_true (names v.records a page) (λ is. none a (page_is (page_at v.records a) page is)) in
-    let few : maps v.records page ≡ 0 = pairs_same_below (λ space vpage. names v.records (record { space = space; vpage = vpage }) page) (λ i j. false) 8 4096 unnamed
-    ∙ pairs_none (λ i j. false) 8 4096 (λ i j. refl) in
+    let few : maps v.records page ≡ 0 = pairs_same_below (λ space vpage. names v.records (record { space = space; vpage = vpage }) page) (λ i j. false) 256 16777216 unnamed
+    ∙ pairs_none (λ i j. false) 256 16777216 (λ i j. refl) in
     let some = (valid.agrees.in_use page (not_none (map.get v.placement page) placement at)).0 in omega (arith, few, some)
 
 module _ (v : ZoneState) (valid : IsValidZone v) (entries : EntryTable) (fit : EntriesFit entries v) (page serial source target : ℕ) (at : map.get v.placement page ≡ Some (Moving serial source target)) where
   -- the addresses of a moving page have the entry of its move, and no other address has
   pub entered : (a : Address) → page_at v.records a ≡ Some page → InRange a × (entry_at entries a ≡ Migration serial source)
   entered a is =
-      let range = (valid.agrees.named a page is).0 in
+      let range = named_in_range v valid a page is in
       (range, fit.each a range ∙ ap entry_for (ap (option_and_then (map.get v.placement)) is ∙ at))
 
   pub of_entry : (a : Address) → InRange a → entry_at entries a ≡ Migration serial source → page_at v.records a ≡ Some page

@@ -17,9 +17,10 @@ use Rattle.zone_tables.proofs.Copies.{no_placement, all_false, all_movable, no_o
 use Rattle.zone_tables.specs.declared.zone.ZoneTables.TheInside.{Inside}
 use Rattle.state_core.specs.declared.placement.Placement.{Placement}
 use Rattle.state_core.specs.declared.placement.Placement.TheVariants.{At, Moving}
-use Rattle.state_core.specs.Opening.{opened_with, IsSize}
+use Rattle.state_core.specs.declared.size.ZoneSize.{ZoneSize}
+use Rattle.state_core.specs.Opening.{opened_sized, IsZoneSize}
 use Rattle.frame_core.specs.Journal.{unrecorded_places}
-use Rattle.zone_tables.specs.Fits.{state_by, size_of_zone}
+use Rattle.zone_tables.specs.Fits.{state_by}
 use Rattle.zone_tables.specs.Sound.{state_of, IsSound}
 use Rattle.scan_core.specs.Frames.{Frames, all_free, true_at}
 use Rattle.zone_tables.specs.Contents.{words_held, contents_at}
@@ -32,40 +33,42 @@ use Rattle.state_core.proofs.Opened.{unheld, opened_valid}
 use Rattle.state_core.proofs.Placed.{clash}
 
 -- the fields of a zone that was just opened
-pub record IsFresh {W : ℕ} (z : Inside W) (number blocks places : ℕ) : Type 0 where
-  pub size : IsSize blocks
+pub record IsFresh {W : ℕ} (z : Inside W) (number : ℕ) (size : ZoneSize) (places : ℕ) : Type 0 where
+  pub allowed : IsZoneSize size
   pub few : places ≤ unrecorded_places
   pub number_is : z.number ≡ number
-  pub blocks_is : z.blocks ≡ blocks
-  pub frames : z.frames ≡ all_free blocks
+  pub size_is : z.size ≡ size
+  pub frames : z.frames ≡ all_free size.blocks
   pub tables : IsBlank z.tables.entries
-  pub tables_frames : z.tables.frames ≡ 512 * blocks
-  pub tables_size : z.tables.entries.size ≡ size_of_zone
-  pub words : z.words ≡ replicate (512 * blocks) (blank_words W)
-  pub notes : z.notes ≡ replicate (512 * blocks) unused_note
-  pub handed_out : z.handed_out ≡ replicate (512 * blocks) None
-  pub cleared : z.cleared ≡ replicate (512 * blocks) false
-  pub marked : z.marked.items ≡ replicate blocks false
+  pub tables_frames : z.tables.frames ≡ 512 * size.blocks
+  pub tables_size : z.tables.entries.size ≡ record { spaces = size.spaces; pages = size.vpages }
+  pub words : z.words ≡ replicate (512 * size.blocks) (blank_words W)
+  pub notes : z.notes ≡ replicate (512 * size.blocks) unused_note
+  pub handed_out : z.handed_out ≡ replicate (512 * size.blocks) None
+  pub cleared : z.cleared ≡ replicate (512 * size.blocks) false
+  pub marked : z.marked.items ≡ replicate size.blocks false
   pub fingers : z.fingers ≡ record { migrate = 0; free = 0 }
-  pub moves : z.moves ≡ record { pages = replicate (512 * blocks) 0; isolated = 0; moved = 0; back = 0 }
+  pub moves : z.moves ≡ record { pages = replicate (512 * size.blocks) 0; isolated = 0; moved = 0; back = 0 }
   pub history : z.history ≡ record { records = []; room = places; round = None }
 
-pub opened_view : {W : ℕ} (z : Inside W) (number blocks places : ℕ) → IsFresh z number blocks places → state_of z ≡ opened_with W number blocks places
-opened_view {W} z number blocks places fresh =
+pub opened_view : {W : ℕ} (z : Inside W) (number : ℕ) (size : ZoneSize) (places : ℕ) → IsFresh z number size places → state_of z ≡ opened_sized W number size places
+opened_view {W} z number size places fresh =
     let u : gathered (is_unmovable_of z.notes) (length z.notes) ≡ set.empty =
-    gathered_none (is_unmovable_of z.notes) (length z.notes) (λ page. ap (λ (ns : List PageNote). is_unmovable_of ns page) fresh.notes ∙ all_movable (512 * blocks) page) in
+    gathered_none (is_unmovable_of z.notes) (length z.notes) (λ page. ap (λ (ns : List PageNote). is_unmovable_of ns page) fresh.notes ∙ all_movable (512 * size.blocks) page) in
     let m : gathered (true_at z.marked.items) (length z.marked.items) ≡ set.empty =
-    gathered_none (true_at z.marked.items) (length z.marked.items) (λ block. ap (λ (bs : List Bool). true_at bs block) fresh.marked ∙ all_false blocks block) in
+    gathered_none (true_at z.marked.items) (length z.marked.items) (λ block. ap (λ (bs : List Bool). true_at bs block) fresh.marked ∙ all_false size.blocks block) in
     let h : tabulated (order_of z.handed_out) (length z.handed_out) ≡ map.empty =
-    tabulated_none (order_of z.handed_out) (length z.handed_out) (λ first. ap (λ (os : List (Option ℕ)). order_of os first) fresh.handed_out ∙ no_order (512 * blocks) first) in
+    tabulated_none (order_of z.handed_out) (length z.handed_out) (λ first. ap (λ (os : List (Option ℕ)). order_of os first) fresh.handed_out ∙ no_order (512 * size.blocks) first) in
     let c : tabulated (contents_at W z.words z.cleared z.handed_out) (length z.handed_out) ≡ map.empty =
     tabulated_none (contents_at W z.words z.cleared z.handed_out) (length z.handed_out)
-    (λ first. ap (option_map (words_held W z.words (true_at z.cleared first) first)) (ap (λ (os : List (Option ℕ)). order_of os first) fresh.handed_out ∙ no_order (512 * blocks) first)) in
+    (λ first. ap (option_map (words_held W z.words (true_at z.cleared first) first)) (ap (λ (os : List (Option ℕ)). order_of os first) fresh.handed_out ∙ no_order (512 * size.blocks) first)) in
     let p : tabulated (placement_of z.notes) (length z.notes) ≡ map.empty =
-    tabulated_none (placement_of z.notes) (length z.notes) (λ page. ap (λ (ns : List PageNote). placement_of ns page) fresh.notes ∙ no_placement (512 * blocks) page) in
+    tabulated_none (placement_of z.notes) (length z.notes) (λ page. ap (λ (ns : List PageNote). placement_of ns page) fresh.notes ∙ no_placement (512 * size.blocks) page) in
     λ i. record {
       number = fresh.number_is i;
-      blocks = fresh.blocks_is i;
+      blocks = (fresh.size_is i).blocks;
+      spaces = (fresh.size_is i).spaces;
+      vpages = (fresh.size_is i).vpages;
       page_size = W;
       records = (fresh.history i).records;
       room = (fresh.history i).room;
@@ -82,37 +85,37 @@ opened_view {W} z number blocks places fresh =
 some_eight : (size : ℕ) (rows : List (List ℕ)) (frame : ℕ) → slice_get rows frame ≡ Some (blank_words size) → length (words_of rows frame) ≡ size
 some_eight size rows frame e = ap (λ (o : Option (List ℕ)). length (unwrap_or o [])) e ∙ length-replicate size 0
 
-pub opened_sound : {W : ℕ} (z : Inside W) (number blocks places : ℕ) → IsFresh z number blocks places → IsSound z (opened_with W number blocks places)
-opened_sound {W} z number blocks places fresh = record {
-  valid = opened_valid W number blocks places fresh.size fresh.few;
-  orders = ap length fresh.handed_out ∙ length-replicate (512 * blocks) None;
-  cleared = ap length fresh.cleared ∙ length-replicate (512 * blocks) false;
-  marks = ap length fresh.marked ∙ length-replicate blocks false;
+pub opened_sound : {W : ℕ} (z : Inside W) (number : ℕ) (size : ZoneSize) (places : ℕ) → IsFresh z number size places → IsSound z (opened_sized W number size places)
+opened_sound {W} z number size places fresh = record {
+  valid = opened_valid W number size places fresh.allowed fresh.few;
+  orders = ap length fresh.handed_out ∙ length-replicate (512 * size.blocks) None;
+  cleared = ap length fresh.cleared ∙ length-replicate (512 * size.blocks) false;
+  marks = ap length fresh.marked ∙ length-replicate size.blocks false;
   tables = fresh.tables_frames;
   size = fresh.tables_size;
   frames = record {
-    count = ap (λ (fs : Frames). length fs.states) fresh.frames ∙ length-replicate (512 * blocks) Free;
+    count = ap (λ (fs : Frames). length fs.states) fresh.frames ∙ length-replicate (512 * size.blocks) Free;
     of_page = λ page frame state e. (let bad : None ≡ Some state = sym (ap (λ (o : Option Placement). state_by page o frame) (map.get-empty nat_cmp page)) ∙ e in cc);
-    of_block = λ frame h held. (let bad : false ≡ true = sym (unheld W number blocks places frame) ∙ held in cc);
-    of_none = λ frame h free. ap (λ (fs : Frames). slice_get fs.states frame) fresh.frames ∙ slice_get_replicate (512 * blocks) frame Free h;
+    of_block = λ frame h held. (let bad : false ≡ true = sym (unheld W number size places frame) ∙ held in cc);
+    of_none = λ frame h free. ap (λ (fs : Frames). slice_get fs.states frame) fresh.frames ∙ slice_get_replicate (512 * size.blocks) frame Free h;
   };
   entries = record { each = λ address range. fresh.tables address };
   words = record {
-    count = ap length fresh.words ∙ length-replicate (512 * blocks) (blank_words W);
-    sized = λ frame h. some_eight W z.words frame (ap (λ (rows : List (List ℕ)). slice_get rows frame) fresh.words ∙ slice_get_replicate (512 * blocks) frame (blank_words W) h);
+    count = ap length fresh.words ∙ length-replicate (512 * size.blocks) (blank_words W);
+    sized = λ frame h. some_eight W z.words frame (ap (λ (rows : List (List ℕ)). slice_get rows frame) fresh.words ∙ slice_get_replicate (512 * size.blocks) frame (blank_words W) h);
     each = λ page placement word e h. (let bad : None ≡ Some placement = sym (map.get-empty nat_cmp page) ∙ e in cc);
   };
   notes = record {
-    count = ap length fresh.notes ∙ length-replicate (512 * blocks) unused_note;
-    each = λ page note e used. absurd (clash note.placement (sym (ap (option_and_then (λ (n : PageNote). n.placement)) e) ∙ ap (λ (ns : List PageNote). placement_of ns page) fresh.notes ∙ no_placement (512 * blocks) page) used);
+    count = ap length fresh.notes ∙ length-replicate (512 * size.blocks) unused_note;
+    each = λ page note e used. absurd (clash note.placement (sym (ap (option_and_then (λ (n : PageNote). n.placement)) e) ∙ ap (λ (ns : List PageNote). placement_of ns page) fresh.notes ∙ no_placement (512 * size.blocks) page) used);
   };
   moves = record { isolated = ap (λ (m : Moves). m.isolated) fresh.moves; moved = ap (λ (m : Moves). m.moved) fresh.moves; back = ap (λ (m : Moves). m.back) fresh.moves };
   sources = record {
-    count = ap (λ (m : Moves). length m.pages) fresh.moves ∙ length-replicate (512 * blocks) 0;
+    count = ap (λ (m : Moves). length m.pages) fresh.moves ∙ length-replicate (512 * size.blocks) 0;
     each = λ page serial source target e. (let bad : None ≡ Some (Moving serial source target) = sym (map.get-empty nat_cmp page) ∙ e in cc);
   };
   movable = record {
-    count = ap (λ (fs : Frames). length fs.movable) fresh.frames ∙ length-replicate (512 * blocks) false;
+    count = ap (λ (fs : Frames). length fs.movable) fresh.frames ∙ length-replicate (512 * size.blocks) false;
     each = λ page frame e. (let bad : None ≡ Some (At frame) = sym (map.get-empty nat_cmp page) ∙ e in cc);
   };
 }

@@ -220,7 +220,9 @@ module _ {W : ℕ} {z changed : Inside W} {v : ZoneState} {page : ℕ} {old new 
       let here : state_of changed ≡ record (relocated (state_of z) entry page new) { migrate = migrate; free = free } =
       λ i. record {
         number = (known.rest_same i).number;
-        blocks = (known.rest_same i).blocks;
+        blocks = (known.rest_same i).size.blocks;
+        spaces = (known.rest_same i).size.spaces;
+        vpages = (known.rest_same i).size.vpages;
         page_size = W;
         records = (known.history i).records;
         room = (known.history i).room;

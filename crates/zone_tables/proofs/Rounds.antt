@@ -13,7 +13,7 @@ use Rattle.state_core.proofs.Sweeping.{swept_begun}
 
 -- the fields after a round began
 abbrev pub after_begin : {W : ℕ} → Inside W → RoundStart → Inside W
-after_begin z start = record z { fingers = record { migrate = 0; free = 512 * z.blocks }; history = record z.history { round = Some start } }
+after_begin z start = record z { fingers = record { migrate = 0; free = 512 * z.size.blocks }; history = record z.history { round = Some start } }
 
 pub begun_sound : {W : ℕ} (z : Inside W) (v : ZoneState) → IsSound z v → (start : RoundStart) → start.records ≡ length v.records → start.calm ≡ is_calm v →
     IsSound (after_begin z start) (begun v start)

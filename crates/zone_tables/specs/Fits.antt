@@ -41,9 +41,9 @@ pub record FramesFit (frames : List FrameState) (v : ZoneState) : Type 0 where
   pub of_block : (frame : ℕ) → frame < frame_count v → is_held v frame ≡ true → slice_get frames frame ≡ Some Huge
   pub of_none : (frame : ℕ) → frame < frame_count v → is_free v frame ≡ true → slice_get frames frame ≡ Some Free
 
--- the tables of a zone are for 8 spaces with 4096 virtual pages each
-abbrev pub size_of_zone : Size
-size_of_zone = record { spaces = 8; pages = 4096 }
+-- the size of the tables of a zone: they have all of its addresses
+abbrev pub table_size : ZoneState → Size
+table_size v = record { spaces = v.spaces; pages = v.vpages }
 
 -- each address has the entry that the placement of its page asks for
 pub record EntriesFit (entries : EntryTable) (v : ZoneState) : Type 0 where

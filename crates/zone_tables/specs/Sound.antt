@@ -4,7 +4,7 @@ use Rattle.zone_tables.specs.declared.zone.ZoneTables.TheInside.{Inside}
 use Rattle.state_core.specs.ZoneState.{ZoneState, frame_count}
 use Rattle.state_core.specs.Valid.{IsValidZone}
 use Rattle.zone_tables.specs.Contents.{contents_at}
-use Rattle.zone_tables.specs.Fits.{size_of_zone, FramesFit, EntriesFit, WordsFit, NotesFit, MovesFit, MovableFit, SourcesFit}
+use Rattle.zone_tables.specs.Fits.{table_size, FramesFit, EntriesFit, WordsFit, NotesFit, MovesFit, MovableFit, SourcesFit}
 use Rattle.zone_tables.specs.HandedOut.{order_of}
 use Rattle.zone_tables.specs.Notes.{placement_of, is_unmovable_of}
 use Rattle.scan_core.specs.Frames.{true_at}
@@ -15,7 +15,9 @@ use Rattle.zone_tables.specs.Tabulated.{tabulated}
 abbrev pub state_of : {W : ℕ} → Inside W → ZoneState
 state_of {W} z = record {
   number = z.number;
-  blocks = z.blocks;
+  blocks = z.size.blocks;
+  spaces = z.size.spaces;
+  vpages = z.size.vpages;
   page_size = W;
   records = z.history.records;
   room = z.history.room;
@@ -38,7 +40,7 @@ pub record IsSound {W : ℕ} (z : Inside W) (v : ZoneState) : Type 0 where
   pub frames : FramesFit z.frames.states v
   pub movable : MovableFit z.frames.movable v
   pub tables : z.tables.frames ≡ frame_count v
-  pub size : z.tables.entries.size ≡ size_of_zone
+  pub size : z.tables.entries.size ≡ table_size v
   pub entries : EntriesFit z.tables.entries v
   pub words : WordsFit z.words v
   pub notes : NotesFit z.notes v

@@ -16,7 +16,7 @@ impl<const W: usize> ZoneTables<W> {
     {
         let frames = order.frames();
         let first = first.get();
-        first / frames * frames == first && first + frames <= 512 * self.blocks
+        first / frames * frames == first && first + frames <= 512 * self.size.blocks
     }
 
     /// Whether a block of this order is handed out from this first frame on.

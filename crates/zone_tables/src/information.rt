@@ -3,13 +3,14 @@
 ghost use Rattle.std.specs.Prelude.{◌≡◌, ◌+◌, length};
 ghost use Rattle.state_core.specs.Valid.{IsValidZone};
 ghost use Rattle.state_core.specs.Looking.{info_of};
+ghost use Rattle.state_core.specs.Opening.{size_of};
 ghost use Rattle.state_core.specs.ZoneState.{frame_count};
 ghost use Rattle.zone_tables.specs.Fits.{EntriesFit, FramesFit, MovableFit, WordsFit};
 
 use crate::zone::ZoneTables;
 use frame_core::{Journal, WordsOf, ZoneNo};
 use scan_core::Frames;
-use state_core::Info;
+use state_core::{Info, ZoneSize};
 use table_core::Tables;
 
 impl<const W: usize> ZoneTables<W> {
@@ -47,7 +48,14 @@ impl<const W: usize> ZoneTables<W> {
     pub fn blocks(&self) -> u32
         ensures { result ≡ self.now.blocks }
     {
-        self.blocks
+        self.size.blocks
+    }
+
+    /// How large the zone is.
+    pub fn size(&self) -> ZoneSize
+        ensures { result ≡ size_of self.now }
+    {
+        self.size
     }
 
     /// The journal of the zone.

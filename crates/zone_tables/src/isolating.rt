@@ -125,7 +125,7 @@ impl<const W: usize> ZoneTables<W> {
         // With these fingers a calm zone is swept.
         ensures swept { is_calm self.now ≡ true → IsSwept (record self.now { migrate = result.migrate; free = result.free }) }
     {
-        Fingers::at_ends(512 * self.blocks)
+        Fingers::at_ends(512 * self.size.blocks)
     }
 
     /// Begins a round: sets the fingers to the ends of the zone, and notes the number of records and whether the round is calm.

@@ -4,7 +4,7 @@ ghost use Rattle.std.specs.Prelude.{◌≡◌, ◌<◌, nat_lt, Some, None, IsTr
 ghost use Rattle.frame_core.specs.History.{page_at};
 ghost use Rattle.state_core.specs.Valid.{IsValidZone};
 ghost use Rattle.state_core.specs.Mapping.{mapped};
-ghost use Rattle.state_core.specs.ZoneState.{frame_count, has_room, is_free, lowest_free_frame, lowest_unused_page};
+ghost use Rattle.state_core.specs.ZoneState.{frame_count, has_address, has_room, is_free, lowest_free_frame, lowest_unused_page};
 
 use crate::note::PageNote;
 use crate::zone::ZoneTables;
@@ -22,11 +22,19 @@ impl<const W: usize> ZoneTables<W> {
         }
     }
 
+    /// Whether the zone has an address.
+    #[inline(always)]
+    pub fn has_address(&self, address: &Address) -> bool
+        ensures { result ≡ has_address self.now address.now }
+    {
+        self.size.has_address(address)
+    }
+
     /// Whether the zone has a frame.
     pub fn has_frame(&self, frame: FrameNo) -> bool
         ensures { result ≡ nat_lt frame (frame_count self.now) }
     {
-        frame.get() < 512 * self.blocks
+        frame.get() < 512 * self.size.blocks
     }
 
     /// Whether a frame of the zone is free.
@@ -67,6 +75,7 @@ impl<const W: usize> ZoneTables<W> {
         frame: FrameNo,
     ) -> PageNo
         requires room { IsTrue (has_room self.old) }
+        requires known { IsTrue (has_address self.old address) }
         requires vacant { page_at self.old.records address ≡ None }
         requires free { IsTrue (is_free self.old frame) }
         requires within { frame < frame_count self.old }

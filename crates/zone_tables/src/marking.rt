@@ -14,7 +14,7 @@ impl<const W: usize> ZoneTables<W> {
     pub fn has_pageblock(&self, block: BlockNo) -> bool
         ensures { result ≡ nat_lt block self.now.blocks }
     {
-        block.get() < self.blocks
+        block.get() < self.size.blocks
     }
 
     /// Whether a pageblock is marked.

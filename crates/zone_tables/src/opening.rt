@@ -1,12 +1,11 @@
-ghost use Rattle.std.specs.Prelude.{◌≡◌, ◌<◌, ◌≤◌, ◌*◌, [], None, false, replicate, IfOk, IfErr};
+ghost use Rattle.std.specs.Prelude.{◌≡◌, ◌<◌, ◌≤◌, ◌*◌, [], None, false, replicate, IfOk, IfErr, IfSome};
 ghost use Rattle.frame_core.specs.Journal.{unrecorded_places};
 ghost use Rattle.frame_core.specs.Page.{blank_words};
 ghost use Rattle.scan_core.specs.Frames.{all_free};
 ghost use Rattle.table_core.specs.Tables.{IsBlank};
 ghost use Rattle.zone_tables.specs.Notes.{unused_note};
-ghost use Rattle.zone_tables.specs.Fits.{size_of_zone};
 ghost use Rattle.state_core.specs.Valid.{IsValidZone};
-ghost use Rattle.state_core.specs.Opening.{IsOpenable, IsSize, opened_unrecorded, opened_with};
+ghost use Rattle.state_core.specs.Opening.{HasPlaces, IsZoneSize, opened_sized, places_of};
 
 use crate::cleared::Cleared;
 use crate::handed_out::HandedOut;
@@ -16,66 +15,54 @@ use crate::notes::Notes;
 use crate::zone::ZoneTables;
 use frame_core::{FixedVec, WordsOf, ZoneNo};
 use scan_core::{Fingers, Frames};
-use state_core::ZoneError;
+use state_core::{ZoneError, ZoneSize};
 use std::alloc::{AllocError, Global};
 use table_core::Tables;
 
 impl<const W: usize> ZoneTables<W> {
-    /// An empty zone whose journal keeps its records in this many places, or the error Memory where there isn't enough memory for
-    /// it. No other call takes memory.
+    /// An empty zone of this size whose journal keeps its records in so many places, or is unrecorded where that is none; or the error
+    /// Memory where there isn't enough memory for it. No other call takes memory.
     pub fn open(
         alloc: Global,
         number: ZoneNo,
-        blocks: u32,
-        places: u32,
+        size: ZoneSize,
+        places: Option<u32>,
     ) -> Result<ZoneTables<W>, ZoneError>
-        requires open { IsOpenable blocks places }
-        requires size { W ≤ 65536 }
+        requires open { IsZoneSize size }
+        requires places { IfSome places HasPlaces }
+        requires words { W ≤ 65536 }
         ensures memory { IfErr result (λ error. error ≡ ZoneError.Memory) }
-        ensures ok { IfOk result (λ zone. zone ≡ opened_with W number blocks places) }
+        ensures ok { IfOk result (λ zone. zone ≡ opened_sized W number size (places_of places)) }
         ensures valid { IfOk result (λ zone. IsValidZone zone) }
     {
-        let history = History::open(alloc, places)?;
-        Self::with_history(alloc, number, blocks, history)
-    }
-
-    /// An empty zone whose journal is unrecorded, or the error Memory where there isn't enough memory for it. No other call takes memory.
-    pub fn open_unrecorded(
-        alloc: Global,
-        number: ZoneNo,
-        blocks: u32,
-    ) -> Result<ZoneTables<W>, ZoneError>
-        requires open { IsSize blocks }
-        requires size { W ≤ 65536 }
-        ensures memory { IfErr result (λ error. error ≡ ZoneError.Memory) }
-        ensures ok { IfOk result (λ zone. zone ≡ opened_unrecorded W number blocks) }
-        ensures valid { IfOk result (λ zone. IsValidZone zone) }
-    {
-        Self::with_history(alloc, number, blocks, History::unrecorded())
+        let history = match places {
+            Some(places) => History::open(alloc, places)?,
+            None => History::unrecorded(),
+        };
+        Self::with_history(alloc, number, size, history)
     }
 
     /// An empty zone with a history that has no record yet, or the error Memory where there isn't enough memory for it.
     fn with_history(
         alloc: Global,
         number: ZoneNo,
-        blocks: u32,
+        size: ZoneSize,
         history: History,
     ) -> Result<ZoneTables<W>, ZoneError>
-        requires open { IsSize blocks }
-        requires size { W ≤ 65536 }
+        requires open { IsZoneSize size }
+        requires words { W ≤ 65536 }
         requires none { history ≡ record { records = []; room = history.room; round = None } }
         requires places { history.room ≤ unrecorded_places }
         ensures memory { IfErr result (λ error. error ≡ ZoneError.Memory) }
-        ensures ok { IfOk result (λ zone. zone ≡ opened_with W number blocks history.room) }
+        ensures ok { IfOk result (λ zone. zone ≡ opened_sized W number size history.room) }
         ensures valid { IfOk result (λ zone. IsValidZone zone) }
     {
-        let count = 512 * blocks;
-        let (handed_out, cleared, marked) = open_blocks(alloc, blocks)?;
-        let (notes, moves) = open_notes(alloc, count)?;
-        let (frames, tables, words) = open_memory(alloc, blocks)?;
+        let (handed_out, cleared, marked) = open_blocks(alloc, size.blocks)?;
+        let (notes, moves) = open_notes(alloc, 512 * size.blocks)?;
+        let (frames, tables, words) = open_memory(alloc, size)?;
         Ok(ZoneTables {
             number,
-            blocks,
+            size,
             frames,
             tables,
             words,
@@ -90,27 +77,21 @@ impl<const W: usize> ZoneTables<W> {
     }
 }
 
-/// The address spaces of a zone.
-const SPACES: u32 = 8;
-
-/// The virtual pages of an address space.
-const PAGES: u32 = 4096;
-
 /// The frames, the tables of the addresses and the words of the pages.
 fn open_memory<const W: usize>(
     alloc: Global,
-    blocks: u32,
+    size: ZoneSize,
 ) -> Result<(Frames, Tables, WordsOf<W>), AllocError>
-    requires size { W ≤ 65536 }
-    requires blocks { IsSize blocks }
-    ensures frames { IfOk result (λ memory. memory.0 ≡ all_free blocks) }
-    ensures tables { IfOk result (λ memory. IsBlank memory.1.entries × (memory.1.frames ≡ 512 * blocks)) }
-    ensures size { IfOk result (λ memory. memory.1.entries.size ≡ size_of_zone) }
-    ensures words { IfOk result (λ memory. memory.2 ≡ replicate (512 * blocks) (blank_words W)) }
+    requires words { W ≤ 65536 }
+    requires size { IsZoneSize size }
+    ensures frames { IfOk result (λ memory. memory.0 ≡ all_free size.blocks) }
+    ensures tables { IfOk result (λ memory. IsBlank memory.1.entries × (memory.1.frames ≡ 512 * size.blocks)) }
+    ensures size { IfOk result (λ memory. memory.1.entries.size ≡ record { spaces = size.spaces; pages = size.vpages }) }
+    ensures words { IfOk result (λ memory. memory.2 ≡ replicate (512 * size.blocks) (blank_words W)) }
 {
-    let frames = Frames::open(alloc, blocks)?;
-    let tables = Tables::open(alloc, blocks, SPACES, PAGES)?;
-    let words = WordsOf::open(alloc, 512 * blocks)?;
+    let frames = Frames::open(alloc, size.blocks)?;
+    let tables = Tables::open(alloc, size.blocks, size.spaces, size.vpages)?;
+    let words = WordsOf::open(alloc, 512 * size.blocks)?;
     Ok((frames, tables, words))
 }
 

@@ -4,7 +4,7 @@ ghost use Rattle.std.specs.Prelude.{◌≡◌, ◌<◌, None, Some, IsTrue};
 ghost use Rattle.frame_core.specs.History.{page_at};
 ghost use Rattle.state_core.specs.Valid.{IsValidZone};
 ghost use Rattle.state_core.specs.Sharing.{maps_at, shared};
-ghost use Rattle.state_core.specs.ZoneState.{has_room, placement_at};
+ghost use Rattle.state_core.specs.ZoneState.{has_address, has_room, placement_at};
 ghost use Rattle.state_core.specs.declared.placement.Placement.TheVariants.{At};
 
 use crate::zone::ZoneTables;
@@ -21,6 +21,7 @@ impl<const W: usize> ZoneTables<W> {
         frame: FrameNo,
     )
         requires room { IsTrue (has_room self.old) }
+        requires known { IsTrue (has_address self.old alias) }
         requires named { page_at self.old.records address ≡ Some page }
         requires frame { placement_at self.old address ≡ Some (At frame) }
         requires vacant { page_at self.old.records alias ≡ None }

@@ -7,6 +7,7 @@ use crate::moves::Moves;
 use crate::notes::Notes;
 use frame_core::{FixedVec, WordsOf, ZoneNo};
 use scan_core::{Fingers, Frames};
+use state_core::ZoneSize;
 use std::marker::Model;
 use table_core::Tables;
 
@@ -14,7 +15,7 @@ use table_core::Tables;
 #[derive(Drop)]
 pub struct ZoneTables<const W: usize> {
     pub(crate) number: ZoneNo,
-    pub(crate) blocks: u32,
+    pub(crate) size: ZoneSize,
     pub(crate) frames: Frames,
     pub(crate) tables: Tables,
     pub(crate) words: WordsOf<W>,

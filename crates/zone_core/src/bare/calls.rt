@@ -58,7 +58,7 @@ impl<const W: usize> BareZone<W> {
     /// Makes an address name a fresh page in the lowest free frame, and answers the number of the page and this frame. The page holds
     /// zeros and has no pin.
     ///
-    /// Refused as JournalFull, Occupied or NoFrame.
+    /// Refused as Range where the zone has no such address, as JournalFull, Occupied or NoFrame.
     #[inline(always)]
     pub fn map(
         &mut self,
@@ -70,6 +70,9 @@ impl<const W: usize> BareZone<W> {
         ensures page { IfOk result (λ mapped. lowest_unused_page self.old ≡ Some mapped.0) }
         ensures frame { IfOk result (λ mapped. lowest_free_frame self.old ≡ Some mapped.1) }
     {
+        if !self.tables.has_address(&address) {
+            return Err(ZoneError::Range);
+        }
         if !self.tables.has_room() {
             return Err(ZoneError::JournalFull);
         }
@@ -85,7 +88,7 @@ impl<const W: usize> BareZone<W> {
 
     /// Makes an address name a fresh page in a given frame, as `map` does in the lowest, and answers the number of the page.
     ///
-    /// Refused as Range where the zone has no such frame, as JournalFull, as Occupied, or as NoFrame where the frame isn't free.
+    /// Refused as Range where the zone has no such address or no such frame, as JournalFull, as Occupied, or as NoFrame where the frame isn't free.
     #[inline(always)]
     pub fn map_at(
         &mut self,
@@ -97,7 +100,7 @@ impl<const W: usize> BareZone<W> {
         ensures made { IsMade {W = W} (call.MapAt address unmovable frame) client self.old self.new result }
         ensures page { IfOk result (λ page. lowest_unused_page self.old ≡ Some page) }
     {
-        if !self.tables.has_frame(frame) {
+        if !self.tables.has_address(&address) || !self.tables.has_frame(frame) {
             return Err(ZoneError::Range);
         }
         if !self.tables.has_room() {
@@ -157,7 +160,8 @@ impl<const W: usize> BareZone<W> {
 
     /// Makes an alias name the page of an address too. A page has at most 4 addresses.
     ///
-    /// Refused as JournalFull, as Unmapped or Moving for the address, as Occupied for the alias, or as ShareFull.
+    /// Refused as Range where the zone has no such alias, as JournalFull, as Unmapped or Moving for the address, as Occupied for the alias, or as
+    /// ShareFull.
     #[inline(always)]
     pub fn share(
         &mut self,
@@ -167,6 +171,9 @@ impl<const W: usize> BareZone<W> {
     ) -> Result<(), ZoneError>
         ensures made { IsMade {W = W} (call.Share address alias) client self.old self.new result }
     {
+        if !self.tables.has_address(&alias) {
+            return Err(ZoneError::Range);
+        }
         if !self.tables.has_room() {
             return Err(ZoneError::JournalFull);
         }

@@ -5,7 +5,8 @@ use Rattle.std.proofs.lemmas.List.{drop_all}
 use Rattle.std.proofs.lemmas.Option.{slice_get-get_or}
 use Rattle.std.proofs.Math.Seq.{drop-cons}
 use Rattle.frame_core.specs.declared.place.Address.{Address}
-use Rattle.table_core.specs.Tables.{InTable, place_of, entry_at}
+use Rattle.frame_core.specs.Address.{InTable}
+use Rattle.table_core.specs.Tables.{place_of, entry_at}
 use Rattle.table_core.proofs.Places.{place_in, entry_got}
 use Rattle.table_core.proofs.Passing.{in_at, Found, find_none, find_more, find_same, find_all}
 use Rattle.table_core.proofs.tables.those_with.Goals as goal

@@ -2,8 +2,9 @@ use Rattle.std.proofs.Common.{◌≡◌, ◌≢◌, ◌+◌, ◌*◌, List, [], 
 use Rattle.std.proofs.lemmas.List.{length_push}
 use Rattle.arrayvec.specs.ArrayVec.{ArrayVec}
 use Rattle.frame_core.specs.declared.place.Address.{Address}
+use Rattle.frame_core.specs.Address.{InTable}
 use Rattle.table_core.specs.declared.size.Size.{Size}
-use Rattle.table_core.specs.Tables.{InTable, place_of}
+use Rattle.table_core.specs.Tables.{place_of}
 use Rattle.table_core.proofs.Places.{read_at}
 use Rattle.table_core.proofs.Walking.{Walked, walk_none, walk_found, walk_on, walk_all}
 use Rattle.table_core.proofs.walks.walk.Goals as goal

@@ -2,10 +2,11 @@ use Rattle.std.proofs.Common.{◌≡◌, ◌<◌, true, length, ap, sym, subst, 
 use Rattle.std.specs.Prelude.{Some, slice_get, slice_set}
 use Rattle.std.proofs.lemmas.Bool.{eq-eqb}
 use Rattle.std.proofs.lemmas.List.{length-set}
+use Rattle.frame_core.specs.Address.{InTable}
 use Rattle.table_core.specs.declared.entry.Entry.{Entry}
 use Rattle.table_core.specs.declared.entry.Entry.TheVariants.{Absent, Present}
 use Rattle.table_core.specs.Listed.{IsListOf, AreListed}
-use Rattle.table_core.specs.Tables.{Tables, EntryTable, InTable, place_of, entry_at, is_listed, with_entry, ChangesOnly}
+use Rattle.table_core.specs.Tables.{Tables, EntryTable, place_of, entry_at, is_listed, with_entry, ChangesOnly}
 use Rattle.table_core.proofs.Listing.{list_read, listed_clear}
 use Rattle.table_core.proofs.Places.{named_inside, place_in, entry_got, Changes, changes, changes_only}
 use Rattle.table_core.proofs.tables.Tables.clear.Goals as goal

@@ -1,9 +1,10 @@
 use Rattle.std.proofs.Common.{◌≡◌, ◌≢◌, ◌<◌, length, ap, sym, subst, ◌∙◌, arith}
 use Rattle.std.specs.Prelude.{Some, slice_get, slice_set}
 use Rattle.std.proofs.lemmas.List.{length-set}
+use Rattle.frame_core.specs.Address.{InTable}
 use Rattle.table_core.specs.declared.entry.Entry.TheVariants.{Absent, Present, Migration}
 use Rattle.table_core.specs.Listed.{AreListed}
-use Rattle.table_core.specs.Tables.{Tables, EntryTable, InTable, place_of, entry_at, with_entry, count_listed, ChangesOnly}
+use Rattle.table_core.specs.Tables.{Tables, EntryTable, place_of, entry_at, with_entry, count_listed, ChangesOnly}
 use Rattle.table_core.proofs.Counting.{length_list}
 use Rattle.table_core.proofs.Listing.{list_read, everywhere, listed_set}
 use Rattle.table_core.proofs.Places.{place_in, Changes, changes, changes_only}
@@ -11,7 +12,7 @@ use Rattle.table_core.proofs.tables.Tables.set.Goals as goal
 use Rattle.table_core.proofs.tables.Tables.set.Goals.{After-place_of-place, After-index_mut}
 
 inside : (c : After-place_of-place) → InTable c.self.inside.entries.entries.size.spaces c.self.inside.entries.entries.size.pages c.args.address
-inside c = subst (λ (t : Tables). InTable t.entries.size.spaces t.entries.size.pages c.args.address) (sym c.self.view_is) (c.requires.inside c.place_of-place.ensures.range)
+inside c = subst (λ (t : Tables). InTable t.entries.size.spaces t.entries.size.pages c.args.address) (sym c.self.view_is) c.requires.inside
 
 place : (c : After-place_of-place) → (c.place_of-place.result ≡ place_of c.self.inside.entries.entries.size.pages c.args.address) × (c.place_of-place.result < length c.self.inside.entries.entries.list)
 place c = place_in c.self.inside.entries.entries c.size.result c.args.address c.place_of-place.result c.size.ensures.value c.size.ensures.count (inside c) c.place_of-place.ensures.place

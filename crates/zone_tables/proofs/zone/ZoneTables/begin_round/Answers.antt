@@ -17,7 +17,7 @@ invariant_of-self g c =
     let start : RoundStart = record { records = length z.history.records; calm = c.is_calm-calm.result } in
     let begun : c.begin_round.new.self ≡ record z.history { round = Some start } = c.begin_round.ensures in
     subst (λ (fingers : Fingers). S (record z { fingers = fingers; history = c.begin_round.new.self })) (sym (c.fingers_at_ends-self-inside.ensures.ends ∙ ap at_ends (sym c.self.view_is)))
-    (subst (λ (history : History). S (record z { fingers = record { migrate = 0; free = 512 * z.blocks }; history = history })) (sym begun)
+    (subst (λ (history : History). S (record z { fingers = record { migrate = 0; free = 512 * z.size.blocks }; history = history })) (sym begun)
     (begun_sound z (state_of z) c.self.invariant start refl (c.is_calm-calm.ensures ∙ ap is_calm (sym c.self.view_is))))
 
 pub returns-clause-valid : goal.returns-clause-valid

@@ -1,7 +1,7 @@
 use Rattle.std.proofs.Common.{◌∙◌, ℕ, ap, sym, arith}
 use Rattle.std.specs.Prelude.{is_some, slice_set, unwrap_or}
 use Rattle.state_core.specs.Mapping.{placed}
-use Rattle.state_core.proofs.Facts.{spare}
+use Rattle.state_core.proofs.Facts.{in_table, spare}
 use Rattle.state_core.proofs.Finding.{some_lowest, unused_is}
 use Rattle.state_core.proofs.Placed.{CanPlace}
 use Rattle.zone_tables.proofs.Facts.{is_sound, Becomes}
@@ -24,7 +24,7 @@ can c =
     record {
       valid = (is_sound c.self.view_is c.self.invariant).valid;
       spare = spare c.args.self.now c.requires.room;
-      range = c.set.ensures.range;
+      inside = in_table c.args.self.now c.args.address c.requires.known;
       vacant = c.requires.vacant;
       unused = unused.1;
       numbered = unused.0;
@@ -76,7 +76,7 @@ pub returns-clause-valid : goal.returns-clause-valid
 returns-clause-valid g c = (invariant_of-self g c).valid
 
 pub set-requires-clause-inside : goal.set-requires-clause-inside
-set-requires-clause-inside g c = in_tables c.self.inside.tables.entries (is_sound c.self.view_is c.self.invariant).size c.args.address
+set-requires-clause-inside g c = in_tables c.args.self.now c.self.inside.tables.entries (is_sound c.self.view_is c.self.invariant).size c.args.address c.requires.known
 
 pub set-requires-clause-within : goal.set-requires-clause-within
 set-requires-clause-within g c =

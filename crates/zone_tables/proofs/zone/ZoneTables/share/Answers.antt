@@ -3,7 +3,7 @@ use Rattle.std.specs.Prelude.{Option, unwrap_or}
 use Rattle.frame_core.specs.declared.record.Record.TheVariants.{Share}
 use Rattle.frame_core.specs.History.{maps}
 use Rattle.state_core.specs.declared.placement.Placement.TheVariants.{At}
-use Rattle.state_core.proofs.Facts.{frame_within, page_stands, spare}
+use Rattle.state_core.proofs.Facts.{frame_within, in_table, page_stands, spare}
 use Rattle.state_core.proofs.Sharing.{CanShare}
 use Rattle.zone_tables.proofs.Facts.{is_sound}
 use Rattle.zone_tables.proofs.Entries.{in_tables}
@@ -30,7 +30,7 @@ can c =
       spare = spare c.args.self.now c.requires.room;
       named = c.requires.named;
       at = page_stands c.args.self.now c.args.address (At c.args.frame) c.args.page c.requires.named c.requires.frame;
-      range = c.set.ensures.range;
+      inside = in_table c.args.self.now c.args.alias c.requires.known;
       vacant = c.requires.vacant;
       few = omega (arith, c.requires.few, ap (λ (o : Option ℕ). maps c.args.self.now.records (unwrap_or o 0)) c.requires.named);
     }
@@ -50,7 +50,7 @@ pub returns-clause-valid : goal.returns-clause-valid
 returns-clause-valid g c = (invariant_of-self g c).valid
 
 pub set-requires-clause-inside : goal.set-requires-clause-inside
-set-requires-clause-inside g c = in_tables c.self.inside.tables.entries (is_sound c.self.view_is c.self.invariant).size c.args.alias
+set-requires-clause-inside g c = in_tables c.args.self.now c.self.inside.tables.entries (is_sound c.self.view_is c.self.invariant).size c.args.alias c.requires.known
 
 pub set-requires-clause-within : goal.set-requires-clause-within
 set-requires-clause-within g c =

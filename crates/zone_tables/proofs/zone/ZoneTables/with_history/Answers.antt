@@ -2,7 +2,7 @@ use Rattle.std.proofs.Common.{◌≡◌, refl, subst, sym}
 use Rattle.zone_tables.specs.declared.zone.ZoneTables.TheInside.{Inside}
 use Rattle.state_core.specs.ZoneState.{ZoneState}
 use Rattle.zone_tables.specs.Sound.{IsSound, state_of}
-use Rattle.state_core.specs.Opening.{opened_with}
+use Rattle.state_core.specs.Opening.{opened_sized}
 use Rattle.zone_tables.proofs.Opened.{IsFresh, opened_view, opened_sound}
 use Rattle.zone_tables.proofs.zone.ZoneTables.with_history.Given.{Over}
 use Rattle.zone_tables.proofs.zone.ZoneTables.with_history.Goals as goal
@@ -11,7 +11,7 @@ use Rattle.zone_tables.proofs.zone.ZoneTables.with_history.Goals.{After-new}
 abbrev new_zone : {g : Over} → After-new g → Inside g.row.W
 new_zone c = record {
   number = c.args.number;
-  blocks = c.args.blocks;
+  size = c.args.size;
   frames = c.in_ok-frames.frames;
   tables = c.in_ok-frames.tables;
   words = c.in_ok-frames.words;
@@ -24,12 +24,12 @@ new_zone c = record {
   history = c.args.history;
 }
 
-fresh : {g : Over} (c : After-new g) → IsFresh (new_zone c) c.args.number c.args.blocks c.args.history.room
+fresh : {g : Over} (c : After-new g) → IsFresh (new_zone c) c.args.number c.args.size c.args.history.room
 fresh c = record {
-  size = c.requires.«open»;
+  allowed = c.requires.«open»;
   few = c.requires.places;
   number_is = refl;
-  blocks_is = refl;
+  size_is = refl;
   frames = c.in_ok-frames.ensures.frames;
   tables = c.in_ok-frames.ensures.tables.0;
   tables_frames = c.in_ok-frames.ensures.tables.1;
@@ -44,7 +44,7 @@ fresh c = record {
   history = c.requires.none;
 }
 
-view : {g : Over} (c : After-new g) → state_of (new_zone c) ≡ opened_with g.row.W c.args.number c.args.blocks c.args.history.room
+view : {g : Over} (c : After-new g) → state_of (new_zone c) ≡ opened_sized g.row.W c.args.number c.args.size c.args.history.room
 view c = opened_view (new_zone c) _ _ _ (fresh c)
 
 pub invariant_of-result : goal.invariant_of-result
