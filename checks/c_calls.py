@@ -27,7 +27,7 @@ LARGE_POOLS = [
     (512, None, 0, True),
     (513, (3, 50_001), 0, True),
 ]
-MOST_ADDRESSES = 2**20  # of a random size, or a little more
+MOST_ADDRESSES = 2**21  # of a random size
 LEFT_FREE = 6  # pageblocks of a pool that is filled
 CALLS_OF_A_POOL = 25_000
 MOST_BLOCKS = 32_768
@@ -144,7 +144,7 @@ class Chooser:
         self.zone = zone
         self.page_words, self.frames, self.blocks = zone.page_words, zone.size, zone.blocks
         self.pages = few(chance, chance.choice([20, 200, 4000]), zone.pages_of_a_space)
-        self.spaces = few(chance, chance.choice([1, 8]), zone.spaces)
+        self.spaces = few(chance, chance.choice([1, 2, 8]), zone.spaces)
 
     def number(self, count, limit=None, among=None):
         """A number below a count, of those that are given; and once in 200 times the count, the limit of its range or a number far beyond
@@ -429,8 +429,9 @@ def need_reserved(name, answer, places):
 
 def random_addresses(chance):
     """How many spaces a pool has, and how many virtual pages each of them."""
-    spaces = chance.choice([1, 2, 7, 8, 9, MOST_SPACES, chance.randint(1, MOST_SPACES)])
-    return spaces, chance.choice([1, 2, 20, 4095, 4096, 4097, chance.randint(1, MOST_ADDRESSES // spaces)])
+    spaces = chance.choice([1, 7, 9, MOST_SPACES, chance.randint(1, MOST_SPACES)])
+    most = MOST_ADDRESSES // spaces
+    return spaces, chance.choice([1, 20, 1000, 4095, 4097, chance.randint(1, most), most])
 
 
 def small_pool(chance, is_sized):
