@@ -13,8 +13,8 @@
  * word 0 to 7 or 0 to 511 by the size of the pool's pages, a pageblock of the pool, an order 3 to 9.
  *
  * A pool has the spaces, and each space the virtual pages, that it was opened with. Where an address is in these ranges and the pool doesn't
- * have it, a call that would make it name a page is refused as RANGE: compactd_map, compactd_map_at, and compactd_share for its alias. To any
- * other call it is an address that names no page.
+ * have it, a call that would make it name a page is refused as RANGE: compactd_map, compactd_map_at, and compactd_share for its alias.
+ * Everywhere else it is an address that names no page.
  *
  * Each structure but the handle ends in reserved words: compactd_geometry in one, each other in two. The library fills them with 0 and
  * doesn't read them. A later version may give them a meaning; the size of the structure stays.
