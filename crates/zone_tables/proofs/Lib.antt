@@ -18,6 +18,7 @@ pub mod NotedPages
 pub mod NotedEach
 pub mod Noting
 pub mod Opened
+pub mod OpenRuns
 pub mod OutAndEnded
 pub mod Pinned
 pub mod Placement
