@@ -44,7 +44,7 @@ pub use outcome::{comes_to_by_hand, each_step_keeps, packs_a_calm_zone};
 pub use seats::{Answered, Blanks, EndSeat, ScanSeat, Seats};
 pub use state_core::{
     Audit, ClientCall, ClientCallOf, Ended, Info, Look, Next, Placement, RoundStart, Stranger,
-    ZoneAnswer, ZoneCall, ZoneCallOf, ZoneError,
+    ZoneAnswer, ZoneCall, ZoneCallOf, ZoneError, ZoneSize,
 };
 pub use zone::Zone as ZoneOf;
 pub use zone_tables::MovingPage;

@@ -8,7 +8,7 @@ use Rattle.frame_core.proofs.Searches.{pairs_same_below, pairs_none}
 use Rattle.frame_core.specs.Address.{InRange}
 use Rattle.frame_core.specs.declared.place.Address.{Address}
 use Rattle.frame_core.specs.History.{page_at, names, maps, is_page}
-use Rattle.state_core.proofs.Facts.{page_named, not_none, takes_own}
+use Rattle.state_core.proofs.Facts.{named_in_range, page_named, not_none, takes_own}
 use Rattle.state_core.specs.Valid.{IsValidZone}
 use Rattle.state_core.specs.ZoneState.{ZoneState, placement_at, takes_up}
 use Rattle.state_core.specs.declared.placement.Placement.{Placement}
@@ -17,6 +17,7 @@ use Rattle.table_core.specs.declared.entry.Entry.TheVariants.{Migration}
 use Rattle.table_core.specs.Names.{IsIn, IsRising, AreJust, order_of}
 use Rattle.table_core.specs.Tables.{EntryTable, entry_at}
 use Rattle.zone_tables.proofs.Tables.{migration_is, placement_seen}
+use Rattle.zone_tables.proofs.ListedAddresses.{page_is}
 use Rattle.zone_tables.specs.Fits.{EntriesFit, entry_for}
 use Rattle.zone_tables.specs.MovingPages.{IsLeftByNone, IsLowestName}
 use Rattle.zone_tables.specs.Notes.{placement_of}

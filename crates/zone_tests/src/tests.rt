@@ -6,6 +6,7 @@ mod contents;
 mod counts;
 mod draws;
 mod lists;
+mod many_addresses;
 mod many_pageblocks;
 mod moving;
 mod refusals;
@@ -26,8 +27,8 @@ fn client(rt: &impl Abort) -> ClientNo {
 
 fn address(rt: &impl Abort, name: Name) -> Address {
     let (space, vpage) = name;
-    let space = SpaceNo::new(space).expect(rt, "a space");
-    let vpage = VPage::new(vpage).expect(rt, "a virtual page");
+    let space = SpaceNo::in_any_zone(space).expect(rt, "a space");
+    let vpage = VPage::in_any_zone(vpage).expect(rt, "a virtual page");
     Address { space, vpage }
 }
 
