@@ -1,8 +1,8 @@
-/* What calls take by the size of the pool, from C. Of each size one pool of 64-byte pages is opened. Of each the lowest quarter of the frames
- * is handed out in blocks of order 3, the next quarter is free, and the upper half has 1,000 pages, which are as far from each other as they
- * can be. They have the hot addresses, a fixed list. Each call is made on the hot addresses in turn, up to a million times, and leaves this
- * state or is undone at once: a map by an unmap, a take by a give. A round moves the pages up, and they are then brought back. For the take
- * that is refused, all free pageblocks are handed out meanwhile.
+/* What calls take by the size of the pool, from C. Of each size one pool of 64-byte pages is opened, with as many addresses as frames. Of
+ * each the lowest quarter of the frames is handed out in blocks of order 3, the next quarter is free, and the upper half has 1,000 pages,
+ * which are as far from each other as they can be. So are their addresses, the hot ones, which are mixed. Each call is made on the hot
+ * addresses in turn, up to a million times, and leaves this state or is undone at once: a map by an unmap, a take by a give. A round moves
+ * the pages up, and they are then brought back. For the take that is refused, all free pageblocks are handed out meanwhile.
  *
  * The arguments are how often all of it is measured, and the sizes: powers of 2, from 12 on. Each line that it prints has what was done, a tab,
  * the size, a tab, and nanoseconds; of the opening they are microseconds. */
@@ -13,6 +13,7 @@
 #include <time.h>
 
 #define WORDS 8
+#define SPACES 8
 #define HOT 1000
 #define MOST_POOLS 8
 #define MOST_CALLS 1000000
@@ -20,17 +21,18 @@
 #define MOST_SECONDS 0.5 /* of a measurement */
 #define PAGEBLOCK 9      /* its order */
 
+struct address {
+    uint32_t space, vpage;
+};
+
 struct sized {
     compactd_pool pool;
-    int size; /* the power of 2 that its frames are */
+    int size; /* the power of 2 that its frames are, and its addresses */
     uint32_t frames;
     uint32_t *taken; /* the first frames of the pageblocks that are handed out meanwhile */
     uint32_t taken_count;
+    struct address hot[HOT], others[HOT];
 };
-
-static struct address {
-    uint32_t space, vpage;
-} hot[HOT], others[HOT];
 
 static uint32_t order; /* of blocks that are taken and given */
 static int is_well = 1;
@@ -48,14 +50,26 @@ static void need(int holds)
     is_well &= holds;
 }
 
-static void list_addresses(void)
+/* An address by its place among all addresses of the pool. */
+static struct address address_at(const struct sized *at, uint32_t place)
 {
-    uint32_t i;
+    struct address address;
+
+    address.space = place / (at->frames / SPACES);
+    address.vpage = place % (at->frames / SPACES);
+    return address;
+}
+
+/* Lists the hot addresses, and others that lie half way between them. */
+static void list_addresses(struct sized *at)
+{
+    const uint32_t apart = at->frames / HOT;
+    uint32_t i, place;
 
     for (i = 0; i < HOT; i++) {
-        hot[i].space = others[i].space = i % 8;
-        hot[i].vpage = i * 37 % 4096;
-        others[i].vpage = (HOT + i) * 37 % 4096;
+        place = i * 37 % HOT * apart;
+        at->hot[i] = address_at(at, place);
+        at->others[i] = address_at(at, place + apart / 2);
     }
 }
 
@@ -63,7 +77,7 @@ static void list_addresses(void)
 
 static void open_pool(struct sized *at, compactd_pool *pool)
 {
-    uint32_t refusal = compactd_open(pool, WORDS, at->frames >> PAGEBLOCK);
+    uint32_t refusal = compactd_open_sized(pool, WORDS, at->frames >> PAGEBLOCK, SPACES, at->frames / SPACES, 0);
 
     if (refusal != COMPACTD_OK) {
         fprintf(stderr, "a pool of 2^%d frames isn't opened: %s\n", at->size, compactd_refusal_text(refusal));
@@ -76,7 +90,7 @@ static void spread_pages(struct sized *at)
     uint32_t i, half = at->frames / 2;
 
     for (i = 0; i < HOT; i++)
-        need(compactd_map_at(&at->pool, 0, hot[i].space, hot[i].vpage, 0, half + i * (half / HOT)) == COMPACTD_OK);
+        need(compactd_map_at(&at->pool, 0, at->hot[i].space, at->hot[i].vpage, 0, half + i * (half / HOT)) == COMPACTD_OK);
 }
 
 static void unmap_pages(struct sized *at)
@@ -84,7 +98,7 @@ static void unmap_pages(struct sized *at)
     uint32_t i;
 
     for (i = 0; i < HOT; i++)
-        need(compactd_unmap(&at->pool, 0, hot[i].space, hot[i].vpage) == COMPACTD_OK);
+        need(compactd_unmap(&at->pool, 0, at->hot[i].space, at->hot[i].vpage) == COMPACTD_OK);
 }
 
 static void open_sized(struct sized *at, int size)
@@ -98,6 +112,7 @@ static void open_sized(struct sized *at, int size)
     at->taken = malloc(sizeof at->taken[0] * (at->frames >> PAGEBLOCK));
     if (at->taken == NULL)
         abort();
+    list_addresses(at);
     open_pool(at, &at->pool);
     for (block = 0; block < at->frames / 4 / 8; block++)
         need(compactd_take_order(&at->pool, 3, &first) == COMPACTD_OK && first == block * 8);
@@ -123,33 +138,33 @@ static void look(struct sized *at, uint32_t i)
 {
     compactd_page_info info;
 
-    need(compactd_look(&at->pool, hot[i].space, hot[i].vpage, &info) == COMPACTD_OK);
+    need(compactd_look(&at->pool, at->hot[i].space, at->hot[i].vpage, &info) == COMPACTD_OK);
 }
 
 static void load(struct sized *at, uint32_t i)
 {
     uint64_t value;
 
-    need(compactd_load(&at->pool, 0, hot[i].space, hot[i].vpage, i % WORDS, &value) == COMPACTD_OK);
+    need(compactd_load(&at->pool, 0, at->hot[i].space, at->hot[i].vpage, i % WORDS, &value) == COMPACTD_OK);
 }
 
 static void store(struct sized *at, uint32_t i)
 {
-    need(compactd_store(&at->pool, 0, hot[i].space, hot[i].vpage, i % WORDS, i) == COMPACTD_OK);
+    need(compactd_store(&at->pool, 0, at->hot[i].space, at->hot[i].vpage, i % WORDS, i) == COMPACTD_OK);
 }
 
 static void pin_and_unpin(struct sized *at, uint32_t i)
 {
-    need(compactd_pin(&at->pool, 0, hot[i].space, hot[i].vpage) == COMPACTD_OK);
-    need(compactd_unpin(&at->pool, 0, hot[i].space, hot[i].vpage) == COMPACTD_OK);
+    need(compactd_pin(&at->pool, 0, at->hot[i].space, at->hot[i].vpage) == COMPACTD_OK);
+    need(compactd_unpin(&at->pool, 0, at->hot[i].space, at->hot[i].vpage) == COMPACTD_OK);
 }
 
 static void map_and_unmap(struct sized *at, uint32_t i)
 {
     uint32_t frame;
 
-    need(compactd_map(&at->pool, 0, others[i].space, others[i].vpage, 0, &frame) == COMPACTD_OK);
-    need(compactd_unmap(&at->pool, 0, others[i].space, others[i].vpage) == COMPACTD_OK);
+    need(compactd_map(&at->pool, 0, at->others[i].space, at->others[i].vpage, 0, &frame) == COMPACTD_OK);
+    need(compactd_unmap(&at->pool, 0, at->others[i].space, at->others[i].vpage) == COMPACTD_OK);
 }
 
 static void take_and_give(struct sized *at, uint32_t i)
@@ -287,7 +302,6 @@ int main(int count, char **words)
 
     if (pool_count < 1 || pool_count > MOST_POOLS)
         return 2;
-    list_addresses();
     for (pool = 0; pool < pool_count; pool++)
         open_sized(&pools[pool], atoi(words[pool + 2]));
     for (turn = 0; turn < atoi(words[1]); turn++)

@@ -2,11 +2,11 @@
 
     python3 bench/c_sizes.py [--sizes SIZE,..] [TURNS]
 
-The pools have pages of 64 bytes, and 2^SIZE frames; 12, 15, 18, 20 and 22 if no size is given. All are open at once, and each is in the state
-that `bench/c_sizes.c` describes: a quarter handed out, a quarter free, and 1,000 pages spread over the rest. Each call is measured with each
-pool in turn, up to a million times, and all of that in so many turns, 7 if no number is given. The table has the medians; the last column is
-what a call takes with 2^20 frames to what it takes with 2^12. The opening is told in microseconds. The load of the machine is told before and
-after. The library is that of `bench/c_calls.py`. It needs gcc."""
+The pools have pages of 64 bytes, 2^SIZE frames, and as many addresses; SIZE is 12, 15, 18, 20 and 22 if none is given. All are open at once,
+and each is in the state that `bench/c_sizes.c` describes: a quarter handed out, a quarter free, and 1,000 pages spread over the rest, at
+addresses that are spread too. Each call is measured with each pool in turn, up to a million times, and all of that in so many turns, 7 if no
+number is given. The table has the medians; the last column is what a call takes with 2^20 frames to what it takes with 2^12. The opening is
+told in microseconds. The load of the machine is told before and after. The library is that of `bench/c_calls.py`. It needs gcc."""
 
 import argparse
 import collections
@@ -48,7 +48,7 @@ def show(found, sizes):
 
 def main():
     parser = argparse.ArgumentParser(description=__doc__, formatter_class=argparse.RawDescriptionHelpFormatter)
-    parser.add_argument("--sizes", type=listed, default=SIZES, metavar="SIZE,..", help="the frames, as powers of 2 from 12 to 24")
+    parser.add_argument("--sizes", type=listed, default=SIZES, metavar="SIZE,..", help="the frames, and the addresses, as powers of 2 from 12 to 24")
     parser.add_argument("turns", nargs="?", type=int, default=7, metavar="TURNS")
     given = parser.parse_args()
     c_rounds.show_load("before")

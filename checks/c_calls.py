@@ -1,12 +1,13 @@
 """Random calls of the library for C are answered as by the machine of `checks/machine.py`.
 
 A million calls are made through `libcompactd.so` and beside them on the machine, with pages of both sizes, with a journal and without one,
-among them rounds, slices of rounds, pages that are moved by hand, runs that are emptied, and up to 4 blocks that are reserved. Most are made on pools of 1 to 8 pageblocks, and
-100,000 on pools of 9 to 513, of which some are filled with blocks but for a few pageblocks at the top. After each the number of its refusal is
-compared, and what it tells; where it is refused, what it would have told has to be untouched. The reserved words of a structure have to
-be 0 once a call has filled it, and are random in those that a call is given. Numbers are also out of their ranges. All refusals come up
-but those of a pool that is closed, open already or can't have its memory, which `checks/c_exports.py` tries. At the end the records of
-each pool are compared too."""
+among them rounds, slices of rounds, pages that are moved by hand, runs that are emptied, and up to 4 blocks that are reserved. Most are made
+on pools of 1 to 8 pageblocks, and 100,000 on pools of 9 to 513, of which some are filled with blocks but for a few pageblocks at the top. Half
+of the pools have random numbers of spaces and of virtual pages, and their first and last addresses are among those of the calls. After each
+call the number of its refusal is compared, and what it tells; where it is refused, what it would have told has to be untouched. The reserved
+words of a structure have to be 0 once a call has filled it, and are random in those that a call is given. Numbers are also out of their
+ranges. All refusals come up but those of a pool that is closed, open already or can't have its memory, which `checks/c_exports.py` tries. At
+the end the records of each pool are compared too."""
 
 import collections
 import ctypes
@@ -15,11 +16,18 @@ import random
 import c_programs
 import machine
 import runs
-from c_machine import ByMachine, Zone
+from c_machine import MOST_PAGES_OF_A_SPACE, MOST_SPACES, ByMachine, Zone
 from machine import Refused
 
 SMALL_POOLS = 36
-LARGE_POOLS = [(9, False), (512, False), (512, True), (513, True)]  # their pageblocks, and whether they are filled first
+# Their pageblocks, their spaces and the virtual pages of each where those are told, the places of a journal, and whether they are filled first.
+LARGE_POOLS = [
+    (9, (255, 4097), 65_536, False),
+    (512, (256, 65_536), 0, False),
+    (512, None, 0, True),
+    (513, (3, 50_001), 0, True),
+]
+MOST_ADDRESSES = 2**21  # of a random size
 LEFT_FREE = 6  # pageblocks of a pool that is filled
 CALLS_OF_A_POOL = 25_000
 MOST_BLOCKS = 32_768
@@ -46,7 +54,7 @@ class Counts(ctypes.Structure):
 
 
 class Geometry(ctypes.Structure):
-    _fields_ = [*fields(u32, "page_words blocks"), *fields(u64, "places"), *RESERVED]
+    _fields_ = [*fields(u32, "page_words blocks"), *fields(u64, "places"), *fields(u32, "spaces vpages"), *fields(u64 * 1, "reserved")]
 
 
 class PageInfo(ctypes.Structure):
@@ -85,6 +93,7 @@ def told(kind):
 ARGUMENTS = {
     "open": [u32, u32],
     "open_journal": [u32, u32, u32],
+    "open_sized": [u32, u32, u32, u32, u32],
     "close": [],
     "map": [u32, u32, u32, flag, told(u32)],
     "map_at": [u32, u32, u32, flag, u32],
@@ -130,22 +139,23 @@ ARGUMENTS = {
 class Chooser:
     """Chooses calls and their arguments: few addresses, so that calls meet, and now and then a number out of its range."""
 
-    def __init__(self, chance, page_words, blocks):
+    def __init__(self, chance, zone):
         self.chance = chance
-        self.page_words = page_words
-        self.frames = 512 * blocks
-        self.blocks = blocks
-        self.pages = chance.choice([20, 200, 4000])
-        self.spaces = chance.choice([1, 8])
+        self.zone = zone
+        self.page_words, self.frames, self.blocks = zone.page_words, zone.size, zone.blocks
+        self.pages = few(chance, chance.choice([20, 200, 4000]), zone.pages_of_a_space)
+        self.spaces = few(chance, chance.choice([1, 2, 8]), zone.spaces)
 
-    def number(self, count, limit=None):
-        """A number below a count, and once in 200 times the count, the limit of its range or a number far beyond it."""
+    def number(self, count, limit=None, among=None):
+        """A number below a count, of those that are given; and once in 200 times the count, the limit of its range or a number far beyond
+        it."""
         if self.chance.random() < 0.005:
             return self.chance.choice([count, limit or count, 2**32 - 1])
-        return self.chance.randrange(count)
+        return self.chance.choice(among or range(count))
 
     def place(self):
-        return self.number(8), self.number(self.spaces, 8), self.number(self.pages, machine.PAGES_OF_A_SPACE)
+        space = self.number(self.zone.spaces, MOST_SPACES, self.spaces)
+        return self.number(8), space, self.number(self.zone.pages_of_a_space, MOST_PAGES_OF_A_SPACE, self.pages)
 
     def frame(self):
         return self.number(self.frames, machine.MOST_FRAMES)
@@ -239,6 +249,11 @@ class Chooser:
         return self.place()[1:]
 
 
+def few(chance, most, count):
+    """So many numbers below a count at most, the first and the last one among them."""
+    return [0, count - 1, *chance.sample(range(count), min(most, count))][:most]
+
+
 OFTEN = {
     **dict.fromkeys(["map", "load", "store", "unmap"], 200),
     **dict.fromkeys(["map_at", "share", "look", "write", "read"], 60),
@@ -259,10 +274,11 @@ BY_HAND = {"isolate", "commit", "put_back"}
 class Beside:
     """A pool of the library, and the machine beside it."""
 
-    def __init__(self, library, page_words, blocks, places):
+    def __init__(self, library, page_words, blocks, addresses, places):
         self.library, self.handle = library, Handle()
-        self.machine = ByMachine(Zone(page_words, blocks, places or UNRECORDED_PLACES), places or 0)
-        opening = ("open_journal", page_words, blocks, places) if places else ("open", page_words, blocks)
+        spaces, pages_of_a_space = addresses or (machine.SPACES, machine.PAGES_OF_A_SPACE)
+        self.machine = ByMachine(Zone(page_words, blocks, places or UNRECORDED_PLACES, spaces, pages_of_a_space), places)
+        opening = opening_of(page_words, blocks, addresses, places)
         if answer := self.call(*opening):
             raise runs.Failed(f"{opening} is refused {answer}")
         self.carried = {}  # by their serials: the numbers and the words of the pages that are moving
@@ -375,6 +391,13 @@ class Beside:
             del self.carried[serial]
 
 
+def opening_of(page_words, blocks, addresses, places):
+    """The call that opens a pool: with the spaces and the virtual pages of each that are told, or with as many as the other calls open."""
+    if addresses:
+        return "open_sized", page_words, blocks, *addresses, places
+    return ("open_journal", page_words, blocks, places) if places else ("open", page_words, blocks)
+
+
 def wrong_answer(call, found, wanted):
     return runs.Failed(f"{call[:200]}: it answers {str(found)[:200]}, and not {str(wanted)[:200]}")
 
@@ -404,14 +427,22 @@ def need_reserved(name, answer, places):
         raise runs.Failed(f"{name} answers {answer} and leaves {found} in reserved words")
 
 
-def small_pool(chance):
+def random_addresses(chance):
+    """How many spaces a pool has, and how many virtual pages each of them."""
+    spaces = chance.choice([1, 7, 9, MOST_SPACES, chance.randint(1, MOST_SPACES)])
+    most = MOST_ADDRESSES // spaces
+    return spaces, chance.choice([1, 20, 1000, 4095, 4097, chance.randint(1, most), most])
+
+
+def small_pool(chance, is_sized):
     page_words, blocks = chance.choice([8, 512]), chance.choice([1, 1, 2, 3, 8])
-    return Beside(loaded(), page_words, blocks, chance.choice([None, 300, 5_000, 65_536]))
+    addresses = random_addresses(chance) if is_sized else None
+    return Beside(loaded(), page_words, blocks, addresses, chance.choice([0, 300, 5_000, 65_536]))
 
 
-def large_pool(blocks, is_filled):
-    """A pool without a journal. Where it is filled, only its highest pageblocks are free."""
-    pool = Beside(loaded(), 8, blocks, None)
+def large_pool(blocks, addresses, places, is_filled):
+    """A pool with pages of 8 words. Where it is filled, only its highest pageblocks are free."""
+    pool = Beside(loaded(), 8, blocks, addresses, places)
     for _ in range(blocks - LEFT_FREE if is_filled else 0):
         pool.compare("take_order", (9,))
     return pool
@@ -420,8 +451,8 @@ def large_pool(blocks, is_filled):
 def random_calls(number):
     """How often each call and each refusal came up among random calls of a pool."""
     chance = random.Random(number)
-    pool = small_pool(chance) if number < SMALL_POOLS else large_pool(*LARGE_POOLS[number - SMALL_POOLS])
-    chooser, found = Chooser(chance, pool.machine.zone.page_words, pool.machine.zone.blocks), collections.Counter()
+    pool = small_pool(chance, number % 2 == 1) if number < SMALL_POOLS else large_pool(*LARGE_POOLS[number - SMALL_POOLS])
+    chooser, found = Chooser(chance, pool.machine.zone), collections.Counter()
     for name in chance.choices(list(OFTEN), list(OFTEN.values()), k=CALLS_OF_A_POOL):
         answer = pool.carry(name, chance) if name in BY_HAND else pool.compare(name, getattr(chooser, name)())
         found[name, answer] += 1

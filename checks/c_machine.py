@@ -6,6 +6,8 @@ from machine import Refused
 MET = 53  # the answer of an isolation where the scanners have met
 STOPPED = {None: 0, "journalfull": 2, "met": MET}  # why no more pages are moved
 NOT_MOVING = 54
+MOST_SPACES = 256
+MOST_PAGES_OF_A_SPACE = 2**24
 ORDERS = range(10)  # of free runs
 
 
@@ -13,8 +15,8 @@ class Zone(machine.Zone):
     """The machine's zone, with pages of any size and with what C asks in numbers, and with its records: their kinds and numbers, where
     that of a page stands as None."""
 
-    def __init__(self, page_words, blocks, places):
-        super().__init__(0, blocks, places)
+    def __init__(self, page_words, blocks, places, spaces, pages_of_a_space):
+        super().__init__(0, blocks, places, spaces, pages_of_a_space)
         self.page_words, self.blocks = page_words, blocks
         self.high = 0  # no round was begun
         self.is_quiet = False
@@ -112,7 +114,7 @@ def need(*limits):
 
 
 def need_place(client, space, page):
-    need((client, 8), (space, 8), (page, machine.PAGES_OF_A_SPACE))
+    need((client, 8), (space, MOST_SPACES), (page, MOST_PAGES_OF_A_SPACE))
     return space, page
 
 
@@ -222,7 +224,7 @@ class ByMachine:
         return 0, page.frame, page.unmovable + 2 * page.dirty, *uses, 0
 
     def describe(self):
-        return self.zone.page_words, self.zone.blocks, self.places
+        return self.zone.page_words, self.zone.blocks, self.places, self.zone.spaces, self.zone.pages_of_a_space
 
     def free_runs(self, order):
         need((order, len(ORDERS)))

@@ -11,6 +11,7 @@ import re
 LARGEST_NUMBER = 2**64 - 1
 LONGEST_LINE = 200
 MOST_DIGITS = 20
+SPACES = 8
 PAGES_OF_A_SPACE = 4096
 FRAMES_OF_A_PAGEBLOCK = 512
 PAGEBLOCK = 9  # the order of a pageblock
@@ -24,7 +25,7 @@ ANY = "?"  # in a reply: a number that the manual leaves to the threads
 # What stands in the place of a number: its least and its largest value.
 RANGES = {
     "Z": (0, 3),
-    "S": (0, 7),
+    "S": (0, SPACES - 1),
     "V": (0, PAGES_OF_A_SPACE - 1),
     "W": (0, 7),
     "X": (0, LARGEST_NUMBER),
@@ -137,9 +138,10 @@ class Zone:
     """A zone, the pages of it that are moving, and four hands. Once the threads decided what a round moved, no frame is
     told but those of pages that no round moves, and there are at least so many places in the journal."""
 
-    def __init__(self, number, blocks, places):
+    def __init__(self, number, blocks, places, spaces=SPACES, pages_of_a_space=PAGES_OF_A_SPACE):
         self.number = number
         self.size = blocks * FRAMES_OF_A_PAGEBLOCK
+        self.spaces, self.pages_of_a_space = spaces, pages_of_a_space
         self.frames_if_told = Frames(blocks)
         self.pages = {}  # by address
         self.places = places
@@ -168,6 +170,12 @@ class Zone:
     def need_places(self, count):
         if self.places < count + len(self.moving):
             raise Refused(2) if self.is_told else Untold
+
+    def need_address(self, address):
+        """An address that is to name a page has to be one of the zone's. Any other names no page."""
+        space, page = address
+        if space >= self.spaces or page >= self.pages_of_a_space:
+            raise Refused(1)
 
     def need_page(self, address):
         if address not in self.pages:
@@ -219,6 +227,7 @@ class Zone:
     # Pages and addresses.
 
     def map(self, address, unmovable=False, frame=None):
+        self.need_address(address)
         if frame is not None:
             self.need_frames(frame, 1)
         self.need_places(1)
@@ -233,6 +242,7 @@ class Zone:
         return "ok"
 
     def share(self, address, alias):
+        self.need_address(alias)
         self.need_places(1)
         page = self.need_still_page(address)
         if alias in self.pages:

@@ -9,11 +9,15 @@
  * refused call changes nothing: the pool is as it was, and nothing is written through the other pointers. Where several refusals hold, the
  * call answers the one that comes first in its comment.
  *
- * Ranges, unless a comment gives another: a client 0 to 7, a space 0 to 7, a virtual page (vpage) 0 to 4095, a frame of the pool, a word
- * 0 to 7 or 0 to 511 by the size of the pool's pages, a pageblock of the pool, an order 3 to 9.
+ * Ranges, unless a comment gives another: a client 0 to 7, a space 0 to 255, a virtual page (vpage) 0 to 16777215, a frame of the pool, a
+ * word 0 to 7 or 0 to 511 by the size of the pool's pages, a pageblock of the pool, an order 3 to 9.
  *
- * Each structure but the handle ends in two reserved words. The library fills them with 0 and doesn't read them. A later version may give
- * them a meaning; the size of the structure stays.
+ * A pool has the spaces, and each space the virtual pages, that it was opened with. Where an address is in these ranges and the pool doesn't
+ * have it, a call that would make it name a page is refused as RANGE: compactd_map, compactd_map_at, and compactd_share for its alias.
+ * Everywhere else it is an address that names no page.
+ *
+ * Each structure but the handle ends in reserved words: compactd_geometry in one, each other in two. The library fills them with 0 and
+ * doesn't read them. A later version may give them a meaning; the size of the structure stays.
  *
  * What the caller owes, since no call can test it:
  * - A pool is all zeros before its first call. Only these calls read, write or copy its field.
@@ -32,8 +36,8 @@
  * - A journal that is kept has the places that it was opened with. It can't be emptied.
  *
  * As long as the caller does what it owes, no call prints, waits, starts a thread or ends the process. Only compactd_open,
- * compactd_open_journal and compactd_reserve ask for memory, as a test counts; the last gives it back before it answers. A signal handler
- * that may interrupt a call on a pool doesn't use that pool. */
+ * compactd_open_journal, compactd_open_sized and compactd_reserve ask for memory, as a test counts; the last gives it back before it
+ * answers. A signal handler that may interrupt a call on a pool doesn't use that pool. */
 #ifndef COMPACTD_H
 #define COMPACTD_H
 
@@ -160,7 +164,9 @@ typedef struct compactd_geometry {
     uint32_t page_words; /* words of a page: 8 or 512 */
     uint32_t blocks;     /* pageblocks: 1 to 32768 */
     uint64_t places;     /* places of its journal, used or not; 0 where it keeps none */
-    uint64_t reserved[2];
+    uint32_t spaces;     /* address spaces: 1 to 256 */
+    uint32_t vpages;     /* virtual pages of each space: 1 to 16777216 */
+    uint64_t reserved;
 } compactd_geometry;
 
 /* Flags of a page. */
@@ -242,8 +248,8 @@ typedef struct compactd_record {
 /* The version of the library. */
 uint32_t compactd_version(void);
 
-/* Opens a closed pool. Its pages have 8 words of 64 bits (64 bytes) or 512 (4 KiB); it has 1 to 32,768 pageblocks of 512 frames. It keeps
- * no records, and has room for 2^53 calls that would be recorded.
+/* Opens a closed pool. Its pages have 8 words of 64 bits (64 bytes) or 512 (4 KiB); it has 1 to 32,768 pageblocks of 512 frames, and 8 spaces
+ * of 4,096 virtual pages. It keeps no records, and has room for 2^53 calls that would be recorded.
  * Refused: OPEN where the pool is open; RANGE; MEMORY. */
 uint32_t compactd_open(compactd_pool *pool, uint32_t page_words, uint32_t blocks) COMPACTD_CALL;
 
@@ -253,6 +259,13 @@ uint32_t compactd_open(compactd_pool *pool, uint32_t page_words, uint32_t blocks
  * Refused: OPEN; RANGE; MEMORY. */
 uint32_t compactd_open_journal(compactd_pool *pool, uint32_t page_words, uint32_t blocks, uint32_t places) COMPACTD_CALL;
 
+/* Opens a closed pool of any size, with 1 to 32,768 pageblocks, 1 to 256 spaces and 1 to 16,777,216 virtual pages a space. It has at most
+ * 67,108,864 addresses in all, which are 4 for each frame of the largest pool; each takes 8 bytes of memory, whether or not it names a page.
+ * With 0 places it keeps no records, as by compactd_open. With 1 to 65,536 places it keeps a journal, as by compactd_open_journal.
+ * Refused: OPEN; RANGE; MEMORY. */
+uint32_t compactd_open_sized(compactd_pool *pool, uint32_t page_words, uint32_t blocks, uint32_t spaces, uint32_t vpages, uint32_t places)
+    COMPACTD_CALL;
+
 /* Closes a pool and gives back its memory: that of its pages, its blocks and its journal.
  * Refused: CLOSED. */
 uint32_t compactd_close(compactd_pool *pool) COMPACTD_NOT_NULL;
@@ -261,12 +274,12 @@ uint32_t compactd_close(compactd_pool *pool) COMPACTD_NOT_NULL;
 
 /* Makes an address name a fresh page of zeros in the lowest free frame, and gets this frame. A page may be unmovable: then no round
  * moves it.
- * Refused: CLOSED; RANGE; JOURNAL_FULL; OCCUPIED; NO_FRAME. */
+ * Refused: CLOSED; RANGE, also where the pool doesn't have the address; JOURNAL_FULL; OCCUPIED; NO_FRAME. */
 uint32_t compactd_map(compactd_pool *pool, uint32_t client, uint32_t space, uint32_t vpage, compactd_bool unmovable, uint32_t *frame)
     COMPACTD_CALL;
 
 /* Like compactd_map, but in the given frame.
- * Refused: CLOSED; RANGE; JOURNAL_FULL; OCCUPIED; NO_FRAME where the frame isn't free. */
+ * Refused: CLOSED; RANGE, as compactd_map is; JOURNAL_FULL; OCCUPIED; NO_FRAME where the frame isn't free. */
 uint32_t compactd_map_at(compactd_pool *pool, uint32_t client, uint32_t space, uint32_t vpage, compactd_bool unmovable, uint32_t frame)
     COMPACTD_CALL;
 
@@ -289,7 +302,8 @@ uint32_t compactd_write(compactd_pool *pool, uint32_t client, uint32_t space, ui
                         size_t count) COMPACTD_CALL_WITH_WORDS;
 
 /* Makes an alias name the page of an address too.
- * Refused: CLOSED; RANGE; JOURNAL_FULL; UNMAPPED; MOVING; OCCUPIED where the alias names a page; SHARE_FULL. */
+ * Refused: CLOSED; RANGE, also where the pool doesn't have the alias; JOURNAL_FULL; UNMAPPED; MOVING; OCCUPIED where the alias names a page;
+ * SHARE_FULL. */
 uint32_t compactd_share(compactd_pool *pool, uint32_t client, uint32_t space, uint32_t vpage, uint32_t alias_space, uint32_t alias_vpage)
     COMPACTD_CALL;
 

@@ -38,13 +38,21 @@ private:
     std::uint32_t refusal_;
 };
 
-// What names a page: a space, 0 to 7, and a virtual page, 0 to 4095.
+// What names a page: a space, and a virtual page of it. A pool has 8 spaces of 4,096 virtual pages, or those of its PoolSize.
 struct Address {
     std::uint32_t space;
     std::uint32_t vpage;
 };
 
 enum class PageSize : std::uint32_t { bytes64 = 8, bytes4096 = 512 };
+
+// How large a pool is: 1 to 32,768 pageblocks, 1 to 256 spaces and 1 to 16,777,216 virtual pages of each space; these are at most 67,108,864
+// addresses in all, and each takes 8 bytes of memory.
+struct PoolSize {
+    std::uint32_t blocks;
+    std::uint32_t spaces;
+    std::uint32_t vpages;
+};
 
 namespace detail {
 
@@ -235,10 +243,17 @@ public:
         detail::done(compactd_open(&handle_->raw, static_cast<std::uint32_t>(page_size), blocks));
     }
 
-    // A pool that keeps a record of each accepted call, in a journal of 1 to 65,536 places.
+    // A pool that keeps a record of each accepted call, in a journal of 1 to 65,536 places, with 1 to 8 pageblocks.
     Pool(PageSize page_size, std::uint32_t blocks, std::uint32_t places) : handle_(std::make_shared<detail::Handle>())
     {
         detail::done(compactd_open_journal(&handle_->raw, static_cast<std::uint32_t>(page_size), blocks, places));
+    }
+
+    // A pool of any size. It keeps a record of each accepted call where its journal has places, 1 to 65,536, and else none.
+    Pool(PageSize page_size, PoolSize size, std::uint32_t places = 0) : handle_(std::make_shared<detail::Handle>())
+    {
+        const std::uint32_t page_words = static_cast<std::uint32_t>(page_size);
+        detail::done(compactd_open_sized(&handle_->raw, page_words, size.blocks, size.spaces, size.vpages, places));
     }
 
     Pool(Pool &&) noexcept = default;

@@ -83,6 +83,30 @@ static void closed(compactd_pool *pool)
     IS(CLOSED, compactd_close(pool));
 }
 
+/* Addresses out of the ranges of all pools are refused by each call. Those that this pool doesn't have can't name a page, and name none. */
+static void addresses(compactd_pool *pool)
+{
+    const uint32_t most_spaces = 256, most_vpages = 1 << 24;
+
+    IS(RANGE, compactd_load(pool, 0, most_spaces, 0, 0, &value));
+    IS(RANGE, compactd_read(pool, 0, 0, most_vpages, 0, words, 0));
+    IS(RANGE, compactd_unmap(pool, 0, most_spaces, 0));
+    IS(RANGE, compactd_share(pool, 0, 0, most_vpages, 0, 0));
+    IS(RANGE, compactd_look(pool, most_spaces, most_vpages, &info));
+    IS(UNMAPPED, compactd_load(pool, 0, 8, 0, 0, &value));
+    IS(UNMAPPED, compactd_store(pool, 0, 0, 4096, 0, 1));
+    IS(UNMAPPED, compactd_read(pool, 0, most_spaces - 1, 0, 0, words, 1));
+    IS(UNMAPPED, compactd_write(pool, 0, 0, most_vpages - 1, 0, words, 1));
+    IS(UNMAPPED, compactd_unmap(pool, 0, 8, 0));
+    IS(UNMAPPED, compactd_pin(pool, 0, 7, 4096));
+    IS(UNMAPPED, compactd_unpin(pool, 0, 8, 4095));
+    IS(UNMAPPED, compactd_share(pool, 0, 8, 0, 7, 4095));
+    IS(UNMAPPED, compactd_look(pool, most_spaces - 1, most_vpages - 1, &info));
+    IS(RANGE, compactd_share(pool, 0, 8, 0, 8, 0));
+    IS(RANGE, compactd_map(pool, 0, most_spaces - 1, 0, 0, &frame));
+    IS(RANGE, compactd_map_at(pool, 0, 0, most_vpages - 1, 0, 0));
+}
+
 /* Arguments out of their ranges, of a pool with one pageblock. */
 static void ranges(compactd_pool *pool, uint32_t page_words)
 {
@@ -101,7 +125,7 @@ static void ranges(compactd_pool *pool, uint32_t page_words)
     IS(RANGE, compactd_read(pool, 0, 0, 0, far, words, 2));
     IS(RANGE, compactd_write(pool, 0, 0, 0, page_words - 1, words, 2));
     IS(RANGE, compactd_share(pool, 0, 0, 0, 0, 4096));
-    IS(RANGE, compactd_unmap(pool, 0, 8, 0));
+    IS(RANGE, compactd_unmap(pool, 8, 0, 0));
     IS(RANGE, compactd_pin(pool, 8, 0, 0));
     IS(RANGE, compactd_unpin(pool, 0, 0, far));
     IS(RANGE, compactd_take_order(pool, 2, &frame));
@@ -115,7 +139,7 @@ static void ranges(compactd_pool *pool, uint32_t page_words)
     IS(RANGE, compactd_mark(pool, 1));
     IS(RANGE, compactd_unmark(pool, 8));
     IS(RANGE, compactd_marked(pool, 1, &is_so));
-    IS(RANGE, compactd_look(pool, 0, 4096, &info));
+    IS(RANGE, compactd_look(pool, far, 0, &info));
     IS(RANGE, compactd_record_at(pool, 0, &record));
     IS(RANGE, compactd_free_runs(pool, 10, &runs));
     IS(RANGE, compactd_free_runs(pool, far, &runs));
@@ -643,7 +667,111 @@ static void described(compactd_pool *pool, uint32_t page_words, uint32_t blocks,
     memset(&geometry, 0xA5, sizeof geometry);
     OK(compactd_describe(pool, &geometry));
     HOLDS(geometry.page_words == page_words && geometry.blocks == blocks && geometry.places == places);
-    HOLDS(geometry.reserved[0] == 0 && geometry.reserved[1] == 0);
+    HOLDS(geometry.reserved == 0);
+}
+
+static void has_addresses(uint32_t spaces, uint32_t vpages)
+{
+    HOLDS(geometry.spaces == spaces && geometry.vpages == vpages);
+}
+
+/* The last address of a pool names a page, which is moved, and so does its first one. Those past the last space and the last virtual page
+ * can't. */
+static void last_address(compactd_pool *pool, uint32_t spaces, uint32_t vpages)
+{
+    const uint32_t space = spaces - 1, vpage = vpages - 1;
+
+    OK(compactd_map(pool, 0, space, vpage, 0, &frame));
+    OK(compactd_store(pool, 0, space, vpage, 7, 5));
+    IS(UNMAPPED, compactd_look(pool, 0, 0, &info));
+    OK(compactd_share(pool, 0, space, vpage, 0, 0));
+    IS(RANGE, compactd_map(pool, 0, spaces, 0, 0, &frame));
+    IS(RANGE, compactd_map_at(pool, 0, 0, vpages, 0, 9));
+    IS(RANGE, compactd_share(pool, 0, 0, 0, spaces, vpage));
+    IS(RANGE, compactd_share(pool, 0, 0, 0, space, vpages));
+    OK(compactd_compact(pool, &is_so));
+    OK(compactd_look(pool, space, vpage, &info));
+    HOLDS(is_so && info.frame > 9 && info.maps == 2);
+    OK(compactd_load(pool, 0, 0, 0, 7, &value));
+    HOLDS(value == 5);
+    OK(compactd_unmap(pool, 0, 0, 0));
+    IS(UNMAPPED, compactd_load(pool, 0, 0, 0, 7, &value));
+    OK(compactd_load(pool, 0, space, vpage, 7, &value));
+    HOLDS(value == 5);
+    OK(compactd_unmap(pool, 0, space, vpage));
+}
+
+/* A pool of this size, with and without a journal. */
+static void sized(uint32_t page_words, uint32_t blocks, uint32_t spaces, uint32_t vpages)
+{
+    static const uint32_t places[] = {0, 77};
+    uint32_t at;
+
+    for (at = 0; at < 2; at++) {
+        compactd_pool pool = {0};
+
+        OK(compactd_open_sized(&pool, page_words, blocks, spaces, vpages, places[at]));
+        IS(OPEN, compactd_open_sized(&pool, page_words, blocks, spaces, vpages, places[at]));
+        described(&pool, page_words, blocks, places[at]);
+        has_addresses(spaces, vpages);
+        last_address(&pool, spaces, vpages);
+        IS(RANGE, compactd_map_at(&pool, 0, 0, 0, 0, 512 * blocks));
+        OK(compactd_map_at(&pool, 0, 0, 0, 0, 512 * blocks - 1));
+        OK(compactd_close(&pool));
+    }
+}
+
+/* One past each end of a range, also where the product of the spaces and virtual pages wraps around at 2^32. */
+static void sizes_out_of_range(uint32_t page_words)
+{
+    const uint32_t most_places = 65536, most_vpages = 1 << 24, far = 0xFFFFFFFFu;
+    compactd_pool pool = {0};
+
+    IS(RANGE, compactd_open_sized(&pool, page_words + 1, 1, 1, 1, 0));
+    IS(RANGE, compactd_open_sized(&pool, page_words, 0, 1, 1, 0));
+    IS(RANGE, compactd_open_sized(&pool, page_words, 32769, 1, 1, 0));
+    IS(RANGE, compactd_open_sized(&pool, page_words, 1, 0, 1, 0));
+    IS(RANGE, compactd_open_sized(&pool, page_words, 1, 257, 1, 0));
+    IS(RANGE, compactd_open_sized(&pool, page_words, 1, 1, 0, 0));
+    IS(RANGE, compactd_open_sized(&pool, page_words, 1, 1, most_vpages + 1, 0));
+    IS(RANGE, compactd_open_sized(&pool, page_words, 1, 5, most_vpages, 0));
+    IS(RANGE, compactd_open_sized(&pool, page_words, 1, 256, 262145, 0));
+    IS(RANGE, compactd_open_sized(&pool, page_words, 1, 256, most_vpages, 0));
+    IS(RANGE, compactd_open_sized(&pool, page_words, 1, 1, 1, most_places + 1));
+    IS(RANGE, compactd_open_sized(&pool, far, far, far, far, far));
+    closed(&pool);
+}
+
+/* Pools of odd sizes: of the smallest one, of more pageblocks with a journal than compactd_open_journal has, and of the most spaces. */
+static void odd_sizes(uint32_t page_words)
+{
+    sizes_out_of_range(page_words);
+    sized(page_words, 1, 1, 2);
+    sized(page_words, 9, 7, 4097);
+    sized(page_words, 3, 256, 1001);
+    sized(page_words, 2, 8, 4096);
+}
+
+/* A pool with more pages than other pools have addresses: each of its addresses names one. */
+static void page_of_each_address(void)
+{
+    const uint32_t blocks = 70, spaces = 5, vpages = 7168;
+    compactd_pool pool = {0};
+    uint32_t at;
+
+    OK(compactd_open_sized(&pool, 8, blocks, spaces, vpages, 0));
+    for (at = 0; at < 512 * blocks; at++) {
+        OK(compactd_map(&pool, 0, at / vpages, at % vpages, 0, &frame));
+        OK(compactd_store(&pool, 0, at / vpages, at % vpages, 7, at));
+    }
+    OK(compactd_info(&pool, &counts));
+    HOLDS(counts.pages == 35840 && counts.free == 0);
+    IS(OCCUPIED, compactd_map(&pool, 0, spaces - 1, vpages - 1, 0, &frame));
+    for (at = 0; at < 512 * blocks; at++) {
+        OK(compactd_load(&pool, 0, at / vpages, at % vpages, 7, &value));
+        HOLDS(value == at);
+    }
+    OK(compactd_close(&pool));
 }
 
 static void every_number_of_blocks(uint32_t page_words)
@@ -714,6 +842,7 @@ static void journal(uint32_t page_words)
     IS(RANGE, compactd_open_journal(&pool, page_words, 9, 4));
     OK(compactd_open_journal(&pool, page_words, 1, 4));
     described(&pool, page_words, 1, 4);
+    has_addresses(8, 4096);
     OK(compactd_map(&pool, 0, 0, 0, 0, &frame));
     OK(compactd_begin_round(&pool));
     OK(compactd_isolate(&pool, &page, words, page_words));
@@ -750,9 +879,12 @@ static void both_sizes(uint32_t page_words)
     closed(&pool);
     OK(compactd_open(&pool, page_words, 1));
     described(&pool, page_words, 1, 0);
+    has_addresses(8, 4096);
     IS(OPEN, compactd_open(&pool, page_words, 1));
     IS(OPEN, compactd_open_journal(&pool, page_words, 1, 1));
+    IS(OPEN, compactd_open_sized(&pool, 0, 0, 0, 0, 0));
     ranges(&pool, page_words);
+    addresses(&pool);
     pages(&pool, page_words);
     blocks(&pool, page_words);
     moved_by_hand(&pool, page_words);
@@ -769,6 +901,7 @@ static void both_sizes(uint32_t page_words)
     reservations_of_a_journal(page_words);
     every_number_of_blocks(page_words);
     many_pageblocks(page_words, 9);
+    odd_sizes(page_words);
 }
 
 /* What one of these leaves behind is seen by the tools that look for memory that is lost. */
@@ -798,5 +931,7 @@ int main(void)
     both_sizes(8);
     both_sizes(512);
     many_pageblocks(8, 513);
+    sized(8, 1, 1, 16777216);
+    page_of_each_address();
     return wrong;
 }

@@ -15,6 +15,7 @@ using compactd::Huge;
 using compactd::Moving;
 using compactd::PageSize;
 using compactd::Pool;
+using compactd::PoolSize;
 
 static_assert(!std::is_copy_constructible<Pool>::value && !std::is_copy_assignable<Pool>::value, "a pool isn't copied");
 static_assert(!std::is_copy_constructible<Huge>::value && !std::is_copy_assignable<Huge>::value, "a huge page isn't copied");
@@ -74,6 +75,26 @@ void pools()
     HOLDS(other.compact() && other.quiet() && other.audit().moved == 1 && other.look(alias).frame == 511);
     other.map_at(0, at, 7, true);
     HOLDS(other.look(at).flags == COMPACTD_UNMOVABLE);
+}
+
+// Pools of other sizes, which know their addresses.
+void sizes()
+{
+    HOLDS(refusal([] { Pool(PageSize::bytes64, {1, 257, 1}); }) == COMPACTD_RANGE);
+    HOLDS(refusal([] { Pool(PageSize::bytes64, {1, 256, 262145}); }) == COMPACTD_RANGE); // 256 addresses too many
+    HOLDS(refusal([] { Pool(PageSize::bytes64, {1, 1, 1}, 65537); }) == COMPACTD_RANGE);
+    const PoolSize size = {10, 3, 5001};
+    Pool pool(PageSize::bytes64, size), kept(PageSize::bytes4096, {9, 256, 7}, 3);
+    HOLDS(pool.describe().blocks == 10 && pool.describe().spaces == 3 && pool.describe().vpages == 5001 && pool.describe().places == 0);
+    HOLDS(kept.describe().blocks == 9 && kept.describe().spaces == 256 && kept.describe().vpages == 7 && kept.describe().places == 3);
+    pool.map(0, {2, 5000});
+    HOLDS(refusal([&] { pool.map(0, {2, 5001}); }) == COMPACTD_RANGE && refusal([&] { pool.map_at(0, {3, 0}, 9); }) == COMPACTD_RANGE);
+    HOLDS(refusal([&] { pool.load(0, {3, 0}, 0); }) == COMPACTD_UNMAPPED && refusal([&] { pool.look({256, 0}); }) == COMPACTD_RANGE);
+    kept.map(0, {255, 6});
+    kept.share(0, {255, 6}, {0, 0});
+    HOLDS(kept.look({0, 0}).maps == 2 && kept.record_at(1).space == 255 && kept.record_at(1).vpage == 6);
+    kept = std::move(pool);
+    HOLDS(kept.describe().vpages == 5001 && kept.look({2, 5000}).frame == 0);
 }
 
 void huge_pages()
@@ -272,7 +293,7 @@ void questions()
 {
     const Pool pool(PageSize::bytes4096, 3), kept(PageSize::bytes64, 1, 77);
     HOLDS(pool.describe().page_words == 512 && pool.describe().blocks == 3 && pool.describe().places == 0);
-    HOLDS(kept.describe().page_words == 8 && kept.describe().places == 77);
+    HOLDS(kept.describe().page_words == 8 && kept.describe().places == 77 && kept.describe().spaces == 8 && kept.describe().vpages == 4096);
     HOLDS(pool.free_runs(9) == 3 && pool.free_runs(0) == 0 && pool.fragmentation(9) == -1000);
     HOLDS(refusal([&] { pool.free_runs(10); }) == COMPACTD_RANGE && refusal([&] { pool.fragmentation(10); }) == COMPACTD_RANGE);
     HOLDS(std::string(Error(COMPACTD_NOT_HUGE).what()) == "compactd: no block of this order that begins at this frame is handed out");
@@ -294,6 +315,7 @@ void journals()
 int main()
 {
     pools();
+    sizes();
     huge_pages();
     moves_into_themselves();
     pools_that_go();

@@ -48,9 +48,16 @@ void __wrap_free(void *block)
     __real_free(block);
 }
 
-static uint32_t open_pool(compactd_pool *pool, uint32_t page_words, uint32_t places)
+/* How a pool is opened: by compactd_open_sized where it is told how many virtual pages its 5 spaces have, and else by the other calls. */
+struct opening {
+    uint32_t page_words, places, vpages;
+};
+
+static uint32_t open_pool(compactd_pool *pool, const struct opening *as)
 {
-    return places ? compactd_open_journal(pool, page_words, 8, places) : compactd_open(pool, page_words, 8);
+    if (as->vpages)
+        return compactd_open_sized(pool, as->page_words, 8, 5, as->vpages, as->places);
+    return as->places ? compactd_open_journal(pool, as->page_words, 8, as->places) : compactd_open(pool, as->page_words, 8);
 }
 
 /* How many of the calls below were accepted, and how many were refused. */
@@ -187,7 +194,7 @@ static int asks_no_more(compactd_pool *pool, uint32_t page_words)
     return requests == opening && held == 0 && accepted > 0 && refusals > 0;
 }
 
-static int try_each(uint32_t page_words, uint32_t places)
+static int try_each(const struct opening *as)
 {
     compactd_pool pool = {0};
     uint32_t frame = 7;
@@ -196,10 +203,10 @@ static int try_each(uint32_t page_words, uint32_t places)
         uint32_t answer;
 
         requests = 0;
-        answer = open_pool(&pool, page_words, places);
+        answer = open_pool(&pool, as);
         if (requests < refused) {
             refused = 0;
-            return answer == COMPACTD_OK && asks_for_a_list(&pool) && asks_no_more(&pool, page_words);
+            return answer == COMPACTD_OK && asks_for_a_list(&pool) && asks_no_more(&pool, as->page_words);
         }
         if (answer != COMPACTD_MEMORY || held != 0)
             return 0;
@@ -211,6 +218,13 @@ static int try_each(uint32_t page_words, uint32_t places)
 
 int main(void)
 {
+    static const struct opening openings[] = {{8, 0, 0}, {512, 0, 0}, {8, 65536, 0}, {512, 1, 0}, {8, 0, 999}, {512, 3000, 70001}};
+    const size_t count = sizeof openings / sizeof openings[0];
+    size_t at;
+
     setvbuf(stdout, NULL, _IONBF, 0);
-    return try_each(8, 0) && try_each(512, 0) && try_each(8, 65536) && try_each(512, 1) ? 0 : 1;
+    for (at = 0; at < count; at++)
+        if (!try_each(&openings[at]))
+            return 1;
+    return 0;
 }

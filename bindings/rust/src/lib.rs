@@ -51,7 +51,7 @@ mod rounds;
 pub use error::Error;
 pub use huge::{Huge, Kept};
 pub use moving::{Move, Moving, MovingGuard, MovingPage};
-pub use pool::{version, Address, PageSize, Pool};
+pub use pool::{version, Address, PageSize, Pool, PoolSize};
 pub use questions::{Look, Place};
 pub use raw::{Counts, Geometry, RoundCounts};
 pub use record::Record;

@@ -27,7 +27,19 @@ impl PageSize {
     }
 }
 
-/// What names a page: a space, 0 to 7, and a virtual page, 0 to 4095.
+/// How large a pool is: how many pageblocks it has, and how many addresses. These are at most 67,108,864 in all, and each takes 8 bytes of
+/// memory, whether or not it names a page.
+#[derive(Clone, Copy, Debug, PartialEq, Eq)]
+pub struct PoolSize {
+    /// Pageblocks of 512 frames: 1 to 32,768.
+    pub blocks: u32,
+    /// Address spaces: 1 to 256.
+    pub spaces: u32,
+    /// Virtual pages of each space: 1 to 16,777,216.
+    pub vpages: u32,
+}
+
+/// What names a page: a space, and a virtual page of it. A pool has 8 spaces of 4,096 virtual pages, or those of its [`PoolSize`].
 #[derive(Clone, Copy, Debug, PartialEq, Eq, Hash, PartialOrd, Ord)]
 pub struct Address {
     /// The space.
@@ -37,7 +49,8 @@ pub struct Address {
 }
 
 impl Address {
-    /// The address with these numbers. A call with one that is out of its range is refused as [`Error::Range`].
+    /// The address with these numbers. A call that would make one name a page that the pool doesn't have is refused as [`Error::Range`]. Other
+    /// calls with it are refused as [`Error::Unmapped`], or as [`Error::Range`] where no pool can have it.
     pub fn new(space: u32, vpage: u32) -> Address {
         Address { space, vpage }
     }
@@ -88,19 +101,39 @@ pub(crate) fn done(answer: u32) -> Result<(), Error> {
 // SAFETY, of each call of this crate on a pool: the handle was zeroed, and is this pool's, which is borrowed alone; each other pointer leads
 // to a value of its type, or to as many words as the count says, and no two overlap.
 impl Pool {
-    /// Opens a pool with 1 to 32,768 pageblocks of 512 frames. It keeps no records.
+    /// Opens a pool with 1 to 32,768 pageblocks of 512 frames, and 8 spaces of 4,096 virtual pages. It keeps no records.
     ///
     /// Refused as [`Error::Range`] or [`Error::Memory`].
     pub fn open(page_size: PageSize, blocks: u32) -> Result<Pool, Error> {
         Pool::of(page_size, |raw| unsafe { raw::compactd_open(raw, page_size.words(), blocks) })
     }
 
-    /// Opens a pool that keeps a record of each accepted call, in a journal of 1 to 65,536 places. When only the places for the ends of
-    /// moves are left, calls are refused as [`Error::JournalFull`].
+    /// Opens a pool that keeps a record of each accepted call, in a journal of 1 to 65,536 places. It has 1 to 8 pageblocks, and 8 spaces of
+    /// 4,096 virtual pages. When only the places for the ends of moves are left, calls are refused as [`Error::JournalFull`].
     ///
     /// Refused as [`Error::Range`] or [`Error::Memory`].
     pub fn open_journal(page_size: PageSize, blocks: u32, places: u32) -> Result<Pool, Error> {
         Pool::of(page_size, |raw| unsafe { raw::compactd_open_journal(raw, page_size.words(), blocks, places) })
+    }
+
+    /// Opens a pool of any size. With 0 places it keeps no records, as by [`Pool::open`]; with 1 to 65,536 places it keeps a journal, as by
+    /// [`Pool::open_journal`].
+    ///
+    /// ```
+    /// # use compactd::{Address, Error, PageSize, Pool, PoolSize};
+    /// # fn main() -> Result<(), Error> {
+    /// // As many addresses as frames, in two spaces.
+    /// let mut pool = Pool::open_sized(PageSize::Bytes64, PoolSize { blocks: 9, spaces: 2, vpages: 2304 }, 0)?;
+    /// pool.map(0, Address::new(1, 2303), false)?;
+    /// assert_eq!(pool.map(0, Address::new(1, 2304), false), Err(Error::Range));
+    /// # Ok(())
+    /// # }
+    /// ```
+    ///
+    /// Refused as [`Error::Range`] or [`Error::Memory`].
+    pub fn open_sized(page_size: PageSize, size: PoolSize, places: u32) -> Result<Pool, Error> {
+        let PoolSize { blocks, spaces, vpages } = size;
+        Pool::of(page_size, |raw| unsafe { raw::compactd_open_sized(raw, page_size.words(), blocks, spaces, vpages, places) })
     }
 
     fn of(page_size: PageSize, open: impl FnOnce(&mut raw::Handle) -> u32) -> Result<Pool, Error> {

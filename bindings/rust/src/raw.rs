@@ -36,7 +36,11 @@ pub struct Geometry {
     pub blocks: u32,
     /// Places of its journal, used or not; 0 where it keeps none.
     pub places: u64,
-    reserved: [u64; 2],
+    /// Address spaces: 1 to 256.
+    pub spaces: u32,
+    /// Virtual pages of each space: 1 to 16,777,216.
+    pub vpages: u32,
+    reserved: u64,
 }
 
 #[repr(C)]
@@ -99,6 +103,7 @@ pub struct Record {
 extern "C" {
     pub fn compactd_open(pool: *mut Handle, page_words: u32, blocks: u32) -> u32;
     pub fn compactd_open_journal(pool: *mut Handle, page_words: u32, blocks: u32, places: u32) -> u32;
+    pub fn compactd_open_sized(pool: *mut Handle, page_words: u32, blocks: u32, spaces: u32, vpages: u32, places: u32) -> u32;
     pub fn compactd_close(pool: *mut Handle) -> u32;
     pub fn compactd_map(pool: *mut Handle, client: u32, space: u32, vpage: u32, unmovable: bool, frame: *mut u32) -> u32;
     pub fn compactd_map_at(pool: *mut Handle, client: u32, space: u32, vpage: u32, unmovable: bool, frame: u32) -> u32;

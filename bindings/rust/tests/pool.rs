@@ -2,7 +2,7 @@
 
 use std::sync::Mutex;
 
-use compactd::{Address, Error, Kept, MovingGuard, PageSize, Place, Pool, Record, Reserved, Slice, Stopped};
+use compactd::{Address, Error, Kept, MovingGuard, PageSize, Place, Pool, PoolSize, Record, Reserved, Slice, Stopped};
 
 fn pool() -> Pool {
     Pool::open(PageSize::Bytes64, 1).expect("a pool of one pageblock can be opened")
@@ -20,6 +20,44 @@ fn refuses_numbers_out_of_their_ranges() {
     assert_eq!(pool.map(0, Address::new(8, 0), false), Err(Error::Range));
     assert_eq!(pool.take_huge(10), Err(Error::Range));
     assert_eq!(pool.marked(1), Err(Error::Range));
+}
+
+#[test]
+fn refuses_sizes_out_of_range() {
+    let least = PoolSize { blocks: 1, spaces: 1, vpages: 1 };
+    let sizes = [
+        PoolSize { blocks: 0, ..least },
+        PoolSize { blocks: 32_769, ..least },
+        PoolSize { spaces: 0, ..least },
+        PoolSize { spaces: 257, ..least },
+        PoolSize { vpages: 0, ..least },
+        PoolSize { vpages: 16_777_217, ..least },
+        PoolSize { spaces: 256, vpages: 262_145, ..least },
+        PoolSize { spaces: 256, vpages: 16_777_216, ..least },
+    ];
+    for size in sizes {
+        assert_eq!(Pool::open_sized(PageSize::Bytes64, size, 0).err(), Some(Error::Range), "{size:?}");
+    }
+    assert_eq!(Pool::open_sized(PageSize::Bytes64, least, 65_537).err(), Some(Error::Range));
+}
+
+#[test]
+fn has_the_addresses_that_it_is_opened_with() {
+    let last = Address::new(18, 5002);
+    let mut pool = Pool::open_sized(PageSize::Bytes4096, PoolSize { blocks: 9, spaces: 19, vpages: 5003 }, 6).unwrap();
+    let geometry = pool.geometry();
+    assert_eq!((geometry.blocks, geometry.spaces, geometry.vpages, geometry.places), (9, 19, 5003, 6));
+    pool.map(0, last, false).unwrap();
+    for past in [Address::new(19, 0), Address::new(0, 5003)] {
+        assert_eq!([pool.map(0, past, false).err(), pool.share(0, last, past).err()], [Some(Error::Range); 2]);
+        assert_eq!([pool.load(0, past, 0).err(), pool.look(past).err(), pool.unmap(0, past).err()], [Some(Error::Unmapped); 3]);
+    }
+    let far = [Address::new(256, 0), Address::new(0, 16_777_216)];
+    assert_eq!(far.map(|far| pool.look(far)), [Err(Error::Range); 2]);
+    pool.share(0, last, AT).unwrap();
+    assert_eq!(pool.record_at(1), Ok(Record::Share { client: 0, address: last, alias: AT }));
+    pool.compact().unwrap();
+    assert_eq!(pool.look(last).unwrap().place, Place::At { frame: 4607, unmovable: false, dirty: false });
 }
 
 #[test]
@@ -236,6 +274,7 @@ fn describes_itself() {
     let mut pool = Pool::open_journal(PageSize::Bytes4096, 3, 77).unwrap();
     let geometry = pool.geometry();
     assert_eq!((geometry.page_words, geometry.blocks, geometry.places), (512, 3, 77));
+    assert_eq!((geometry.spaces, geometry.vpages), (8, 4096));
     assert_eq!(self::pool().geometry().places, 0);
 }
 
