@@ -66,7 +66,6 @@ FACTS = {
     "the addresses of a page": rf"(?:up to|1 to) {N} addresses|Addresses of a page \| {N}",
     "the pins of a page": r"(\d\d+) pins|Pins of a page \| (\d+)",
     "the records of a kept journal": rf"(?:at most|up to|1 to) {N} (?:records|places)|Places of the journal \| {N}",
-    "the isolations of a pool's life": r"2\^(\d+) - 1 (?:isolations|isolated|pages)",
     "the recorded calls of a pool's life": r"2\^(\d+) (?:recorded )?(?:calls|records|places)",
 }
 

@@ -30,12 +30,9 @@
  *   on different pools need no lock. One thread may open a pool, another use it, and a third close it.
  * - An open pool is closed in the end; otherwise its memory is lost.
  *
- * Three caps of a pool's life. The way out of each is to close the pool and open another.
- * - 2^32 - 1 isolations: each page that a round, an evacuation or a reservation takes is isolated. After them compactd_isolate,
- *   compactd_evacuate and compactd_reserve answer JOURNAL_FULL where a page has to move, compactd_move_pages stops so, and the scanners of
- *   compactd_compact don't meet. At 2 us a page that is 2.4 hours of steady compaction.
- * - 2^53 recorded calls of a pool that keeps no journal; each word of compactd_read and compactd_write counts as one. After them recorded
- *   calls are refused as JOURNAL_FULL.
+ * Two caps of a pool's life. The way out of each is to close the pool and open another.
+ * - 2^53 recorded calls of a pool that keeps no journal; each word of compactd_read and compactd_write counts as one, and each page that is
+ *   moved as two. After them recorded calls are refused as JOURNAL_FULL. At 2 us a page that is 285 years of steady compaction.
  * - A journal that is kept has the places that it was opened with. It can't be emptied.
  *
  * As long as the caller does what it owes, no call prints, waits, starts a thread or ends the process. Only compactd_open,
@@ -99,7 +96,7 @@ typedef struct compactd_pool {
 enum compactd_refusal {
     COMPACTD_OK = 0,            /* done */
     COMPACTD_RANGE = 1,         /* an argument is out of its range */
-    COMPACTD_JOURNAL_FULL = 2,  /* the journal has no place left but those for the ends of moves, or 2^32 - 1 pages were isolated */
+    COMPACTD_JOURNAL_FULL = 2,  /* the journal has no place left but those for the ends of moves */
     COMPACTD_UNMAPPED = 3,      /* the address names no page */
     COMPACTD_MOVING = 4,        /* the page is moving */
     COMPACTD_OCCUPIED = 5,      /* the address names a page already */
@@ -127,7 +124,7 @@ COMPACTD_IN_HEADER const char *compactd_refusal_text(uint32_t refusal)
     switch (refusal) {
     case COMPACTD_OK: return "done";
     case COMPACTD_RANGE: return "an argument is out of its range";
-    case COMPACTD_JOURNAL_FULL: return "the journal has no place left but those for the ends of moves, or 2^32 - 1 pages were isolated";
+    case COMPACTD_JOURNAL_FULL: return "the journal has no place left but those for the ends of moves";
     case COMPACTD_UNMAPPED: return "the address names no page";
     case COMPACTD_MOVING: return "the page is moving";
     case COMPACTD_OCCUPIED: return "the address names a page already";
@@ -409,7 +406,7 @@ uint32_t compactd_next_moving(compactd_pool *pool, uint32_t from, compactd_movin
 /* Rounds. A round moves the lowest page that can be moved to the highest free frame, and so on until its two scanners meet. */
 
 /* Makes a whole round on the calling thread, and gets whether its scanners met. They don't where the journal has no room for a further
- * move, or 2^32 - 1 pages were isolated.
+ * move.
  * Refused: CLOSED. */
 uint32_t compactd_compact(compactd_pool *pool, compactd_bool *met) COMPACTD_CALL;
 
@@ -425,14 +422,14 @@ uint32_t compactd_begin_round(compactd_pool *pool) COMPACTD_CALL;
 
 /* Moves the next pages of the round that was begun last, so many at most, each by one copy from frame to frame. Gets how many were moved, and
  * in `stopped` 0 where they are as many as were asked for, and else why there were no more: JOURNAL_FULL where the journal has no room for a
- * further move, or 2^32 - 1 pages were isolated; MET, also where no round was begun. With `most` 0 it moves nothing, and both are 0.
+ * further move; MET, also where no round was begun. With `most` 0 it moves nothing, and both are 0.
  * Refused: CLOSED. */
 uint32_t compactd_move_pages(compactd_pool *pool, uint32_t most, uint32_t *moved, uint32_t *stopped) COMPACTD_CALL;
 
 /* Isolates the next page of the round and copies its words. `count` is the number of words of a page, and `words` has room for them. The
  * page is moving until it is committed or put back.
- * Refused: CLOSED; RANGE where the count isn't that of a page; JOURNAL_FULL where there aren't two places, or 2^32 - 1 pages were isolated;
- * MET, also where no round was begun. */
+ * Refused: CLOSED; RANGE where the count isn't that of a page; JOURNAL_FULL where there aren't two places; MET, also where no round
+ * was begun. */
 uint32_t compactd_isolate(compactd_pool *pool, compactd_moving_page *page, uint64_t *words, size_t count) COMPACTD_CALL;
 
 /* Ends the move of a page with a copy of its words, which are compared with those of the page. Gets whether the page was moved to its new

@@ -410,8 +410,7 @@ public:
 
     // Rounds.
 
-    // Makes a whole round on this thread. Returns whether its scanners met; else the journal had no room for a further move, or the pool has
-    // taken 2^32 - 1 pages in its rounds.
+    // Makes a whole round on this thread. Returns whether its scanners met; else the journal had no room for a further move.
     bool compact()
     {
         bool met = false;

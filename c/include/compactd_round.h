@@ -79,8 +79,8 @@ static int compactd_round_lock(pthread_mutex_t *lock)
  * pages are copied.
  *
  * Answers 0 where the scanners of the round met, and else a number of enum compactd_refusal. RANGE: no page is asked for at a time, and
- * nothing changes. CLOSED. JOURNAL_FULL: the journal has no room for a further move, or 2^32 - 1 pages were isolated. In each case it tells
- * how many pages it moved: each of them was isolated, and none was put back.
+ * nothing changes. CLOSED. JOURNAL_FULL: the journal has no room for a further move. In each case it tells how many pages it
+ * moved: each of them was isolated, and none was put back.
  *
  * The thread can't be cancelled until the round has ended, whatever its cancelability is. */
 COMPACTD_ROUND_UNUSED

@@ -6,7 +6,7 @@ use std::fmt;
 pub enum Error {
     /// An argument is out of its range.
     Range,
-    /// The journal has no place left but those for the ends of moves, or 2^32 - 1 pages were isolated.
+    /// The journal has no place left but those for the ends of moves.
     JournalFull,
     /// The address names no page.
     Unmapped,
@@ -47,7 +47,7 @@ pub enum Error {
 /// Each error but `Other`, with the number and the text that `compactd.h` has for it.
 const KNOWN: [(Error, u32, &str); 18] = [
     (Error::Range, 1, "an argument is out of its range"),
-    (Error::JournalFull, 2, "the journal has no place left but those for the ends of moves, or 2^32 - 1 pages were isolated"),
+    (Error::JournalFull, 2, "the journal has no place left but those for the ends of moves"),
     (Error::Unmapped, 3, "the address names no page"),
     (Error::Moving, 4, "the page is moving"),
     (Error::Occupied, 5, "the address names a page already"),

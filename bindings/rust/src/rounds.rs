@@ -19,7 +19,7 @@ pub struct Slice {
 pub enum Stopped {
     /// The scanners have met, or no round was begun.
     Met,
-    /// The journal has no room for a further move, or 2^32 - 1 pages were isolated.
+    /// The journal has no room for a further move.
     JournalFull,
 }
 
@@ -38,8 +38,8 @@ impl Pool {
     /// Makes a whole round on this thread: it moves the lowest page that can be moved to the highest free frame, and so on until its two
     /// scanners meet.
     ///
-    /// Refused as [`Error::JournalFull`] where the journal had no room for a further move, or 2^32 - 1 pages were isolated; the pages that
-    /// were moved until then stay in their new frames.
+    /// Refused as [`Error::JournalFull`] where the journal had no room for a further move; the pages that were moved until then stay in their
+    /// new frames.
     pub fn compact(&mut self) -> Result<(), Error> {
         let mut met = false;
         is_done(unsafe { raw::compactd_compact(&mut self.raw, &mut met) });
@@ -164,7 +164,7 @@ impl Pool {
     /// Isolates the next page of the round, which is moving from then on; None where the scanners have met. It allocates the words.
     /// In a pool that threads share, [`MovingGuard::isolate`] is safer: it puts a page back that is dropped.
     ///
-    /// Refused as [`Error::JournalFull`] where there aren't two places for its move, or 2^32 - 1 pages were isolated.
+    /// Refused as [`Error::JournalFull`] where there aren't two places for its move.
     ///
     /// [`MovingGuard::isolate`]: crate::MovingGuard::isolate
     pub fn isolate(&mut self) -> Result<Option<Moving>, Error> {

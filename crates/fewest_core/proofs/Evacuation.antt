@@ -16,7 +16,7 @@ use Rattle.state_core.specs.Isolating.{isolate_refusal}
 use Rattle.state_core.specs.Valid.{IsValidZone, is_under}
 use Rattle.state_core.specs.ZoneState.{ZoneState, is_free}
 use Rattle.state_core.proofs.Entries.{get_insert_same, get_insert_other}
-use Rattle.state_core.proofs.Facts.{not_none, room_and_serial}
+use Rattle.state_core.proofs.Facts.{not_none, room_for_two}
 use Rattle.state_core.proofs.Moving.{CanSettle, some_same}
 use Rattle.state_core.proofs.Places.{IsOutWith, free_count, page_count, valid_places, where_is}
 use Rattle.fewest_core.specs.Evacuation.{moved_away}
@@ -105,17 +105,16 @@ module _ (z : ZoneState) (m : Move) (law : IsValidZone z) (is : IsMove z m) wher
 
   pub valid_moved_away : isolate_refusal z ≡ None → IsValidZone (moved_away z m)
   valid_moved_away accepted =
-      let left = room_and_serial z accepted in
+      let left = room_for_two z accepted in
       let places = law.journal.places in
       subst (λ (p : map.FinMap nat_cmp Placement). IsValidZone (record (moved_away z m) { placement = p })) (sym placement_after) (record {
         size = law.size;
         addresses = law.addresses;
         journal = record {
-          places = omega (arith, places, left.0);
-          serials = omega (arith, left.1);
+          places = omega (arith, places, left);
           truthful = law.journal.truthful;
           well_ended = well_ended;
-          room_left = omega (arith, left.0, as_many_out);
+          room_left = omega (arith, left, as_many_out);
         };
         agrees = record {
           named = λ a q e. (let before = law.agrees.named a q e in (before.0, some_same can_settle q ∙ before.1));

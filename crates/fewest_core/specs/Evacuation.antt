@@ -1,10 +1,10 @@
 -- An evacuation: the pages of a run of frames go out of it, each to a free frame outside. When it is refused, and what it leaves.
-use Rattle.std.specs.Prelude.{◌≡◌, ◌≢◌, ℕ, zero, suc, ◌+◌, ◌-◌, ◌*◌, ◌/◌, ◌^◌, Bool, true, not, ◌&&◌, length, nat_le, nat_lt, if◌then◌else◌, Option, Some, None}
+use Rattle.std.specs.Prelude.{◌≡◌, ◌≢◌, ℕ, zero, suc, ◌+◌, ◌*◌, ◌/◌, ◌^◌, Bool, true, not, ◌&&◌, length, nat_le, nat_lt, if◌then◌else◌, Option, Some, None}
 use Rattle.std.specs.FinMap as map
 use Rattle.frame_core.specs.declared.place.Address.{Address}
 use Rattle.frame_core.specs.Below.{count_below, highest}
 use Rattle.frame_core.specs.History.{page_at}
-use Rattle.frame_core.specs.Moves.{isolated, out}
+use Rattle.frame_core.specs.Moves.{out}
 use Rattle.state_core.specs.declared.error.ZoneError.{ZoneError}
 use Rattle.state_core.specs.declared.error.ZoneError.TheVariants.{Range, NoBlock, JournalFull}
 use Rattle.state_core.specs.declared.placement.Placement.TheVariants.{At}
@@ -34,10 +34,9 @@ spare_frames first size z = count_below (is_spare first size z) (frame_count z)
 abbrev pub highest_spare : ℕ → ℕ → ZoneState → Option ℕ
 highest_spare first size z = highest (is_spare first size z) (frame_count z)
 
--- whether the journal has places for so many isolations and their ends, besides those for the ends of the pages that are out, and
--- so many serials are left
+-- whether the journal has places for so many isolations and their ends, besides those for the ends of the pages that are out
 abbrev pub has_room_for_moves : ZoneState → ℕ → Bool
-has_room_for_moves z count = nat_le (length (out z.records) + 2 * count) z.room && nat_le (isolated z.records + count) (2 ^ 32 - 1)
+has_room_for_moves z count = nat_le (length (out z.records) + 2 * count) z.room
 
 -- whether the pages of a run can go out of it: the run is open, and there are as many spare frames as it has pages
 abbrev pub can_empty : ZoneState → ℕ → ℕ → Bool

@@ -1,9 +1,9 @@
 -- A reservation: the n cheapest open runs are emptied and handed out, which moves the fewest pages. Which runs are picked, when it
 -- is refused, and what it leaves.
-use Rattle.std.specs.Prelude.{◌≡◌, ℕ, zero, suc, ◌+◌, ◌-◌, ◌*◌, ◌/◌, ◌^◌, ◌<◌, Bool, true, not, ◌&&◌, ◌||◌, List, length, nat_eq, nat_le, nat_lt, if◌then◌else◌, Option, Some, None, slice_index}
+use Rattle.std.specs.Prelude.{◌≡◌, ℕ, zero, suc, ◌+◌, ◌*◌, ◌/◌, ◌^◌, ◌<◌, Bool, true, not, ◌&&◌, ◌||◌, List, length, nat_eq, nat_le, nat_lt, if◌then◌else◌, Option, Some, None, slice_index}
 use Rattle.std.specs.List.{list_any}
 use Rattle.frame_core.specs.Below.{count_below, highest}
-use Rattle.frame_core.specs.Moves.{isolated, out}
+use Rattle.frame_core.specs.Moves.{out}
 use Rattle.state_core.specs.declared.error.ZoneError.{ZoneError}
 use Rattle.state_core.specs.declared.error.ZoneError.TheVariants.{NoBlock, JournalFull}
 use Rattle.state_core.specs.HandingOut.{block_taken, has_block}
@@ -36,9 +36,9 @@ abbrev pub can_reserve : ZoneState → ℕ → ℕ → Bool
 can_reserve z n size = nat_le n (length (costs z size)) && nat_le (size * n) (unmarked_free z)
 
 -- whether the journal has places for so many isolations and their ends and for handing out so many blocks, besides those for the ends
--- of the pages that are out, and so many serials are left
+-- of the pages that are out
 abbrev pub has_room_to_reserve : ZoneState → ℕ → ℕ → Bool
-has_room_to_reserve z pages blocks = nat_le (length (out z.records) + 2 * pages + blocks) z.room && nat_le (isolated z.records + pages) (2 ^ 32 - 1)
+has_room_to_reserve z pages blocks = nat_le (length (out z.records) + 2 * pages + blocks) z.room
 
 -- why the reservation of n blocks is refused, if it is
 abbrev pub reserve_refusal : ZoneState → ℕ → ℕ → Option ZoneError

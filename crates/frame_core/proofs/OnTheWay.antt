@@ -66,6 +66,12 @@ falls_out (_ ∷ older) ended = falls_out older ended
 pub out_below : (records : List Record) → IsWellEnded records → (serial : ℕ) → is_out records serial ≡ true → serial < isolated records
 out_below records ended serial at = falls_below serial _ (out records) (falls_out records ended) at
 
+-- each isolation has a record of its own
+pub isolated_within : (records : List Record) → isolated records ≤ length records
+isolated_within [] = omega arith
+isolated_within (Isolate serial page ∷ older) = omega (arith, isolated_within older)
+isolated_within (_ ∷ older) = omega (arith, isolated_within older)
+
 -- whether a serial stands in a list without another one
 pub any_without : (serial s : ℕ) (serials : List ℕ) → list_any (nat_eq s) (without serial serials) ≡ (list_any (nat_eq s) serials && not (nat_eq s serial))
 any_without serial s serials = is_member-filter nat_eq_equiv (λ x. not (nat_eq x serial)) s (λ x same. ap (λ y. not (nat_eq y serial)) (eqb-true s x same)) serials

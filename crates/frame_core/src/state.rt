@@ -1,7 +1,7 @@
 use crate::numbers::PageNo;
 
 /// The number of an isolated page: 0, 1, 2, .. over a zone's life.
-pub type Serial = u32;
+pub type Serial = u64;
 
 /// What a frame is used for.
 #[derive(Clone, Copy, Debug, PartialEq, Eq)]

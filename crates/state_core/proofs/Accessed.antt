@@ -23,7 +23,6 @@ module _ (v : ZoneState) (law : IsValidZone v) (spare : length (out v.records) <
       valid_noted v law (Load client address word (value_at v address word)) spare (record {
         truthful = (subst T (sym page.1) refl, law.journal.truthful);
         well_ended = law.journal.well_ended;
-        serials = law.journal.serials;
         named = law.agrees.named;
         in_use = law.agrees.in_use;
         out = refl;
@@ -37,7 +36,6 @@ module _ (v : ZoneState) (law : IsValidZone v) (spare : length (out v.records) <
   valid_stored word value = valid_noted v law (Store client address word value) spare (record {
     truthful = law.journal.truthful;
     well_ended = law.journal.well_ended;
-    serials = law.journal.serials;
     named = law.agrees.named;
     in_use = law.agrees.in_use;
     out = refl;

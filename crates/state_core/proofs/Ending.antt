@@ -98,7 +98,6 @@ module _ (v : ZoneState) (page serial source target : ℕ) (law : IsValidZone v)
         still = moved_still v.records serial;
         truthful = law.journal.truthful;
         well_ended = (record { under_way = known_out.0; page = subst (λ (o : Option ℕ). IsSomeAnd o (λ p. pins v.records p ≡ 0)) (sym known_out.1) none }, law.journal.well_ended);
-        serials = law.journal.serials;
         spare = omega (arith, out_fewer);
         room_left = omega (arith, out_fewer);
         own_way = λ s. (λ under. cc, λ known. absurd (no_way s known.0 known.1));
@@ -117,7 +116,6 @@ module _ (v : ZoneState) (page serial source target : ℕ) (law : IsValidZone v)
         still = back_still v.records serial cause;
         truthful = law.journal.truthful;
         well_ended = ends_back cause has;
-        serials = law.journal.serials;
         spare = omega (arith, out_fewer);
         room_left = omega (arith, out_fewer);
         own_way = λ s. (λ under. cc, λ known. absurd (no_way s known.0 known.1));

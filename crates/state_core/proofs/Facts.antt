@@ -1,10 +1,11 @@
 -- What is known of a valid zone.
-use Rattle.std.proofs.Common.{◌≡◌, ◌≢◌, ℕ, ◌+◌, ◌-◌, ◌^◌, ◌<◌, Bool, true, false, cond, length, refl, sym, ap, ◌∙◌, Option, Some, None, IsSome, is_some, nat_eq, ◌||◌, if◌then◌else◌, eq-eqb, ltb-true, arith}
+use Rattle.std.proofs.Common.{◌≡◌, ◌≢◌, ℕ, ◌+◌, ◌^◌, ◌<◌, ◌≤◌, Bool, true, false, cond, length, refl, sym, ap, ◌∙◌, Option, Some, None, IsSome, is_some, nat_eq, ◌||◌, if◌then◌else◌, eq-eqb, ltb-true, arith}
 use Rattle.std.specs.FinMap as map
 pub use Rattle.std.proofs.lemmas.Bool.{cond-true as taken, cond-false as skipped}
 use Rattle.std.proofs.lemmas.Bool.{and_parts}
 use Rattle.std.specs.Option.{option_and_then}
 use Rattle.std.proofs.lemmas.Option.{option_and_then_some}
+use Rattle.frame_core.proofs.OnTheWay.{isolated_within}
 use Rattle.frame_core.specs.Address.{InRange, InTable}
 use Rattle.frame_core.specs.declared.place.Address.{Address}
 use Rattle.frame_core.specs.History.{page_at}
@@ -38,9 +39,13 @@ not_full : (b : Bool) → cond b None (Some JournalFull) ≡ None → b ≡ true
 not_full true e = refl
 not_full false e = cc
 
--- where an isolation isn't refused, the journal has its two places, and its serial is left
-pub room_and_serial : (v : ZoneState) → isolate_refusal v ≡ None → (length (out v.records) + 1 < v.room) × (isolated v.records < 2 ^ 32 - 1)
-room_and_serial v accepted = let both = and_parts _ _ (not_full _ accepted) in (ltb-true _ _ both.0, ltb-true _ _ both.1)
+-- where an isolation isn't refused, the journal has its two places
+pub room_for_two : (v : ZoneState) → isolate_refusal v ≡ None → length (out v.records) + 1 < v.room
+room_for_two v accepted = ltb-true _ _ (not_full _ accepted)
+
+-- a zone has isolated no more pages than a journal has places
+pub isolated_bound : (v : ZoneState) → IsValidZone v → isolated v.records ≤ 2 ^ 53
+isolated_bound v law = let places = law.journal.places in omega (arith, isolated_within v.records)
 
 -- an address of the zone is in its table
 pub in_table : (v : ZoneState) (address : Address) → has_address v address ≡ true → InTable v.spaces v.vpages address

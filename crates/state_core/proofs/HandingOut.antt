@@ -169,7 +169,7 @@ module _ (v : ZoneState) (first order : ℕ) (run : is_run v order first ≡ tru
     valid_block_taken = record {
       size = law.size;
       addresses = law.addresses;
-      journal = journal_noted (TakeHuge first order) law.journal spare law.journal.truthful law.journal.well_ended law.journal.serials refl;
+      journal = journal_noted (TakeHuge first order) law.journal spare law.journal.truthful law.journal.well_ended refl;
       agrees = record { named = law.agrees.named; in_use = law.agrees.in_use; under_way = law.agrees.under_way; handed = handed_taken; marks = law.agrees.marks };
       pages = record { numbered = law.pages.numbered; upward = law.pages.upward; apart = law.pages.apart; within = law.pages.within; clear = clear_taken; unmovable = law.pages.unmovable };
       blocks = record { each = blocks_taken; disjoint = disjoint_taken; contents = contents_taken };
@@ -253,7 +253,7 @@ module _ (v : ZoneState) (law : IsValidZone v) (first order : ℕ) (at : map.get
   valid_block_given spare = record {
     size = law.size;
     addresses = law.addresses;
-    journal = journal_noted (GiveHuge first order) law.journal spare law.journal.truthful law.journal.well_ended law.journal.serials refl;
+    journal = journal_noted (GiveHuge first order) law.journal spare law.journal.truthful law.journal.well_ended refl;
     agrees = record { named = law.agrees.named; in_use = law.agrees.in_use; under_way = law.agrees.under_way; handed = handed_fewer; marks = law.agrees.marks };
     pages = record { numbered = law.pages.numbered; upward = law.pages.upward; apart = law.pages.apart; within = law.pages.within; clear = (λ page frame e. (or_parts _ _ (sym (held_given frame) ∙ law.pages.clear page frame e)).0); unmovable = law.pages.unmovable };
     blocks = record { each = blocks_given; disjoint = (λ a b frame e f. law.blocks.disjoint a b frame (covers_given a frame e).1 (covers_given b frame f).1); contents = contents_given };

@@ -1,5 +1,5 @@
 -- The page of a pair is isolated: it takes up its target besides its source.
-use Rattle.std.proofs.Common.{◌≡◌, ◌≢◌, ℕ, ◌+◌, ◌-◌, ◌^◌, ◌<◌, true, false, ◌∷◌, length, inl, inr, refl, sym, ap, ◌∙◌, arith, Option, Some, nat_eq, ◌||◌}
+use Rattle.std.proofs.Common.{◌≡◌, ◌≢◌, ℕ, ◌+◌, ◌-◌, ◌<◌, true, false, ◌∷◌, length, inl, inr, refl, sym, ap, ◌∙◌, arith, Option, Some, nat_eq, ◌||◌}
 use Rattle.std.proofs.Math.Bool.{or-false}
 use Rattle.std.proofs.lemmas.Bool.{and_parts, both_ways, cond-true, cond-false, eq-eqb, eqb-true, ne_eqb, or_cases, or_left, or_right}
 use Rattle.std.proofs.lemmas.Bool.Decides.{eqb_tells}
@@ -59,8 +59,8 @@ module _ (v : ZoneState) (pair : Pair) (law : IsValidZone v) (is : IsPair v pair
     sym (cond-false _ (Some pair.page) (page_of v.records serial) (ne_eqb serial_next serial ne)) ∙ way.1,
   )
 
-  pub isolate_recorded : length (out v.records) + 1 < v.room → isolated v.records < 2 ^ 32 - 1 → IsRecorded v (Isolate serial_next pair.page) pair.page way_next
-  isolate_recorded room serial_left = record {
+  pub isolate_recorded : length (out v.records) + 1 < v.room → IsRecorded v (Isolate serial_next pair.page) pair.page way_next
+  isolate_recorded room = record {
     still = isolate_still v.records serial_next pair.page;
     truthful = law.journal.truthful;
     well_ended = (
@@ -73,7 +73,6 @@ module _ (v : ZoneState) (pair : Pair) (law : IsValidZone v) (is : IsPair v pair
           }),
       law.journal.well_ended,
     );
-    serials = omega arith;
     spare = omega arith;
     room_left = omega arith;
     own_way = λ serial. (

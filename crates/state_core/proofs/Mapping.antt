@@ -115,7 +115,6 @@ module _ (v : ZoneState) (client : ℕ) (address : Address) (unmovable : Bool) (
       record {
         truthful = law.journal.truthful;
         well_ended = law.journal.well_ended;
-        serials = law.journal.serials;
         spare = omega arith;
         room_left = omega arith;
         named = λ b q is. elim (cases_Bool (same_address b address)) [

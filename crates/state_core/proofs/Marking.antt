@@ -22,7 +22,7 @@ module _ (v : ZoneState) (law : IsValidZone v) (spare : length (out v.records) <
   valid_marked = record {
     size = law.size;
     addresses = law.addresses;
-    journal = journal_noted (Mark block) law.journal spare law.journal.truthful law.journal.well_ended law.journal.serials refl;
+    journal = journal_noted (Mark block) law.journal spare law.journal.truthful law.journal.well_ended refl;
     agrees = record { named = law.agrees.named; in_use = law.agrees.in_use; under_way = law.agrees.under_way; handed = law.agrees.handed; marks = marks_more };
     pages = law.pages;
     blocks = law.blocks;
@@ -34,7 +34,7 @@ module _ (v : ZoneState) (law : IsValidZone v) (spare : length (out v.records) <
   valid_unmarked = record {
     size = law.size;
     addresses = law.addresses;
-    journal = journal_noted (Unmark block) law.journal spare law.journal.truthful law.journal.well_ended law.journal.serials refl;
+    journal = journal_noted (Unmark block) law.journal spare law.journal.truthful law.journal.well_ended refl;
     agrees = record { named = law.agrees.named; in_use = law.agrees.in_use; under_way = law.agrees.under_way; handed = law.agrees.handed; marks = marks_fewer };
     pages = law.pages;
     blocks = law.blocks;

@@ -1,5 +1,5 @@
 -- A page in use takes up other frames; its names, values and pins stay.
-use Rattle.std.proofs.Common.{◌≡◌, ◌≢◌, ℕ, ◌+◌, ◌-◌, ◌<◌, ◌≤◌, ◌^◌, ◌∷◌, List, length, inl, inr, refl, sym, ap, ◌∙◌, arith, Some, IsTrue, is_some, ◌↔◌}
+use Rattle.std.proofs.Common.{◌≡◌, ◌≢◌, ℕ, ◌+◌, ◌-◌, ◌<◌, ◌≤◌, ◌∷◌, List, length, inl, inr, refl, sym, ap, ◌∙◌, arith, Some, IsTrue, is_some, ◌↔◌}
 use Rattle.std.specs.FinMap as map
 use Rattle.frame_core.specs.declared.place.Address.{Address}
 use Rattle.frame_core.specs.declared.record.Cause.{Cause}
@@ -7,7 +7,7 @@ use Rattle.frame_core.specs.declared.record.Record.{Record}
 use Rattle.frame_core.specs.declared.record.Record.TheVariants.{Isolate, Moved, Back}
 use Rattle.frame_core.specs.Blocks.{handed_out_by, is_marked_by}
 use Rattle.frame_core.specs.History.{page_at, last, dirty, pins, maps}
-use Rattle.frame_core.specs.Moves.{isolated, out, IsWellEnded}
+use Rattle.frame_core.specs.Moves.{out, IsWellEnded}
 use Rattle.frame_core.specs.Truth.{IsTruthful}
 use Rattle.state_core.specs.declared.placement.Placement.{Placement}
 use Rattle.state_core.specs.Valid.{IsValidZone, is_under}
@@ -44,7 +44,6 @@ pub record IsRecorded (v : ZoneState) (entry : Record) (page : ℕ) (new : Place
   pub still : IsStill v.records entry
   pub truthful : IsTruthful (entry ∷ v.records)
   pub well_ended : IsWellEnded (entry ∷ v.records)
-  pub serials : isolated (entry ∷ v.records) < 2 ^ 32
   pub spare : 0 < v.room
   pub room_left : length (out (entry ∷ v.records)) ≤ v.room - 1
   pub own_way : (serial : ℕ) → IsTrue (is_under (Some new) serial) ↔ IsOutWith (entry ∷ v.records) page serial
@@ -62,7 +61,6 @@ module _ {v : ZoneState} {page : ℕ} {old new : Placement} (can : CanSettle v p
       valid_told can entry v.unmovable (record {
         truthful = recorded.truthful;
         well_ended = recorded.well_ended;
-        serials = recorded.serials;
         spare = recorded.spare;
         room_left = recorded.room_left;
         named = λ a q is. (let before = law.agrees.named a q (sym (still.names a) ∙ is) in (before.0, some_same q ∙ before.1));

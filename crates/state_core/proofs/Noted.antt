@@ -1,5 +1,5 @@
 -- One more record leaves a zone valid where each page stays in its place.
-use Rattle.std.proofs.Common.{◌≡◌, ℕ, ◌<◌, ◌≤◌, ◌^◌, ◌-◌, List, ◌∷◌, length, arith, ap, Some, IsSome, sym, ◌∙◌}
+use Rattle.std.proofs.Common.{◌≡◌, ℕ, ◌<◌, ◌≤◌, ◌-◌, List, ◌∷◌, length, arith, ap, Some, IsSome, sym, ◌∙◌}
 use Rattle.std.specs.Prelude.{◌↔◌}
 use Rattle.std.specs.FinMap as map
 use Rattle.frame_core.specs.Address.{InTable}
@@ -7,7 +7,7 @@ use Rattle.frame_core.specs.declared.place.Address.{Address}
 use Rattle.frame_core.specs.declared.record.Record.{Record}
 use Rattle.frame_core.specs.Blocks.{handed_out_by, is_marked_by}
 use Rattle.frame_core.specs.History.{page_at, maps, pins}
-use Rattle.frame_core.specs.Moves.{isolated, out, IsWellEnded}
+use Rattle.frame_core.specs.Moves.{out, IsWellEnded}
 use Rattle.frame_core.specs.Truth.{IsTruthful}
 use Rattle.state_core.specs.Valid.{IsValidZone, HasValidJournal}
 use Rattle.state_core.specs.Swept.{SweptIfQuiet}
@@ -19,7 +19,6 @@ use Rattle.state_core.proofs.Quiet.{begun_more}
 pub record IsNoted (v : ZoneState) (entry : Record) : Type 0 where
   pub truthful : IsTruthful (entry ∷ v.records)
   pub well_ended : IsWellEnded (entry ∷ v.records)
-  pub serials : isolated (entry ∷ v.records) < 2 ^ 32
   pub named : (address : Address) (page : ℕ) → page_at (entry ∷ v.records) address ≡ Some page → InTable v.spaces v.vpages address × IsSome (map.get v.placement page)
   pub in_use : (page : ℕ) → IsSome (map.get v.placement page) → (0 < maps (entry ∷ v.records) page) × (maps (entry ∷ v.records) page ≤ 4) × (pins (entry ∷ v.records) page ≤ 255)
   pub out : out (entry ∷ v.records) ≡ out v.records
@@ -29,15 +28,15 @@ pub record IsNoted (v : ZoneState) (entry : Record) : Type 0 where
   pub swept : SweptIfQuiet (noted v entry)
 
 -- a record that neither isolates a page nor ends its move leaves the journal valid, where it has a place for it
-pub journal_noted : {records : List Record} {room : ℕ} (entry : Record) → HasValidJournal records room → length (out records) < room → IsTruthful (entry ∷ records) → IsWellEnded (entry ∷ records) → isolated (entry ∷ records) < 2 ^ 32 → out (entry ∷ records) ≡ out records → HasValidJournal (entry ∷ records) (room - 1)
-journal_noted entry journal spare truthful well_ended serials out =
-    record { places = (let before = journal.places in omega arith); serials = serials; truthful = truthful; well_ended = well_ended; room_left = omega (arith, ap (λ (list : List ℕ). length list) out) }
+pub journal_noted : {records : List Record} {room : ℕ} (entry : Record) → HasValidJournal records room → length (out records) < room → IsTruthful (entry ∷ records) → IsWellEnded (entry ∷ records) → out (entry ∷ records) ≡ out records → HasValidJournal (entry ∷ records) (room - 1)
+journal_noted entry journal spare truthful well_ended out =
+    record { places = (let before = journal.places in omega arith); truthful = truthful; well_ended = well_ended; room_left = omega (arith, ap (λ (list : List ℕ). length list) out) }
 
 pub valid_noted : (v : ZoneState) → IsValidZone v → (entry : Record) → length (out v.records) < v.room → IsNoted v entry → IsValidZone (noted v entry)
 valid_noted v law entry spare told = record {
   size = law.size;
   addresses = law.addresses;
-  journal = journal_noted entry law.journal spare told.truthful told.well_ended told.serials told.out;
+  journal = journal_noted entry law.journal spare told.truthful told.well_ended told.out;
   agrees = record {
     named = told.named;
     in_use = told.in_use;

@@ -49,7 +49,7 @@ module _ (words number : ℕ) (size : ZoneSize) (places : ℕ) where
   opened_valid within few = record {
     size = within.0;
     addresses = (within.2, within.4);
-    journal = record { places = omega arith; serials = omega arith; truthful = tt; well_ended = tt; room_left = omega arith };
+    journal = record { places = omega arith; truthful = tt; well_ended = tt; room_left = omega arith };
     agrees = record {
       named = λ address page e. cc;
       in_use = λ page used. absurd (both_ways _ (ap is_some (no_page page)) used);

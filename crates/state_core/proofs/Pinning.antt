@@ -37,7 +37,6 @@ module _ (v : ZoneState) (client : ℕ) (address : Address) (page : ℕ) (named 
     valid_pinned few = valid_noted v law (Pin client address) spare (record {
       truthful = law.journal.truthful;
       well_ended = law.journal.well_ended;
-      serials = law.journal.serials;
       named = law.agrees.named;
       in_use = λ q used.
           let before = law.agrees.in_use q used in
@@ -56,7 +55,6 @@ module _ (v : ZoneState) (client : ℕ) (address : Address) (page : ℕ) (named 
     valid_unpinned = valid_noted v law (Unpin client address) spare (record {
       truthful = law.journal.truthful;
       well_ended = law.journal.well_ended;
-      serials = law.journal.serials;
       named = law.agrees.named;
       in_use = λ q used. (let before = law.agrees.in_use q used in (before.0, before.1, omega (arith, before.2)));
       out = refl;

@@ -1,5 +1,5 @@
 -- A page gets another place, its first, or none: where each page is afterwards, which frames are free, and that the zone stays valid.
-use Rattle.std.proofs.Common.{◌≡◌, ◌≢◌, ℕ, zero, suc, ◌+◌, ◌-◌, ◌<◌, ◌≤◌, ◌^◌, Bool, true, false, not, List, ◌∷◌, length, ◌⊎◌, inl, inr, refl, sym, ap, ◌∙◌, arith, Option, Some, None, IsSome, IsTrue, is_some, nat_eq, ◌&&◌, ◌||◌, ◌↔◌}
+use Rattle.std.proofs.Common.{◌≡◌, ◌≢◌, ℕ, zero, suc, ◌+◌, ◌-◌, ◌<◌, ◌≤◌, Bool, true, false, not, List, ◌∷◌, length, ◌⊎◌, inl, inr, refl, sym, ap, ◌∙◌, arith, Option, Some, None, IsSome, IsTrue, is_some, nat_eq, ◌&&◌, ◌||◌, ◌↔◌}
 use Rattle.std.specs.FinMap as map
 use Rattle.std.specs.FinSet as set
 use Rattle.std.specs.Ordering.{nat_cmp}
@@ -13,7 +13,7 @@ use Rattle.frame_core.specs.declared.place.Address.{Address}
 use Rattle.frame_core.specs.declared.record.Record.{Record}
 use Rattle.frame_core.specs.Blocks.{handed_out_by, is_marked_by}
 use Rattle.frame_core.specs.History.{page_at, maps, pins}
-use Rattle.frame_core.specs.Moves.{isolated, out, is_out, page_of, IsWellEnded}
+use Rattle.frame_core.specs.Moves.{out, is_out, page_of, IsWellEnded}
 use Rattle.frame_core.specs.Truth.{IsTruthful}
 use Rattle.state_core.specs.declared.placement.Placement.{Placement}
 use Rattle.state_core.specs.declared.placement.Placement.TheVariants.{At, Moving}
@@ -219,7 +219,6 @@ module _ {v : ZoneState} {page : ℕ} {old new : Option Placement} (can : CanCha
 pub record IsTold (v : ZoneState) (page : ℕ) (new : Option Placement) (entry : Record) (unmovable : set.FinSet nat_cmp) : Type 0 where
   pub truthful : IsTruthful (entry ∷ v.records)
   pub well_ended : IsWellEnded (entry ∷ v.records)
-  pub serials : isolated (entry ∷ v.records) < 2 ^ 32
   pub spare : 0 < v.room
   pub room_left : length (out (entry ∷ v.records)) ≤ v.room - 1
   pub named : (address : Address) (q : ℕ) → page_at (entry ∷ v.records) address ≡ Some q → InTable v.spaces v.vpages address × IsSome (map.get (put v.placement page new) q)
@@ -256,7 +255,6 @@ module _ {v : ZoneState} {page : ℕ} {old new : Option Placement} (can : CanCha
         addresses = law.addresses;
         journal = record {
           places = (let before = law.journal.places in let spare = told.spare in omega arith);
-          serials = told.serials;
           truthful = told.truthful;
           well_ended = told.well_ended;
           room_left = told.room_left;

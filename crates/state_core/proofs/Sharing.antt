@@ -59,7 +59,6 @@ module _ (v : ZoneState) (client : ℕ) (address alias : Address) (page frame : 
       valid_noted v law (Share client address alias) can.spare (record {
         truthful = law.journal.truthful;
         well_ended = law.journal.well_ended;
-        serials = law.journal.serials;
         named = λ a q is. elim (cases_Bool (same_address a alias)) [
           | inl here ↦ (subst (InTable v.spaces v.vpages) (sym (one_address a alias here)) can.inside, (law.agrees.named address q (can.named ∙ sym (named_here a here) ∙ is)).1)
           | inr there ↦ law.agrees.named a q (sym (named_there a there) ∙ is)

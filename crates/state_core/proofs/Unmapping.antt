@@ -67,7 +67,6 @@ module _ (v : ZoneState) (client : ℕ) (address : Address) (page frame : ℕ) (
       valid_noted v law (Unmap client address) can.spare (record {
         truthful = law.journal.truthful;
         well_ended = law.journal.well_ended;
-        serials = law.journal.serials;
         named = λ a q is. law.agrees.named a q (named_before a q is);
         in_use = λ q used.
             let before = law.agrees.in_use q used in
@@ -115,7 +114,6 @@ module _ (v : ZoneState) (client : ℕ) (address : Address) (page frame : ℕ) (
       record {
         truthful = law.journal.truthful;
         well_ended = law.journal.well_ended;
-        serials = law.journal.serials;
         spare = omega arith;
         room_left = omega arith;
         named = λ a q is. (let before = law.agrees.named a q (named_before a q is) in (before.0, still_used q (none_left one a q is) before.1));

@@ -15,7 +15,7 @@ use Rattle.state_core.specs.Pairs.{IsPair}
 use Rattle.state_core.specs.Swept.{SweptIfQuiet}
 use Rattle.state_core.specs.ZoneState.{ZoneState}
 use Rattle.state_core.proofs.Ending.{can_move_on, moved_recorded, can_go_back, back_recorded}
-use Rattle.state_core.proofs.Facts.{room_and_serial}
+use Rattle.state_core.proofs.Facts.{room_for_two}
 use Rattle.state_core.proofs.Isolating.{can_isolate, isolate_recorded}
 use Rattle.state_core.proofs.Moving.{valid_settled}
 use Rattle.state_core.proofs.Quiet.{quiet_before, swept_ended}
@@ -26,8 +26,7 @@ swept_if_isolated v pair law is quiet = swept_isolated v pair law (law.fingers.s
 
 pub valid_isolated : (v : ZoneState) (pair : Pair) → IsValidZone v → IsPair v pair.page pair.source pair.target → isolate_refusal v ≡ None → IsValidZone (isolated_next v pair)
 valid_isolated v pair law is accepted =
-    let left = room_and_serial v accepted in
-    valid_settled (can_isolate v pair law is) (Isolate (isolated v.records) pair.page) (isolate_recorded v pair law is left.0 left.1) (pair.source + 1) pair.target
+    valid_settled (can_isolate v pair law is) (Isolate (isolated v.records) pair.page) (isolate_recorded v pair law is (room_for_two v accepted)) (pair.source + 1) pair.target
     (let low = is.to.low in let high = is.to.high in let fingers = law.fingers.ordered.1 in (omega arith, omega arith))
     (swept_if_isolated v pair law is)
 

@@ -1,5 +1,5 @@
 -- The call that isolates the next page of a round: when it is refused, its answer, and what it leaves.
-use Rattle.std.specs.Prelude.{◌≡◌, ◌≢◌, ℕ, ◌+◌, ◌-◌, ◌^◌, Bool, ◌&&◌, length, nat_lt, if◌then◌else◌, Option, Some, None}
+use Rattle.std.specs.Prelude.{◌≡◌, ◌≢◌, ℕ, ◌+◌, Bool, length, nat_lt, if◌then◌else◌, Option, Some, None}
 use Rattle.std.specs.FinMap as map
 use Rattle.frame_core.specs.declared.place.Address.{Address}
 use Rattle.frame_core.specs.declared.record.Record.TheVariants.{Isolate}
@@ -20,13 +20,9 @@ use Rattle.frame_core.specs.Page.{IsolatedPage}
 abbrev pub has_room_for_two : ZoneState → Bool
 has_room_for_two z = nat_lt (length (out z.records) + 1) z.room
 
--- whether a serial is left for an isolation: the serials are 0 to 2^32 - 2, in the order of the isolations
-abbrev pub has_serial : ZoneState → Bool
-has_serial z = nat_lt (isolated z.records) (2 ^ 32 - 1)
-
--- why an isolation is refused, if it is: the journal has no room for it and its end, or no serial is left
+-- why an isolation is refused, if it is: the journal has no room for it and its end
 abbrev pub isolate_refusal : ZoneState → Option ZoneError
-isolate_refusal z = if has_room_for_two z && has_serial z then None else Some JournalFull
+isolate_refusal z = if has_room_for_two z then None else Some JournalFull
 
 -- the zone after the page of a pair was isolated: the page is moving under the next serial, and the fingers are one
 -- above its source and at its target

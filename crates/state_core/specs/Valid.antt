@@ -10,7 +10,7 @@ use Rattle.frame_core.specs.declared.place.Address.{Address}
 use Rattle.frame_core.specs.declared.record.Record.{Record}
 use Rattle.frame_core.specs.Blocks.{handed_out_by, is_marked_by}
 use Rattle.frame_core.specs.History.{page_at, maps, pins}
-use Rattle.frame_core.specs.Moves.{isolated, out, is_out, page_of, IsWellEnded}
+use Rattle.frame_core.specs.Moves.{out, is_out, page_of, IsWellEnded}
 use Rattle.frame_core.specs.Truth.{IsTruthful}
 use Rattle.state_core.specs.declared.placement.Placement.{Placement}
 use Rattle.state_core.specs.declared.placement.Placement.TheVariants.{At, Moving}
@@ -35,8 +35,6 @@ pub record IsBlock (frames first order : ℕ) : Type 0 where
 pub record HasValidJournal (records : List Record) (room : ℕ) : Type 0 where
   -- a journal has at most 2^53 places
   pub places : length records + room ≤ 2 ^ 53
-  -- a serial has 32 bits, and the next one has too, so that a zone isolates at most 2^32 - 1 pages in its life
-  pub serials : isolated records < 2 ^ 32
   -- each load gave the last value stored, and each page that was isolated ended at most once
   pub truthful : IsTruthful records
   pub well_ended : IsWellEnded records

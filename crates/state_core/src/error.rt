@@ -13,8 +13,7 @@ use std::fmt::{Display, Formatter};
 pub enum ZoneError {
     /// An argument is out of its range.
     Range,
-    /// The journal has no place left, besides those that the moving pages need for their ends, or no serial is left for
-    /// an isolation.
+    /// The journal has no place left, besides those that the moving pages need for their ends.
     JournalFull,
     /// The address names no page.
     Unmapped,

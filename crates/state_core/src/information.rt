@@ -40,7 +40,7 @@ pub enum Look {
 /// What a zone and its seats agree on when no page is moving: each page that was isolated was moved or put back.
 #[derive(Clone, Copy, Debug, PartialEq, Eq)]
 pub struct Audit {
-    pub isolated: u32,
-    pub moved: u32,
-    pub back: u32,
+    pub isolated: u64,
+    pub moved: u64,
+    pub back: u64,
 }

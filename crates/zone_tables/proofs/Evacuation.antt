@@ -15,7 +15,7 @@ use Rattle.frame_core.specs.declared.place.Address.{Address}
 use Rattle.frame_core.specs.declared.record.Record.TheVariants.{Isolate, Moved}
 use Rattle.frame_core.specs.declared.state.FrameState.TheVariants.{Free, Holds}
 use Rattle.frame_core.specs.History.{page_at}
-use Rattle.frame_core.specs.Moves.{isolated, out}
+use Rattle.frame_core.specs.Moves.{isolated}
 use Rattle.frame_core.specs.Words.{words_of, with_words}
 use Rattle.scan_core.specs.Frames.{Frames, free_at, holds_at, is_holding_state, true_at}
 use Rattle.scan_core.specs.NumberSet.{gathered}
@@ -27,7 +27,7 @@ use Rattle.state_core.specs.declared.placement.Placement.TheVariants.{At, Moving
 use Rattle.state_core.specs.Isolating.{isolate_refusal}
 use Rattle.state_core.specs.Pairs.{can_move}
 use Rattle.state_core.specs.ZoneState.{ZoneState, frame_count, is_used, takes_up, words_frame}
-use Rattle.state_core.proofs.Facts.{frame_within, room_and_serial}
+use Rattle.state_core.proofs.Facts.{frame_within, isolated_bound, room_for_two as has_two}
 use Rattle.state_core.proofs.Places.{unheld_frame}
 use Rattle.state_core.proofs.Settled.{isolate_still}
 use Rattle.fewest_core.specs.Evacuation.{moved_away}
@@ -68,9 +68,6 @@ module _ {W : ℕ} {z : Inside W} {v : ZoneState} (view : state_of z ≡ v) (inv
   abbrev serial : ℕ
   serial = isolated v.records
 
-  left : (length (out v.records) + 1 < v.room) × (isolated v.records < 2 ^ 32 - 1)
-  left = room_and_serial v accepted
-
   source_in : m.source < frame_count v
   source_in = frame_within v sound.valid m.page (At m.source) is.here
 
@@ -95,11 +92,11 @@ module _ {W : ℕ} {z : Inside W} {v : ZoneState} (view : state_of z ≡ v) (inv
   pub target_listed : m.target < z.tables.frames
   target_listed = omega (arith, is.within, sound.tables)
 
-  pub serial_left : z.moves.isolated < 2 ^ 32 - 1
-  serial_left = omega (arith, left.1, sound.moves.isolated)
+  pub serial_left : z.moves.isolated < 2 ^ 64 - 1
+  serial_left = omega (arith, isolated_bound v sound.valid, sound.moves.isolated)
 
   pub room_for_two : 1 < z.history.room
-  room_for_two = omega (arith, left.0, ap (λ (u : ZoneState). u.room) view)
+  room_for_two = omega (arith, has_two v accepted, ap (λ (u : ZoneState). u.room) view)
 
   -- one page more is isolated than moves have ended
   pub some_moving : (moves : Moves) → moves ≡ record z.moves { pages = slice_set z.moves.pages m.source m.page; isolated = z.moves.isolated + 1 } → moves.moved + moves.back < moves.isolated

@@ -4,7 +4,7 @@ ghost use Rattle.std.specs.Prelude.{◌≡◌, Some, IsSome, IsTrue, IfOk};
 ghost use Rattle.frame_core.specs.History.{page_at};
 ghost use Rattle.state_core.specs.Valid.{IsValidZone};
 ghost use Rattle.state_core.specs.Access.{placement_refusal, value_at, loaded, stored};
-ghost use Rattle.state_core.specs.Isolating.{has_room_for_two, has_serial};
+ghost use Rattle.state_core.specs.Isolating.{has_room_for_two};
 ghost use Rattle.std.specs.Result.{result_err};
 ghost use Rattle.state_core.specs.ZoneState.{has_room, placement_at};
 ghost use Rattle.state_core.specs.declared.placement.Placement.TheVariants.{At};
@@ -19,21 +19,14 @@ impl<const W: usize> ZoneTables<W> {
     pub fn has_room(&self) -> bool
         ensures { result ≡ has_room self.now }
     {
-        u64::from(self.moves.out()) < self.history.room()
+        self.moves.out() < self.history.room()
     }
 
     /// Whether the journal has room for an isolation and for its end.
     pub fn has_room_for_two(&self) -> bool
         ensures { result ≡ has_room_for_two self.now }
     {
-        u64::from(self.moves.out()) + 1 < self.history.room()
-    }
-
-    /// Whether a serial is left for an isolation.
-    pub fn has_serial(&self) -> bool
-        ensures { result ≡ has_serial self.now }
-    {
-        self.moves.isolated() < u32::MAX
+        self.moves.out() + 1 < self.history.room()
     }
 
     /// The frame of the page that an address names. An address that names no page is refused as Unmapped, and one whose

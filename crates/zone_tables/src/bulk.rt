@@ -25,7 +25,7 @@ impl<const W: usize> ZoneTables<W> {
         ensures room { OnOk result (IsTrue (has_room_for self.now count)) }
         ensures frame { IfOk result (λ frame. placement_at self.now address.now ≡ Some (At frame)) }
     {
-        let places = self.history.room() - u64::from(self.moves.out());
+        let places = self.history.room() - self.moves.out();
         if count > W - from.get() as usize {
             return Err(ZoneError::Range);
         }

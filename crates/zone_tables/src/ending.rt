@@ -154,7 +154,7 @@ impl<const W: usize> ZoneTables<W> {
     }
 
     /// How many moves have ended: those of pages that were moved, and those of pages that were put back.
-    pub fn ended(&self) -> u32
+    pub fn ended(&self) -> u64
         ensures { result ≡ moved self.now.records + put_back self.now.records }
     {
         self.moves.ended()

@@ -42,25 +42,18 @@ impl<const W: usize> ZoneTables<W> {
         }
     }
 
-    /// Whether the journal has room for so many isolations and their ends, and so many serials are left.
+    /// Whether the journal has room for so many isolations and their ends.
     pub fn has_room_for_moves(&self, count: u32) -> bool
         ensures { result ≡ has_room_for_moves self.now count }
     {
-        let count = u64::from(count);
-        let places = u64::from(self.moves.out()) + 2 * count;
-        let serials = u64::from(self.moves.isolated()) + count;
-        places <= self.history.room() && serials <= u64::from(u32::MAX)
+        self.moves.out() + 2 * u64::from(count) <= self.history.room()
     }
 
-    /// Whether the journal has room for so many isolations and their ends and for handing out so many blocks, and so many serials are
-    /// left.
+    /// Whether the journal has room for so many isolations and their ends and for handing out so many blocks.
     pub fn has_room_to_reserve(&self, pages: u32, blocks: u32) -> bool
         ensures { result ≡ has_room_to_reserve self.now pages blocks }
     {
-        let pages = u64::from(pages);
-        let places = u64::from(self.moves.out()) + 2 * pages + u64::from(blocks);
-        let serials = u64::from(self.moves.isolated()) + pages;
-        places <= self.history.room() && serials <= u64::from(u32::MAX)
+        self.moves.out() + 2 * u64::from(pages) + u64::from(blocks) <= self.history.room()
     }
 
     /// Moves a page that rests in a frame to a free one at once: it is isolated under the next serial, its words are copied, and

@@ -22,7 +22,7 @@ impl<const W: usize> ZoneTables<W> {
         Info {
             free: self.frames.free(),
             pages: self.notes.in_use(),
-            moving: self.moves.out(),
+            moving: self.moves.out() as u32,
             huge: self.handed_out.blocks(),
             whole: self.frames.whole_blocks(),
             held: self.handed_out.frames(),

@@ -12,9 +12,9 @@ use std::marker::Model;
 pub struct Moves {
     /// For each frame the page that was isolated from it last. If the frame is the source of a move, this page is moving.
     pages: FixedVec<PageNo>,
-    isolated: u32,
-    out: u32,
-    back: u32,
+    isolated: u64,
+    out: u64,
+    back: u64,
 }
 
 impl Model for Moves {
@@ -46,22 +46,15 @@ impl Moves {
         })
     }
 
-    /// How many pages were isolated.
-    pub fn isolated(&self) -> u32
-        ensures { result ≡ self.now.isolated }
-    {
-        self.isolated
-    }
-
     /// How many pages are moving.
-    pub fn out(&self) -> u32
+    pub fn out(&self) -> u64
         ensures { result + self.now.moved + self.now.back ≡ self.now.isolated }
     {
         self.out
     }
 
     /// How many moves have ended.
-    pub fn ended(&self) -> u32
+    pub fn ended(&self) -> u64
         ensures { result ≡ self.now.moved + self.now.back }
     {
         self.isolated - self.out
@@ -78,7 +71,7 @@ impl Moves {
     /// Notes that a page is isolated from its frame, under the next serial, which is answered.
     pub fn isolate(&mut self, page: PageNo, source: FrameNo) -> Serial
         requires within { source < length self.old.pages }
-        requires serial_left { self.old.isolated < 2 ^ 32 - 1 }
+        requires serial_left { self.old.isolated < 2 ^ 64 - 1 }
         ensures serial { result ≡ self.old.isolated }
         ensures noted { self.new ≡ record self.old { pages = slice_set self.old.pages source page; isolated = self.old.isolated + 1 } }
     {

@@ -16,7 +16,7 @@ use Rattle.zone_tables.proofs.ListedAddresses.{fresh_serial, page_rests}
 use Rattle.zone_tables.specs.Fits.{MovesFit}
 use Rattle.zone_tables.specs.History.{told}
 use Rattle.zone_tables.specs.Moves.{Moves}
-use Rattle.state_core.proofs.Facts.{frame_within, not_none, room_and_serial}
+use Rattle.state_core.proofs.Facts.{frame_within, isolated_bound, not_none, room_for_two}
 use Rattle.zone_tables.proofs.Tables.{note_is, note_of, placement_seen}
 use Rattle.zone_tables.proofs.Isolation.{isolated_frames, isolated_words, isolated_movable, isolated_sources}
 use Rattle.state_core.proofs.Settled.{can_isolate, isolate_recorded, target_within, swept_if_isolated}
@@ -54,7 +54,7 @@ isolate-serial-requires-clause-within g c =
 
 pub isolate-serial-requires-clause-serial_left : goal.isolate-serial-requires-clause-serial_left
 isolate-serial-requires-clause-serial_left g c =
-    omega (arith, (room_and_serial c.args.self.now c.requires.accepted).1, (is_sound c.self.view_is c.self.invariant).moves.isolated)
+    let sound = is_sound c.self.view_is c.self.invariant in omega (arith, isolated_bound c.args.self.now sound.valid, sound.moves.isolated)
 
 pub place-requires : goal.place-requires
 place-requires g c =
@@ -82,8 +82,7 @@ settling c =
     let sound = is_sound c.self.view_is c.self.invariant in
     let law = sound.valid in
     let is = c.requires.pair in
-    let left = room_and_serial v c.requires.accepted in
-    let room = left.0 in
+    let room = room_for_two v c.requires.accepted in
     let serial : c.isolate-serial.result ≡ isolated v.records = c.isolate-serial.ensures.serial ∙ sound.moves.isolated in
     let target_in = target_within v pair law is in
     let low = is.to.low in
@@ -94,7 +93,7 @@ settling c =
       sound = sound;
       view = c.self.view_is;
       can = can_isolate v pair law is;
-      recorded = isolate_recorded v pair law is left.0 left.1;
+      recorded = isolate_recorded v pair law is room;
       spare = omega arith;
       note_is = noted c;
       frames = subst (λ (fs : Frames). FramesSettled z.frames.states fs.states pair.page (At pair.source) (Moving (isolated v.records) pair.source pair.target)) (sym frames_are)
