@@ -391,10 +391,11 @@ fn repeat<I: Ledger, N: Ledger, M: Ledger, B: Ledger>(
     }
 }
 
-/// The address of a page in a space, if the space has such a page.
+/// The address of a page in a space, if a script's zone has such a page.
 fn address(space: SpaceNo, page: u64) -> Option<Address>
     ensures { result ≡ address_of space page }
 {
+    let space = SpaceNo::new(space.get())?;
     let vpage = VPage::new(u32::try_from(page).ok()?)?;
     Some(Address { space, vpage })
 }
