@@ -8,7 +8,7 @@ use Rattle.std.proofs.lemmas.List.Folds.{list_any_at}
 use Rattle.std.proofs.lemmas.Nat.{pow_pos}
 use Rattle.frame_core.proofs.Searches.{count_from_all, count_from_same, count_same}
 use Rattle.frame_core.specs.Below.{count_below, count_from, highest}
-use Rattle.frame_core.specs.Moves.{isolated, moved, out}
+use Rattle.frame_core.specs.Moves.{moved, out}
 use Rattle.frame_core.specs.Order.{is_aligned}
 use Rattle.state_core.specs.declared.error.ZoneError.{ZoneError}
 use Rattle.state_core.specs.HandingOut.{has_block, is_run}
@@ -217,14 +217,13 @@ module _ (z : ZoneState) (order : ℕ) (firsts : List ℕ) (picked : ArePicked z
         let whole : size * count_below chosen runs ≡ size * n = ap (λ (k : ℕ). size * k) chosen_count in
         omega (arith, room, less, whole, chosen_cost, leb-true _ _ can.1)
 
-    places : (nat_le (length (out z.records) + 2 * least n z size + n) z.room ≡ true) × (nat_le (isolated z.records + least n z size) (2 ^ 32 - 1) ≡ true)
-    places = and_parts (nat_le (length (out z.records) + 2 * least n z size + n) z.room) _ tests.1
+    places : length (out z.records) + 2 * least n z size + n ≤ z.room
+    places = leb-true (length (out z.records) + 2 * least n z size + n) z.room tests.1
 
     pub enough : HasEnough is_in z
     enough = record {
       spare = omega (arith, pages_are, spare_are);
-      room = omega (arith, pages_are, leb-true (length (out z.records) + 2 * least n z size + n) z.room places.0);
-      serials = omega (arith, pages_are, leb-true (isolated z.records + least n z size) (2 ^ 32 - 1) places.1);
+      room = omega (arith, pages_are, places);
     }
 
     module _ (v : ZoneState) (m : ℕ) (is : IsEmptying is_in z v m) (all : m ≡ frame_count z) where
@@ -238,7 +237,7 @@ module _ (z : ZoneState) (order : ℕ) (firsts : List ℕ) (picked : ArePicked z
           and_from (not (is_used v frame)) (not (is_held v frame)) (ap not (is.empty frame there done_here)) (ap not unheld)
 
       pub room_left : length (out v.records) + n ≤ v.room
-      room_left = omega (arith, is.room, is.out_same, done, leb-true (length (out z.records) + 2 * least n z size + n) z.room places.0)
+      room_left = omega (arith, is.room, is.out_same, done, places)
 
       pub moved_all : moved v.records ≡ moved z.records + least n z size
       moved_all = omega (arith, is.moved, done)

@@ -1,5 +1,5 @@
 -- The frames of a run, or of several, are emptied one after the other.
-use Rattle.std.proofs.Common.{◌≡◌, ◌≢◌, ℕ, zero, suc, ◌+◌, ◌-◌, ◌*◌, ◌^◌, ◌<◌, ◌≤◌, Bool, true, false, not, ◌&&◌, ◌||◌, cond, length, inl, inr, refl, sym, subst, ap, ◌∙◌, arith}
+use Rattle.std.proofs.Common.{◌≡◌, ◌≢◌, ℕ, zero, suc, ◌+◌, ◌-◌, ◌*◌, ◌<◌, ◌≤◌, Bool, true, false, not, ◌&&◌, ◌||◌, cond, length, inl, inr, refl, sym, subst, ap, ◌∙◌, arith}
 use Rattle.std.specs.Prelude.{Option, Some, None, is_some, nat_le, nat_eq}
 use Rattle.std.specs.FinMap as map
 use Rattle.std.proofs.lemmas.Bool.{and_left, and_parts, and_from, and_right, both_ways, cases_Bool, eq-eqb, false_from_ne_true, le-leb, leb-true, lt-ltb, ltb-true, ne_eqb, not-true, not-false, or_parts}
@@ -9,7 +9,7 @@ use Rattle.frame_core.specs.Below.{one_if, count_below, count_from, highest}
 use Rattle.frame_core.specs.Moves.{isolated, moved, out}
 use Rattle.state_core.specs.declared.placement.Placement.{Placement}
 use Rattle.state_core.specs.declared.placement.Placement.TheVariants.{At}
-use Rattle.state_core.specs.Isolating.{isolate_refusal, has_room_for_two, has_serial}
+use Rattle.state_core.specs.Isolating.{isolate_refusal, has_room_for_two}
 use Rattle.state_core.specs.Pairs.{can_move, holder, is_free_unmarked, is_marked}
 use Rattle.state_core.specs.Valid.{IsValidZone}
 use Rattle.state_core.specs.ZoneState.{ZoneState, frame_count, is_held, is_used, takes_up}
@@ -124,11 +124,10 @@ pub record IsEmptying (is_in : ℕ → Bool) (old z : ZoneState) (n : ℕ) : Typ
   pub unshut : (frame : ℕ) → is_in frame ≡ true → is_shut z frame ≡ false
   pub empty : (frame : ℕ) → is_in frame ≡ true → frame < n → is_used z frame ≡ false
   pub rest : (frame : ℕ) → is_in frame ≡ true → n ≤ frame → is_used z frame ≡ is_used old frame
-  -- each page that went took a spare frame, two places of the journal and a serial
+  -- each page that went took a spare frame and two places of the journal
   pub spare : frames_beside is_in old ≤ frames_beside is_in z + pages_below is_in old n
   pub out_same : length (out z.records) ≡ length (out old.records)
   pub room : z.room + 2 * pages_below is_in old n ≡ old.room
-  pub serials : isolated z.records ≡ isolated old.records + pages_below is_in old n
   pub moved : moved z.records ≡ moved old.records + pages_below is_in old n
   pub carried : IsCarriedFrom is_in old z
 
@@ -136,7 +135,6 @@ pub record IsEmptying (is_in : ℕ → Bool) (old z : ZoneState) (n : ℕ) : Typ
 pub record HasEnough (is_in : ℕ → Bool) (old : ZoneState) : Type 0 where
   pub spare : pages_below is_in old (frame_count old) ≤ frames_beside is_in old
   pub room : length (out old.records) + 2 * pages_below is_in old (frame_count old) ≤ old.room
-  pub serials : isolated old.records + pages_below is_in old (frame_count old) ≤ 2 ^ 32 - 1
 
 pub emptying_begins : (is_in : ℕ → Bool) (z : ZoneState) → ((frame : ℕ) → is_in frame ≡ true → is_shut z frame ≡ false) → IsEmptying is_in z z 0
 emptying_begins is_in z unshut = record {
@@ -148,7 +146,6 @@ emptying_begins is_in z unshut = record {
   spare = omega arith;
   out_same = refl;
   room = omega arith;
-  serials = omega arith;
   moved = omega arith;
   carried = record { flags = λ page. refl; words = λ page. refl; names = λ address. refl; others = λ page off. refl };
 }
@@ -168,7 +165,6 @@ module _ (is_in : ℕ → Bool) (old z : ZoneState) (n m : ℕ) (is : IsEmptying
     spare = omega (arith, is.spare, same);
     out_same = is.out_same;
     room = omega (arith, is.room, same);
-    serials = omega (arith, is.serials, same);
     moved = omega (arith, is.moved, same);
     carried = is.carried;
   }
@@ -209,8 +205,7 @@ module _ (is_in : ℕ → Bool) (old z : ZoneState) (frame : ℕ) (is : IsEmptyi
       pub accepted_here : isolate_refusal z ≡ None
       accepted_here =
           let room : has_room_for_two z ≡ true = lt-ltb (length (out z.records) + 1) z.room (omega (arith, is.out_same, is.room, enough.room, not_all)) in
-          let serial : has_serial z ≡ true = lt-ltb (isolated z.records) (2 ^ 32 - 1) (omega (arith, is.serials, enough.serials, not_all)) in
-          ap (λ (b : Bool). cond b None (Some JournalFull)) (and_from (has_room_for_two z) (has_serial z) room serial)
+          ap (λ (b : Bool). cond b None (Some JournalFull)) room
 
       pub spare_here : (target : ℕ) × (highest_beside is_in z ≡ Some target)
       spare_here = some_highest (is_beside is_in z) (frame_count z) (omega (arith, is.spare, enough.spare, not_all))
@@ -267,7 +262,6 @@ module _ (is_in : ℕ → Bool) (old z : ZoneState) (frame : ℕ) (is : IsEmptyi
           spare = omega (arith, is.spare, fewer_spare, one_more);
           out_same = as_many_out z m law may_move_here ∙ is.out_same;
           room = omega (arith, is.room, is.out_same, enough.room, not_all, one_more);
-          serials = omega (arith, is.serials, one_more);
           moved = omega (arith, is.moved, one_more);
           carried = record {
             flags = is.carried.flags;

@@ -4,7 +4,7 @@ use Rattle.std.specs.Prelude.{Some, None, nat_eq, nat_le}
 use Rattle.std.proofs.lemmas.Bool.{and_parts, and_from, eq-eqb, eqb-true, leb-true, or_parts}
 use Rattle.frame_core.proofs.Searches.{count_from_all}
 use Rattle.frame_core.specs.Below.{count_from}
-use Rattle.frame_core.specs.Moves.{isolated, moved, out}
+use Rattle.frame_core.specs.Moves.{moved, out}
 use Rattle.frame_core.specs.Order.{is_aligned}
 use Rattle.state_core.specs.declared.error.ZoneError.{ZoneError}
 use Rattle.state_core.specs.HandingOut.{has_block, is_run}
@@ -57,13 +57,10 @@ module _ (z : ZoneState) (first order : ℕ) (accepted : evacuate_refusal z firs
   pages_are = none_above_run first size (frame_count z) z fits ∙ pages_of_run first size z ∙ sym costs_it
 
   pub enough : HasEnough (is_in_run first size) z
-  enough =
-      let room = and_parts (nat_le (length (out z.records) + 2 * cost z size (first / size)) z.room) _ tests.2 in
-      record {
-        spare = omega (arith, pages_are, leb-true (cost z size (first / size)) (spare_frames first size z) can_parts.1);
-        room = omega (arith, pages_are, leb-true (length (out z.records) + 2 * cost z size (first / size)) z.room room.0);
-        serials = omega (arith, pages_are, leb-true (isolated z.records + cost z size (first / size)) (2 ^ 32 - 1) room.1);
-      }
+  enough = record {
+    spare = omega (arith, pages_are, leb-true (cost z size (first / size)) (spare_frames first size z) can_parts.1);
+    room = omega (arith, pages_are, leb-true (length (out z.records) + 2 * cost z size (first / size)) z.room tests.2);
+  }
 
   unshut : (frame : ℕ) → is_in_run first size frame ≡ true → is_shut z frame ≡ false
   unshut frame there =

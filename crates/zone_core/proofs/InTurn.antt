@@ -15,7 +15,7 @@ use Rattle.state_core.specs.declared.placement.Placement.TheVariants.{Moving}
 use Rattle.state_core.specs.declared.round.Pair.{Pair}
 use Rattle.state_core.proofs.Entries.{get_insert_same}
 use Rattle.zone_tables.specs.declared.ending.Move.{Move}
-use Rattle.state_core.proofs.Facts.{room_and_serial}
+use Rattle.state_core.proofs.Facts.{room_for_two}
 use Rattle.zone_core.specs.OneThread.{moved_to, moved_next, going_on, moved_at_most, all_moved}
 use Rattle.zone_core.specs.ByHand.{scan_pair}
 use Rattle.zone_core.proofs.OneThread.{IsBetween, between_moved, unpinned}
@@ -39,8 +39,8 @@ took_by z next (Some error) o is moved = absurd cc
 took_by z next None None is moved = absurd cc
 took_by z next None (Some pair) is moved =
     let left : committed (isolated_next z pair) (isolated z.records) pair.page ≡ next = cc in
-    let spare = room_and_serial z is in
-    omega (arith, spare.0, ap (λ (w : ZoneState). w.room) left, committed_took (isolated_next z pair) (isolated z.records) pair.page)
+    let spare = room_for_two z is in
+    omega (arith, spare, ap (λ (w : ZoneState). w.room) left, committed_took (isolated_next z pair) (isolated z.records) pair.page)
 
 -- each move takes places of the journal
 pub took : (z next : ZoneState) → moved_next z ≡ Some next → next.room < z.room

@@ -21,7 +21,6 @@ pub mod Same
 pub mod Scanner
 pub mod Scanning
 pub mod Seated
-pub mod Serials
 pub mod StaysBooked
 pub mod Steps
 mod WordsAtOnce

@@ -1,5 +1,5 @@
 -- A round over two zones that are the same goes alike: it begins, isolates pages, and ends their moves.
-use Rattle.std.proofs.Common.{◌≡◌, ℕ, ◌+◌, ◌-◌, ◌*◌, ◌^◌, Bool, true, false, cond, ◌&&◌, List, [], ◌∷◌, length, refl, sym, ap, subst, ◌∙◌, nat_eq, nat_lt, Option, Some, None}
+use Rattle.std.proofs.Common.{◌≡◌, ℕ, ◌+◌, ◌-◌, ◌*◌, Bool, true, false, cond, List, [], ◌∷◌, length, refl, sym, ap, subst, ◌∙◌, nat_eq, nat_lt, Option, Some, None}
 use Rattle.std.specs.FinMap as map
 use Rattle.frame_core.specs.declared.record.Cause.{Cause}
 use Rattle.frame_core.specs.declared.record.Cause.TheVariants.{Pinned}
@@ -40,7 +40,7 @@ module _ (z w : ZoneState) (same : IsSame z w) where
   begun_agrees = record { same = with_fingers z w same; migrate = refl; free = ap (λ n. 512 * n) same.blocks }
 
   pub isolate_agrees : isolate_refusal z ≡ isolate_refusal w
-  isolate_agrees = λ i. cond (nat_lt (length (same.out_is i) + 1) (same.room i) && nat_lt (isolated_same z w same i) (2 ^ 32 - 1)) None (Some JournalFull)
+  isolate_agrees = λ i. cond (nat_lt (length (same.out_is i) + 1) (same.room i)) None (Some JournalFull)
 
   pub ended_agrees : (page : ℕ) → ended_as z page ≡ ended_as w page
   ended_agrees page = λ i. cond (nat_eq (pins_same z w same page i) 0) ended.Moved ended.Back

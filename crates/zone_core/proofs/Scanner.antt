@@ -1,5 +1,5 @@
 -- What the scanner doesn't see: which of the moving pages have been moved already.
-use Rattle.std.proofs.Common.{◌≡◌, ℕ, zero, suc, ◌+◌, ◌-◌, ◌*◌, ◌/◌, ◌^◌, ◌<◌, ◌≤◌, Bool, not, cond, ◌&&◌, ◌||◌, length, inl, inr, refl, sym, ap, ◌∙◌, arith, nat_eq, nat_le, nat_lt, Option, Some, None, is_none, ne_eqb}
+use Rattle.std.proofs.Common.{◌≡◌, ℕ, zero, suc, ◌+◌, ◌*◌, ◌/◌, ◌<◌, ◌≤◌, Bool, not, cond, ◌&&◌, ◌||◌, length, inl, inr, refl, sym, ap, ◌∙◌, arith, nat_eq, nat_le, nat_lt, Option, Some, None, is_none, ne_eqb}
 use Rattle.std.specs.FinMap as map
 use Rattle.std.specs.FinSet as set
 use Rattle.std.proofs.lemmas.Bool.{and_parts, leb-true}
@@ -140,7 +140,7 @@ module _ (z w : ZoneState) (seen : IsSeenAs z w) where
       ]
 
   pub refusal_same : isolate_refusal z ≡ isolate_refusal w
-  refusal_same = λ i. cond (room_for_two i && nat_lt (seen.count i) (2 ^ 32 - 1)) None (Some JournalFull)
+  refusal_same = λ i. cond (room_for_two i) None (Some JournalFull)
 
   pub pair_seen : scan_pair z ≡ scan_pair w
   pair_seen = λ i. cond (is_none (refusal_same i)) (pair_same i) None

@@ -16,7 +16,7 @@ use Rattle.state_core.specs.Valid.{IsValidZone}
 use Rattle.state_core.specs.Pairs.{IsPair, next_pair, can_move, stands_in}
 use Rattle.state_core.specs.ZoneState.{ZoneState, frame_count, takes_up}
 use Rattle.state_core.proofs.Entries.{get_insert_same, get_insert_other}
-use Rattle.state_core.proofs.Facts.{room_and_serial}
+use Rattle.state_core.proofs.Facts.{room_for_two}
 use Rattle.state_core.proofs.Pairing.{pair_found}
 use Rattle.state_core.proofs.Settled.{valid_isolated}
 use Rattle.zone_core.specs.Alone.{AreCarriedUp, IsSeenAs}
@@ -129,8 +129,8 @@ outcome_scan z w carried_z carried_w same =
       by : (o : Option Pair) → scan_pair z ≡ o → scan_pair w ≡ o → outcome_of (next_state z o) ≡ outcome_of (next_state w o)
       by None e f = same
       by (Some pair) e f =
-          let room_z = (room_and_serial z (if_accepted _ (next_pair z) pair e).0).0 in
-          let room_w = (room_and_serial w (if_accepted _ (next_pair w) pair f).0).0 in
+          let room_z = room_for_two z (if_accepted _ (next_pair z) pair e).0 in
+          let room_w = room_for_two w (if_accepted _ (next_pair w) pair f).0 in
           outcome_isolated z w pair (omega arith) (omega arith) same
 
 -- so many steps

@@ -60,7 +60,7 @@ seat_noted seat (next.Page p) = record seat { count = seat.count + 1; last = Som
 -- where the answer is a page, its serial isn't the highest number
 abbrev pub IsFollowed : Next IsolatedPage → Type 0
 IsFollowed next.Met = ⊤
-IsFollowed (next.Page p) = p.serial + 1 < 2 ^ 32
+IsFollowed (next.Page p) = p.serial + 1 < 2 ^ 64
 
 -- the end seat after it counted the end of a move
 abbrev pub seat_ended : EndSeat → Ended → EndSeat

@@ -85,7 +85,7 @@ impl<const W: usize> BareZone<W> {
     }
 
     /// An empty zone whose journal is unrecorded, with this many pageblocks and with 8 address spaces of 4,096 virtual pages. The records
-    /// exist in the proofs alone, and there is room for 2^53. A zone isolates at most 2^32 - 1 pages in its life.
+    /// exist in the proofs alone, and there is room for 2^53.
     ///
     /// Refused as Range unless there are 1 to 32,768 pageblocks, else as Memory where there isn't enough.
     pub fn open_unrecorded(

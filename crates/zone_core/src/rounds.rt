@@ -47,8 +47,8 @@ impl<const W: usize, I: Ledger, M: Ledger, B: Ledger> Zone<W, I, M, B> {
     /// Isolates the page of the lowest source and notes the highest free frame above it as its target, both in unmarked pageblocks
     /// between the fingers. The page is moving from here on. The seat counts it, and notes each answer.
     ///
-    /// Refused as JournalFull unless the journal has at least two places more than pages are moving, and a serial is left: the
-    /// last one is 2^32 - 2. The seat notes this too.
+    /// Refused as JournalFull unless the journal has at least two places more than pages are moving. The seat notes
+    /// this too.
     #[inline(always)]
     pub fn isolate_next<N: Ledger>(
         &mut self,
@@ -135,7 +135,7 @@ impl<const W: usize, I: Ledger, M: Ledger, B: Ledger> Zone<W, I, M, B> {
     }
 
     /// How many moves have ended: those of pages that were moved, and those of pages that were put back.
-    pub fn ended(&self) -> u32
+    pub fn ended(&self) -> u64
         ensures { result ≡ moved self.now.records + put_back self.now.records }
     {
         self.bare.ended()

@@ -94,7 +94,7 @@ impl<const W: usize, I: Ledger, M: Ledger, B: Ledger> Zone<W, I, M, B> {
     }
 
     /// An empty zone whose journal is unrecorded, as `open` gives one whose journal is kept. The records exist in the proofs alone, and
-    /// there is room for 2^53. A zone isolates at most 2^32 - 1 pages in its life.
+    /// there is room for 2^53.
     ///
     /// Refused as Range unless there are 1 to 32,768 pageblocks, else as Memory where there isn't enough.
     pub fn open_unrecorded<N: Ledger>(

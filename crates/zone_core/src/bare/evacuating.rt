@@ -22,7 +22,7 @@ impl<const W: usize> BareZone<W> {
     /// Refused as Range where no block of this order can begin at the frame. Refused as NoBlock where a frame of the run is in a marked
     /// pageblock, handed out, or of a page that is moving, pinned or unmovable, and where fewer frames are free outside of the run, in
     /// unmarked pageblocks, than the run has pages. Else refused as JournalFull unless the journal has two places for each of these
-    /// pages, besides one for each page that is moving, and a serial is left for each.
+    /// pages, besides one for each page that is moving.
     pub fn evacuate(&mut self, first: FrameNo, order: Order) -> Result<u32, ZoneError>
         ensures refused { result_err result ≡ evacuate_refusal self.old first order }
         ensures err { OnErr result (self.new ≡ self.old) }

@@ -31,7 +31,7 @@ impl<const W: usize> BareZone<W> {
     /// have written. A page stays where it is that is pinned or unmovable, or in a marked pageblock, and so does one that was moving before.
     ///
     /// Answers `Met` once no page that can be moved has a free frame above it, or `JournalFull` where the journal has no room for one more
-    /// move, or no serial is left.
+    /// move.
     pub fn compact(&mut self) -> Answered
         ensures zone { self.new ≡ all_moved (round_begun self.old) }
         // Where no page was moving, it is the zone after a round by hand, but for the order in which moves ended.

@@ -64,7 +64,7 @@ impl<const W: usize> BareZone<W> {
     ///
     /// Refused as NoBlock where fewer runs are open, and where fewer frames of unmarked pageblocks are free than the blocks have frames.
     /// Else refused as JournalFull unless the journal has two places for each of the pages and one for each of the blocks, besides one for
-    /// each page that is moving, and a serial is left for each page.
+    /// each page that is moving.
     pub fn reserve(&mut self, order: Order, firsts: &mut [FrameNo]) -> Result<u32, ZoneError>
         ensures refused { result_err result ≡ reserve_refusal self.old (length firsts.old) order }
         ensures err { OnErr result ((self.new ≡ self.old) × (firsts.new ≡ firsts.old)) }

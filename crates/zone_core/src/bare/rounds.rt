@@ -35,8 +35,7 @@ impl<const W: usize> BareZone<W> {
     /// Isolates the page of the lowest source and notes the highest free frame above it as its target, both in unmarked pageblocks
     /// between the fingers. The page is moving from here on.
     ///
-    /// Refused as JournalFull unless the journal has at least two places more than pages are moving, and a serial is left: the
-    /// last one is 2^32 - 2.
+    /// Refused as JournalFull unless the journal has at least two places more than pages are moving.
     #[inline(always)]
     pub fn isolate_next(&mut self) -> Result<Next<IsolatedOf<W>>, ZoneError>
         ensures refused { result_err result ≡ isolate_refusal self.old }
@@ -69,7 +68,7 @@ impl<const W: usize> BareZone<W> {
         ensures is_pair { IfOk result (λ found. IfSome found (λ pair. IsPair self.now pair.page pair.source pair.target)) }
         ensures none { IfOk result (λ found. IfNone found (HaveMet self.now)) }
     {
-        if !self.tables.has_room_for_two() || !self.tables.has_serial() {
+        if !self.tables.has_room_for_two() {
             return Err(ZoneError::JournalFull);
         }
         Ok(self.tables.next_pair())
@@ -151,7 +150,7 @@ impl<const W: usize> BareZone<W> {
     }
 
     /// How many moves have ended: those of pages that were moved, and those of pages that were put back.
-    pub fn ended(&self) -> u32
+    pub fn ended(&self) -> u64
         ensures { result ≡ moved self.now.records + put_back self.now.records }
     {
         self.tables.ended()

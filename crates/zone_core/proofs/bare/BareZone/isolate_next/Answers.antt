@@ -1,7 +1,8 @@
-use Rattle.std.proofs.Common.{◌≡◌, ◌∙◌, ℕ, refl, ap, subst, sym}
+use Rattle.std.proofs.Common.{◌≡◌, ◌∙◌, ℕ, refl, ap, subst, sym, arith}
 use Rattle.std.specs.Prelude.{Option, Some, None, IfSome, IfNone}
 use Rattle.std.specs.FinMap as map
 use Rattle.frame_core.specs.History.{page_at}
+use Rattle.frame_core.specs.Moves.{isolated}
 use Rattle.frame_core.specs.Page.{IsolatedPage}
 use Rattle.state_core.specs.declared.placement.Placement.TheVariants.{Moving}
 use Rattle.state_core.specs.declared.round.Pair.{Pair}
@@ -9,6 +10,7 @@ use Rattle.state_core.specs.Valid.{IsValidZone}
 use Rattle.state_core.specs.Pairs.{IsPair, HaveMet}
 use Rattle.state_core.specs.ZoneState.{ZoneState}
 use Rattle.state_core.proofs.Entries.{get_insert_same, get_insert_other}
+use Rattle.state_core.proofs.Facts.{isolated_bound}
 use Rattle.state_core.proofs.Packing.{packed_quiet}
 use Rattle.zone_core.proofs.bare.BareZone.isolate_next.Goals as goal
 
@@ -33,6 +35,12 @@ returns-clause-pair g c =
           ∙ ap (λ (v : ZoneState). map.get v.placement other) view;
       names = λ address. ap (λ (v : ZoneState). page_at v.records address) step ∙ ap (λ (v : ZoneState). page_at v.records address) view;
     }
+
+pub returns-clause-followed : goal.returns-clause-followed
+returns-clause-followed g c =
+    let view = c.deref_mut.ensures.value ∙ c.self.view_is in
+    let serial = ap (λ (p : IsolatedPage). p.serial) c.isolate-page.ensures.page ∙ ap (λ (v : ZoneState). isolated v.records) view in
+    omega (arith, serial, isolated_bound c.args.self.now (subst IsValidZone c.self.view_is c.self.invariant))
 
 -- the scanners have met where there is no pair
 met_if_none : (z : ZoneState) (found : Option Pair) → ((pair : Pair) → found ≡ Some pair → ⊥) → IfNone found (HaveMet z) → HaveMet z
