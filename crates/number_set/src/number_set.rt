@@ -158,7 +158,9 @@ impl<const L: usize> NumberSet<L> {
         }
         if words::remove_run(&mut self.words, first, order) {
             self.above.remove_run(first / 64, order.saturating_sub(6));
-            self.lowest = self.above.first_or(self.words.len() as u32);
+            if first / 64 <= self.lowest {
+                self.lowest = self.above.first_or(self.words.len() as u32);
+            }
         }
     }
 

@@ -92,7 +92,7 @@ impl<const L: usize> UpperLevels<L> {
     }
 
     /// Puts in the 2^order numbers from `first` upwards. `first` is a multiple of 2^order, and order is 9 at most.
-    #[inline]
+    #[inline(never)]
     pub(crate) fn insert_run(&mut self, first: u32, order: u32)
         requires order { order ≤ 9 }
         requires aligned { first % 2 ^ order ≡ 0 }
@@ -110,7 +110,7 @@ impl<const L: usize> UpperLevels<L> {
     }
 
     /// Takes them out.
-    #[inline]
+    #[inline(never)]
     pub(crate) fn remove_run(&mut self, first: u32, order: u32)
         requires order { order ≤ 9 }
         requires aligned { first % 2 ^ order ≡ 0 }

@@ -124,7 +124,7 @@ pub(crate) fn insert_below(words: &mut [u64], bound: u32)
 }
 
 /// Writes the same bits to each of `count` words, from a first one upwards.
-#[inline(always)]
+#[inline(never)]
 fn write_run(words: &mut [u64], first: u32, count: u32, bits: u64)
     requires { first + count ≤ length words.old }
     ensures words { (word : ℕ) → slice_index words.new word ≡ (if in_run first count word then bits else slice_index words.old word) }
