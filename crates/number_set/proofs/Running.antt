@@ -1,5 +1,5 @@
 -- Runs of numbers: the words that a run is in, and its bits there.
-use Rattle.std.proofs.Common.{◌≡◌, ◌≢◌, ℕ, zero, suc, ◌+◌, ◌-◌, ◌*◌, ◌/◌, ◌%◌, ◌^◌, ◌<◌, ◌≤◌, ◌⊎◌, Bool, true, false, not, inl, inr, refl, sym, ap, ◌∙◌, subst, List, length, slice_index, get_or-set_same, get_or-set_other, eq-eqb, arith, rules}
+use Rattle.std.proofs.Common.{◌≡◌, ◌≢◌, ℕ, zero, suc, ◌+◌, ◌-◌, ◌*◌, ◌/◌, ◌%◌, ◌^◌, ◌<◌, ◌≤◌, ◌⊎◌, Bool, true, false, not, [], ◌∷◌, inl, inr, refl, sym, ap, ◌∙◌, subst, List, length, slice_index, get_or-set_same, get_or-set_other, eq-eqb, arith, rules}
 use Rattle.std.specs.Prelude.{nat_eq, nat_le, nat_lt, ◌&&◌, ◌||◌, bit_and, bit_or, slice_set, if◌then◌else◌}
 use Rattle.std.specs.Int.{bit_at}
 use Rattle.std.proofs.lemmas.Bool.{and_parts, eqb-true, ne_eqb, le-leb, lt-ltb, le-ltb, lt-leb, leb-true, ltb-true}
@@ -42,9 +42,31 @@ ones_left count some fits =
     let parts : 18446744073709551615 ≡ (2 ^ count - 1) * 2 ^ rest + (2 ^ rest - 1) = omega (arith, less, whole, most, pow_pos rest) in
     ap (λ n. n / 2 ^ rest) parts ∙ div-mul-add (2 ^ count - 1) (2 ^ rest) (2 ^ rest - 1) (omega (arith, pow_pos rest))
 
+from_zero : (bound n : ℕ) → in_run 0 bound n ≡ nat_lt n bound
+from_zero bound n = grind (arith, nat_tests)
+
+-- the lowest bits of a word, as the code makes them
+pub low_is : (count i : ℕ) → 0 < count → count ≤ 64 → has_bit (18446744073709551615 / 2 ^ (64 - count)) i ≡ nat_lt i count
+low_is count i some fits =
+    let most : 2 ^ count ≤ 2 ^ 64 = pow_mono fits in
+    let below : (2 ^ count - 1) * 2 ^ 0 < 2 ^ 64 = omega (arith, most, pow_pos count) in
+    let same : (2 ^ count - 1) * 2 ^ 0 ≡ 2 ^ count - 1 = omega arith in
+    ap (λ n. has_bit n i) (ones_left count some fits ∙ sym (mod-eq_of_lt below ∙ same)) ∙ ones_shifted count 0 i (omega (arith, fits)) ∙ from_zero count i
+
+-- the lowest bits of a word, 2^order of them
+ones_of : (order : ℕ) → order ≤ 6 → slice_index (1 ∷ 3 ∷ 15 ∷ 255 ∷ 65535 ∷ 4294967295 ∷ 18446744073709551615 ∷ []) order ≡ 2 ^ 2 ^ order - 1
+ones_of zero few = refl
+ones_of (suc zero) few = refl
+ones_of (suc (suc zero)) few = refl
+ones_of (suc (suc (suc zero))) few = refl
+ones_of (suc (suc (suc (suc zero)))) few = refl
+ones_of (suc (suc (suc (suc (suc zero))))) few = refl
+ones_of (suc (suc (suc (suc (suc (suc zero)))))) few = refl
+ones_of (suc (suc (suc (suc (suc (suc (suc n))))))) few = absurd (omega arith)
+
 -- the bits of a run, as the code makes them
-pub run_is : (first count i : ℕ) → 0 < count → first + count ≤ 64 → has_bit (18446744073709551615 / 2 ^ (64 - count) * 2 ^ first % 2 ^ 64) i ≡ in_run first count i
-run_is first count i some fits = ap (λ n. has_bit (n * 2 ^ first % 2 ^ 64) i) (ones_left count some (omega arith)) ∙ ones_shifted count first i fits
+pub run_is : (first order i : ℕ) → order ≤ 6 → first + 2 ^ order ≤ 64 → has_bit (slice_index (1 ∷ 3 ∷ 15 ∷ 255 ∷ 65535 ∷ 4294967295 ∷ 18446744073709551615 ∷ []) order * 2 ^ first % 2 ^ 64) i ≡ in_run first (2 ^ order) i
+run_is first order i few fits = ap (λ n. has_bit (n * 2 ^ first % 2 ^ 64) i) (ones_of order few) ∙ ones_shifted (2 ^ order) first i fits
 
 -- what holds of each of the numbers to 9
 by_order : (P : ℕ → Type 0) → P 0 → P 1 → P 2 → P 3 → P 4 → P 5 → P 6 → P 7 → P 8 → P 9 → (n : ℕ) → n ≤ 9 → P n
@@ -107,9 +129,6 @@ whole_words first order n p more = words_run first (2 ^ (order - 6)) n (p.start 
 -- the numbers of a run in one word
 word_run : (first count n : ℕ) → first % 64 + count ≤ 64 → (nat_eq (n / 64) (first / 64) && in_run (first % 64) count (n % 64)) ≡ in_run first count n
 word_run first count n low = grind (arith, nat_tests, low)
-
-pub from_zero : (bound n : ℕ) → in_run 0 bound n ≡ nat_lt n bound
-from_zero bound n = grind (arith, nat_tests)
 
 one_word : (word i : ℕ) → in_run word 1 i ≡ nat_eq i word
 one_word word i = grind (arith, nat_tests)
@@ -271,9 +290,6 @@ module _ (first order : ℕ) (few : order ≤ 9) (aligned : first % 2 ^ order �
   pub shifted_within : (count : ℕ) → first + 2 ^ order ≤ 64 * count → first / 64 + 1 * 2 ^ (order - 6) % 2 ^ 32 ≤ count
   shifted_within count within = omega (arith, words_within first order count few aligned within, count_fits (order - 6) (omega arith))
 
-  pub bits_within : order ≤ 6 → first % 64 + 1 * 2 ^ order % 2 ^ 32 ≤ 64
-  bits_within less = omega (arith, (parts first order few aligned).low less, count_fits order (omega arith))
-
 -- all numbers below a bound were put in: those of whole words, and then those of a part of one
 below_words : (count n : ℕ) → in_run 0 count (n / 64) ≡ nat_lt n (64 * count)
 below_words count n = grind (arith, nat_tests)
@@ -285,22 +301,19 @@ module _ (words new : List ℕ) (bound : ℕ) (each : (word : ℕ) → slice_ind
   pub whole_below : bound % 64 ≡ 0 → (n : ℕ) → has_number new n ≡ (nat_lt n bound || has_number words n)
   whole_below none n = let same : 64 * (bound / 64) ≡ bound = omega (arith, none) in by_words n ∙ ap (λ k. nat_lt n k || has_number words n) same
 
-  module _ (mask : ℕ) (within : bound / 64 < length new) (some : 0 < bound % 64) (ones : (i : ℕ) → has_bit mask i ≡ in_run 0 (bound % 64) i) where
-    joined : (n : ℕ) (x : Bool) → ((nat_eq (n / 64) (bound / 64) && in_run 0 (bound % 64) (n % 64)) || (nat_lt n (64 * (bound / 64)) || x)) ≡ (nat_lt n bound || x)
+  module _ (mask : ℕ) (within : bound / 64 < length new) (some : 0 < bound % 64) (ones : (i : ℕ) → has_bit mask i ≡ nat_lt i (bound % 64)) where
+    joined : (n : ℕ) (x : Bool) → ((nat_eq (n / 64) (bound / 64) && nat_lt (n % 64) (bound % 64)) || (nat_lt n (64 * (bound / 64)) || x)) ≡ (nat_lt n bound || x)
     joined n x = grind (arith, nat_tests)
 
     joined_words : (i : ℕ) (x : Bool) → (nat_eq i (bound / 64) || (in_run 0 (bound / 64) i || x)) ≡ (nat_lt i ((bound + 63) / 64) || x)
     joined_words i x = grind (arith, nat_tests, some)
-
-    starts : in_run 0 (bound % 64) 0 ≡ true
-    starts = λ j. le-leb 0 0 (omega arith) j && lt-ltb 0 (0 + bound % 64) (omega (arith, some)) j
 
     pub part_below : (n : ℕ) → has_number (slice_set new (bound / 64) (bit_or (slice_index new (bound / 64)) mask)) n ≡ (nat_lt n bound || has_number words n)
     part_below n = mask_put new (bound / 64) mask within n ∙ (λ j. (nat_eq (n / 64) (bound / 64) && ones (n % 64) j) || by_words n j) ∙ joined n (has_number words n)
 
     pub part_below_filled : (i : ℕ) → is_filled (slice_set new (bound / 64) (bit_or (slice_index new (bound / 64)) mask)) i ≡ (nat_lt i ((bound + 63) / 64) || is_filled words i)
     part_below_filled i =
-        filled_put new (bound / 64) (bit_or (slice_index new (bound / 64)) mask) within (some_bit (slice_index new (bound / 64)) mask 0 (ones 0 ∙ starts)) i
+        filled_put new (bound / 64) (bit_or (slice_index new (bound / 64)) mask) within (some_bit (slice_index new (bound / 64)) mask 0 (ones 0 ∙ lt-ltb 0 (bound % 64) some)) i
         ∙ ap (λ b. nat_eq i (bound / 64) || b) (ones_filled words new 0 (bound / 64) 18446744073709551615 each refl i) ∙ joined_words i (is_filled words i)
 
 -- whether all numbers of some words are there

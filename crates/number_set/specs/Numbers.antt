@@ -1,5 +1,5 @@
 -- Sets of numbers below a bound.
-use Rattle.std.specs.Prelude.{ℕ, zero, suc, ◌+◌, ◌*◌, ◌/◌, Bool, List, length, nat_eq, refl, if◌then◌else◌}
+use Rattle.std.specs.Prelude.{ℕ, zero, suc, ◌+◌, ◌*◌, ◌/◌, Bool, List, length, refl, if◌then◌else◌}
 use Rattle.std.specs.Coded.{Coded, code_by, coded×, coded_ℕ}
 use Rattle.std.specs.Ordering.{nat_cmp}
 use Rattle.std.specs.FinSet as set
@@ -28,7 +28,6 @@ numbers_of words = gathered (has_number words) (64 * length words)
 abbrev pub numbers_in : List ℕ → Numbers
 numbers_in words = record { members = numbers_of words; bound = 64 * length words }
 
--- the bound of a set of so many levels that is opened for the numbers below another bound: those of whole words, and with
--- two levels 4,096
-abbrev pub room_for : ℕ → ℕ → ℕ
-room_for levels bound = if nat_eq levels 2 then 4096 else 64 * ((bound + 63) / 64)
+-- the bound of a set that is opened for the numbers below another bound: that of whole words
+abbrev pub room_for : ℕ → ℕ
+room_for bound = 64 * ((bound + 63) / 64)

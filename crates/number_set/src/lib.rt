@@ -1,4 +1,4 @@
-//! Sets of numbers: of numbers below 4,096, 262,144 or 16,777,216, as the type says.
+//! Sets of numbers below 16,777,216.
 //!
 //! A [`NumberSet`] is a tree of words of 64 bits. The lowest level has a bit for each number. Each level above it has a bit for
 //! each word of the level below, which says whether that word has a number, and the first level is one word. So a search looks

@@ -11,52 +11,43 @@ use crate::words;
 use std::alloc::{AllocError, Global};
 use std::marker::Model;
 
-/// A set of numbers below a bound, in `L` levels of words: 2, 3 or 4. The bound is 4,096 with two levels, and at most
-/// 262,144 with three and 16,777,216 with four. Each call for a number looks at two words of each level at most, and each call
-/// for a run at its words, which are eight at most, and at one word of each level above. With four levels the set knows its
-/// lowest word that has a number: `first` looks at that word alone, and a call that empties it looks at one word of each level
-/// above for the next.
+/// A set of numbers below a bound, which is 16,777,216 at most, in four levels of words. Each call for a number looks at two
+/// words of each level at most, and each call for a run at its words, which are eight at most, and at one word of each level
+/// above. The set knows its lowest word that has a number: `first` looks at that word alone, and a call that empties it looks
+/// at one word of each level above for the next.
 #[derive(Drop)]
-pub struct NumberSet<const L: usize> {
+pub struct NumberSet {
     words: Vec<u64>,
-    /// With four levels, the lowest of `words` that has a number, or the count of `words` where none has.
+    /// The lowest of `words` that has a number, or the count of `words` where none has.
     lowest: u32,
-    above: UpperLevels<L>,
+    above: UpperLevels,
 }
 
-impl<const L: usize> Model for NumberSet<L> {
-    ghost use Rattle.std.specs.Prelude.{◌≡◌, ◌≢◌, ◌≤◌, length};
+impl Model for NumberSet {
+    ghost use Rattle.std.specs.Prelude.{◌≡◌, ◌≤◌, length};
     ghost use Rattle.number_set.specs.Bits.{is_filled};
     ghost use Rattle.number_set.specs.Finds.{StartsAt};
-    ghost use Rattle.number_set.specs.Levels.{level_numbers, Summarizes};
-    ghost use Rattle.number_set.specs.Numbers.{Numbers, coded_numbers};
+    ghost use Rattle.number_set.specs.Levels.{Summarizes};
+    ghost use Rattle.number_set.specs.Numbers.{Numbers, coded_numbers, numbers_in};
 
     ghost Value = { Numbers };
 
     ghost coded = { coded_numbers };
 
-    ghost view = { λ s. level_numbers L s.above s.words.items };
+    ghost view = { λ s. numbers_in s.words.items };
 
-    ghost invariant = { λ s. L ≡ 4 → (length s.words.items ≤ s.above.bound) × (s.above.bound ≤ 262144) × Summarizes s.above.members s.words.items × StartsAt (is_filled s.words.items) (length s.words.items) s.lowest };
+    ghost invariant = { λ s. (length s.words.items ≤ s.above.bound) × (s.above.bound ≤ 262144) × Summarizes s.above.members s.words.items × StartsAt (is_filled s.words.items) (length s.words.items) s.lowest };
 }
 
-impl<const L: usize> NumberSet<L> {
+impl NumberSet {
     /// An empty set with room for the numbers below a bound, or an error where there is no memory for it. Only this call and
-    /// `filled` take memory. With two levels they take none either: their words lie in the set itself.
+    /// `filled` take memory.
     pub fn open(alloc: Global, bound: u32) -> Result<Self, AllocError>
-        requires levels { (2 ≤ L) × (L ≤ 4) }
-        requires bound { bound ≤ 64 ^ L }
+        requires { bound ≤ 16777216 }
         ensures empty { IfOk result (λ s. s.members ≡ set.empty) }
-        ensures bound { IfOk result (λ s. s.bound ≡ room_for L bound) }
+        ensures bound { IfOk result (λ s. s.bound ≡ room_for bound) }
         ensures enough { IfOk result (λ s. bound ≤ s.bound) }
     {
-        if L != 4 {
-            return Ok(NumberSet {
-                words: words::open(alloc, 0)?,
-                lowest: 0,
-                above: UpperLevels::open(alloc, bound)?,
-            });
-        }
         let count = (bound + 63) / 64;
         Ok(NumberSet {
             words: words::open(alloc, count)?,
@@ -67,10 +58,9 @@ impl<const L: usize> NumberSet<L> {
 
     /// The set of all numbers below a bound, or an error where there is no memory for it. It is filled word by word.
     pub fn filled(alloc: Global, bound: u32) -> Result<Self, AllocError>
-        requires levels { (2 ≤ L) × (L ≤ 4) }
-        requires bound { bound ≤ 64 ^ L }
+        requires { bound ≤ 16777216 }
         ensures all { IfOk result (λ s. (number : ℕ) → set.contains s.members number ≡ nat_lt number bound) }
-        ensures bound { IfOk result (λ s. s.bound ≡ room_for L bound) }
+        ensures bound { IfOk result (λ s. s.bound ≡ room_for bound) }
         ensures enough { IfOk result (λ s. bound ≤ s.bound) }
     {
         let mut set = Self::open(alloc, bound)?;
@@ -84,9 +74,6 @@ impl<const L: usize> NumberSet<L> {
         requires { number < self.now.bound }
         ensures { result ≡ set.contains self.now.members number }
     {
-        if L != 4 {
-            return self.above.contains(number);
-        }
         words::contains(&self.words, number)
     }
 
@@ -96,10 +83,6 @@ impl<const L: usize> NumberSet<L> {
         requires { number < self.old.bound }
         ensures { self.new ≡ record self.old { members = set.insert self.old.members number } }
     {
-        if L != 4 {
-            self.above.insert(number);
-            return;
-        }
         if words::insert(&mut self.words, number) {
             self.above.insert(number / 64);
             self.lowest = self.lowest.min(number / 64);
@@ -112,10 +95,6 @@ impl<const L: usize> NumberSet<L> {
         requires { number < self.old.bound }
         ensures { self.new ≡ record self.old { members = set.remove self.old.members number } }
     {
-        if L != 4 {
-            self.above.remove(number);
-            return;
-        }
         if words::remove(&mut self.words, number) {
             self.above.remove(number / 64);
             if number / 64 == self.lowest {
@@ -133,10 +112,6 @@ impl<const L: usize> NumberSet<L> {
         ensures run { (number : ℕ) → set.contains self.new.members number ≡ (in_run first (2 ^ order) number || set.contains self.old.members number) }
         ensures bound { self.new.bound ≡ self.old.bound }
     {
-        if L != 4 {
-            self.above.insert_run(first, order);
-            return;
-        }
         if words::insert_run(&mut self.words, first, order) {
             self.above.insert_run(first / 64, order.saturating_sub(6));
             self.lowest = self.lowest.min(first / 64);
@@ -152,13 +127,11 @@ impl<const L: usize> NumberSet<L> {
         ensures run { (number : ℕ) → set.contains self.new.members number ≡ (not (in_run first (2 ^ order) number) && set.contains self.old.members number) }
         ensures bound { self.new.bound ≡ self.old.bound }
     {
-        if L != 4 {
-            self.above.remove_run(first, order);
-            return;
-        }
         if words::remove_run(&mut self.words, first, order) {
             self.above.remove_run(first / 64, order.saturating_sub(6));
-            self.lowest = self.above.first_or(self.words.len() as u32);
+            if first / 64 <= self.lowest {
+                self.lowest = self.above.first_or(self.words.len() as u32);
+            }
         }
     }
 
@@ -170,9 +143,6 @@ impl<const L: usize> NumberSet<L> {
         requires within { first + 2 ^ order ≤ self.now.bound }
         ensures { IsTrue result ↔ ((number : ℕ) → in_run first (2 ^ order) number ≡ true → set.contains self.now.members number ≡ true) }
     {
-        if L != 4 {
-            return self.above.has_run(first, order);
-        }
         words::has_run(&self.words, first, order)
     }
 
@@ -182,9 +152,6 @@ impl<const L: usize> NumberSet<L> {
         ensures first { MatchOption result (NoneAtAll (set.contains self.now.members)) (IsFirst (set.contains self.now.members)) }
         ensures within { IfSome result (λ n. n < self.now.bound) }
     {
-        if L != 4 {
-            return self.above.first();
-        }
         if self.lowest as usize >= self.words.len() {
             return None;
         }
@@ -197,9 +164,6 @@ impl<const L: usize> NumberSet<L> {
         ensures last { MatchOption result (NoneAtAll (set.contains self.now.members)) (IsLast (set.contains self.now.members)) }
         ensures within { IfSome result (λ n. n < self.now.bound) }
     {
-        if L != 4 {
-            return self.above.last();
-        }
         let Some(word) = self.above.last() else {
             return None;
         };
@@ -213,9 +177,6 @@ impl<const L: usize> NumberSet<L> {
         ensures next { MatchOption result (NoneAbove (set.contains self.now.members) number) (IsNext (set.contains self.now.members) number) }
         ensures within { IfSome result (λ n. n < self.now.bound) }
     {
-        if L != 4 {
-            return self.above.after(number);
-        }
         if let Some(found) = words::next_in_word(&self.words, number) {
             return Some(found);
         }
@@ -232,9 +193,6 @@ impl<const L: usize> NumberSet<L> {
         ensures previous { MatchOption result (NoneBelow (set.contains self.now.members) number) (IsPrevious (set.contains self.now.members) number) }
         ensures within { IfSome result (λ n. n < self.now.bound) }
     {
-        if L != 4 {
-            return self.above.before(number);
-        }
         if let Some(found) = words::previous_in_word(&self.words, number) {
             return Some(found);
         }
@@ -263,10 +221,6 @@ impl<const L: usize> NumberSet<L> {
         ensures numbers { (number : ℕ) → set.contains self.new.members number ≡ (nat_lt number bound || set.contains self.old.members number) }
         ensures bound { self.new.bound ≡ self.old.bound }
     {
-        if L != 4 {
-            self.above.insert_below(bound);
-            return;
-        }
         words::insert_below(&mut self.words, bound);
         self.above.insert_below((bound + 63) / 64);
         self.lowest = self.above.first_or(self.words.len() as u32);

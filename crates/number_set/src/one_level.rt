@@ -5,7 +5,7 @@ ghost use Rattle.std.specs.FinSet as set;
 ghost use Rattle.number_set.specs.Finds.{IsFirst, IsLast, IsNext, IsPrevious, NoneAtAll, NoneAbove, NoneBelow};
 ghost use Rattle.number_set.specs.Runs.{in_run};
 
-use crate::word::{highest_bit, lowest_bit, next_bit, previous_bit, run_bits};
+use crate::word::{highest_bit, low_bits, lowest_bit, next_bit, previous_bit, run_bits};
 use std::marker::Model;
 
 /// A set of numbers below 64: the bits of one word.
@@ -64,7 +64,7 @@ impl OneLevel {
         requires within { first + 2 ^ order ≤ 64 }
         ensures { (number : ℕ) → set.contains self.new number ≡ (in_run first (2 ^ order) number || set.contains self.old number) }
     {
-        self.bits |= run_bits(first, 1 << order);
+        self.bits |= run_bits(first, order);
     }
 
     /// Takes them out.
@@ -74,7 +74,7 @@ impl OneLevel {
         requires within { first + 2 ^ order ≤ 64 }
         ensures { (number : ℕ) → set.contains self.new number ≡ (not (in_run first (2 ^ order) number) && set.contains self.old number) }
     {
-        self.bits &= !run_bits(first, 1 << order);
+        self.bits &= !run_bits(first, order);
     }
 
     /// Puts in all numbers below a bound.
@@ -83,7 +83,7 @@ impl OneLevel {
         ensures { (number : ℕ) → set.contains self.new number ≡ (nat_lt number bound || set.contains self.old number) }
     {
         if bound != 0 {
-            self.bits |= run_bits(0, bound);
+            self.bits |= low_bits(bound);
         }
     }
 

@@ -51,13 +51,7 @@ fn highest(table: &[bool], bound: u32) -> Option<u32>
 }
 
 /// The set answers what the table says, at this number and at both ends.
-fn agree<const L: usize>(
-    rt: &impl Abort,
-    set: &NumberSet<L>,
-    table: &[bool],
-    bound: u32,
-    number: u32,
-)
+fn agree(rt: &impl Abort, set: &NumberSet, table: &[bool], bound: u32, number: u32)
     requires number { number < bound }
     requires table { length table.now ≡ bound }
     requires set { bound ≤ set.now.bound }
@@ -88,12 +82,11 @@ fn agree<const L: usize>(
 
 /// Numbers are drawn, and put in or taken out where they were put in before. They lie in a few places, so that words fill
 /// and become empty again.
-fn change_and_ask<const L: usize>(rt: &impl Abort, alloc: Global, bound: u32, steps: u32)
-    requires levels { (2 ≤ L) × (L ≤ 4) }
-    requires bound { bound ≤ 64 ^ L }
+fn change_and_ask(rt: &impl Abort, alloc: Global, bound: u32, steps: u32)
+    requires bound { bound ≤ 16777216 }
     requires some { 1000 < bound }
 {
-    let mut set = NumberSet::<L>::open(alloc, bound).expect(rt, "memory");
+    let mut set = NumberSet::open(alloc, bound).expect(rt, "memory");
     let mut table = Vec::from_elem(alloc, false, bound as usize).expect(rt, "memory");
     let mut draws = Draws { state: 1 };
     for _ in 0..steps {
@@ -105,35 +98,20 @@ fn change_and_ask<const L: usize>(rt: &impl Abort, alloc: Global, bound: u32, st
         } else {
             set.insert(number);
         }
-        agree::<L>(rt, &set, &table, bound, number);
+        agree(rt, &set, &table, bound, number);
         let other = draws.below(bound);
-        agree::<L>(rt, &set, &table, bound, other);
+        agree(rt, &set, &table, bound, other);
     }
 }
 
 #[test]
-fn two_levels_answer_as_a_table(rt: HostRuntime) {
-    change_and_ask::<2>(&rt, rt.alloc(), 4_096, 1_000);
-}
-
-#[test]
-fn three_levels_answer_as_a_table(rt: HostRuntime) {
-    change_and_ask::<3>(&rt, rt.alloc(), 20_000, 500);
-}
-
-#[test]
-fn four_levels_answer_as_a_table(rt: HostRuntime) {
-    change_and_ask::<4>(&rt, rt.alloc(), 300_000, 100);
+fn answers_as_a_table(rt: HostRuntime) {
+    change_and_ask(&rt, rt.alloc(), 4_096, 1_000);
+    change_and_ask(&rt, rt.alloc(), 300_000, 100);
 }
 
 /// The 2^order numbers from one on are taken out where the set has them all, and put in where it lacks one.
-fn turn_and_ask<const L: usize>(
-    rt: &impl Abort,
-    set: &mut NumberSet<L>,
-    table: &mut [bool],
-    first: u32,
-    order: u32,
-)
+fn turn_and_ask(rt: &impl Abort, set: &mut NumberSet, table: &mut [bool], first: u32, order: u32)
     requires order { order ≤ 9 }
     requires aligned { first % 2 ^ order ≡ 0 }
     requires within { first + 2 ^ order ≤ length table.old }
@@ -157,51 +135,36 @@ fn turn_and_ask<const L: usize>(
         set.insert_run(first, order);
     }
     let bound = table.len() as u32;
-    agree::<L>(rt, set, table, bound, first);
-    agree::<L>(rt, set, table, bound, end - 1);
+    agree(rt, set, table, bound, first);
+    agree(rt, set, table, bound, end - 1);
 }
 
 /// A full set loses runs at the ends of words, and gets some of them back.
-fn turn_word_ends<const L: usize>(rt: &impl Abort, set: &mut NumberSet<L>, table: &mut [bool])
+fn turn_word_ends(rt: &impl Abort, set: &mut NumberSet, table: &mut [bool])
     requires some { 4096 ≤ length table.old }
     requires few { length table.old < 2 ^ 24 }
     requires set { length table.old ≤ set.old.bound }
     ensures set { set.new.bound ≡ set.old.bound }
     ensures table { length table.new ≡ length table.old }
 {
-    turn_and_ask::<L>(rt, set, table, 63, 0);
-    turn_and_ask::<L>(rt, set, table, 0, 6);
-    turn_and_ask::<L>(rt, set, table, 0, 7);
-    turn_and_ask::<L>(rt, set, table, 0, 7);
-    turn_and_ask::<L>(rt, set, table, 96, 5);
-    turn_and_ask::<L>(rt, set, table, 3_584, 9);
-    turn_and_ask::<L>(rt, set, table, 4_032, 6);
-    turn_and_ask::<L>(rt, set, table, 4_032, 3);
-    turn_and_ask::<L>(rt, set, table, 4_088, 3);
+    turn_and_ask(rt, set, table, 63, 0);
+    turn_and_ask(rt, set, table, 0, 6);
+    turn_and_ask(rt, set, table, 0, 7);
+    turn_and_ask(rt, set, table, 0, 7);
+    turn_and_ask(rt, set, table, 96, 5);
+    turn_and_ask(rt, set, table, 3_584, 9);
+    turn_and_ask(rt, set, table, 4_032, 6);
+    turn_and_ask(rt, set, table, 4_032, 3);
+    turn_and_ask(rt, set, table, 4_088, 3);
 }
 
 #[test]
-fn two_levels_turn_runs(rt: HostRuntime) {
-    let mut set = NumberSet::<2>::filled(rt.alloc(), 4_096).expect(&rt, "memory");
-    let mut table = Vec::from_elem(rt.alloc(), true, 4_096).expect(&rt, "memory");
-    turn_word_ends::<2>(&rt, &mut set, &mut table);
-}
-
-#[test]
-fn three_levels_turn_runs(rt: HostRuntime) {
-    let mut set = NumberSet::<3>::filled(rt.alloc(), 20_000).expect(&rt, "memory");
-    let mut table = Vec::from_elem(rt.alloc(), true, 20_000).expect(&rt, "memory");
-    turn_word_ends::<3>(&rt, &mut set, &mut table);
-    turn_and_ask::<3>(&rt, &mut set, &mut table, 4_096, 8);
-    turn_and_ask::<3>(&rt, &mut set, &mut table, 19_968, 5);
-}
-
-#[test]
-fn four_levels_turn_runs(rt: HostRuntime) {
-    let mut set = NumberSet::<4>::filled(rt.alloc(), 300_000).expect(&rt, "memory");
+fn turns_runs(rt: HostRuntime) {
+    let mut set = NumberSet::filled(rt.alloc(), 300_000).expect(&rt, "memory");
     let mut table = Vec::from_elem(rt.alloc(), true, 300_000).expect(&rt, "memory");
-    turn_word_ends::<4>(&rt, &mut set, &mut table);
-    turn_and_ask::<4>(&rt, &mut set, &mut table, 261_632, 9);
-    turn_and_ask::<4>(&rt, &mut set, &mut table, 262_144, 9);
-    turn_and_ask::<4>(&rt, &mut set, &mut table, 299_968, 5);
+    turn_word_ends(&rt, &mut set, &mut table);
+    turn_and_ask(&rt, &mut set, &mut table, 4_096, 8);
+    turn_and_ask(&rt, &mut set, &mut table, 261_632, 9);
+    turn_and_ask(&rt, &mut set, &mut table, 262_144, 9);
+    turn_and_ask(&rt, &mut set, &mut table, 299_968, 5);
 }

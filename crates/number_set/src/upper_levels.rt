@@ -11,40 +11,38 @@ use crate::words;
 use std::alloc::{AllocError, Global};
 use std::marker::Model;
 
-/// The first two levels of a set, and its third one where it has more than two.
+/// The first three levels of a set: words, and above them the set of those that have a number.
 #[derive(Drop)]
-pub(crate) struct UpperLevels<const L: usize> {
+pub(crate) struct UpperLevels {
     words: Vec<u64>,
     above: TwoLevels,
 }
 
-impl<const L: usize> Model for UpperLevels<L> {
-    ghost use Rattle.std.specs.Prelude.{◌≡◌, ◌≢◌, ◌≤◌, length};
-    ghost use Rattle.number_set.specs.Levels.{upper_numbers, Summarizes};
-    ghost use Rattle.number_set.specs.Numbers.{Numbers, coded_numbers};
+impl Model for UpperLevels {
+    ghost use Rattle.std.specs.Prelude.{◌≡◌, ◌≤◌, length};
+    ghost use Rattle.number_set.specs.Levels.{Summarizes};
+    ghost use Rattle.number_set.specs.Numbers.{Numbers, coded_numbers, numbers_in};
 
     ghost Value = { Numbers };
 
     ghost coded = { coded_numbers };
 
-    ghost view = { λ s. upper_numbers L s.above s.words.items };
+    ghost view = { λ s. numbers_in s.words.items };
 
-    ghost invariant = { λ s. L ≢ 2 → (length s.words.items ≤ 4096) × Summarizes s.above s.words.items };
+    ghost invariant = { λ s. (length s.words.items ≤ 4096) × Summarizes s.above s.words.items };
 }
 
-impl<const L: usize> UpperLevels<L> {
+impl UpperLevels {
     /// Empty levels with room for the numbers below a bound, or an error where there is no memory for them.
     pub(crate) fn open(alloc: Global, bound: u32) -> Result<Self, AllocError>
-        requires two { L ≡ 2 → bound ≤ 4096 }
-        requires three { bound ≤ 262144 }
+        requires { bound ≤ 262144 }
         ensures empty { IfOk result (λ s. s.members ≡ set.empty) }
-        ensures bound { IfOk result (λ s. s.bound ≡ room_for L bound) }
+        ensures bound { IfOk result (λ s. s.bound ≡ room_for bound) }
         ensures enough { IfOk result (λ s. bound ≤ s.bound) }
         ensures most { IfOk result (λ s. s.bound ≤ 262144) }
     {
-        let count = if L == 2 { 0 } else { (bound + 63) / 64 };
         Ok(UpperLevels {
-            words: words::open(alloc, count)?,
+            words: words::open(alloc, (bound + 63) / 64)?,
             above: TwoLevels::new(),
         })
     }
@@ -55,9 +53,6 @@ impl<const L: usize> UpperLevels<L> {
         requires { number < self.now.bound }
         ensures { result ≡ set.contains self.now.members number }
     {
-        if L == 2 {
-            return self.above.contains(number);
-        }
         words::contains(&self.words, number)
     }
 
@@ -67,10 +62,6 @@ impl<const L: usize> UpperLevels<L> {
         requires { number < self.old.bound }
         ensures { self.new ≡ record self.old { members = set.insert self.old.members number } }
     {
-        if L == 2 {
-            self.above.insert(number);
-            return;
-        }
         if words::insert(&mut self.words, number) {
             self.above.insert(number / 64);
         }
@@ -82,17 +73,13 @@ impl<const L: usize> UpperLevels<L> {
         requires { number < self.old.bound }
         ensures { self.new ≡ record self.old { members = set.remove self.old.members number } }
     {
-        if L == 2 {
-            self.above.remove(number);
-            return;
-        }
         if words::remove(&mut self.words, number) {
             self.above.remove(number / 64);
         }
     }
 
     /// Puts in the 2^order numbers from `first` upwards. `first` is a multiple of 2^order, and order is 9 at most.
-    #[inline]
+    #[inline(never)]
     pub(crate) fn insert_run(&mut self, first: u32, order: u32)
         requires order { order ≤ 9 }
         requires aligned { first % 2 ^ order ≡ 0 }
@@ -100,17 +87,13 @@ impl<const L: usize> UpperLevels<L> {
         ensures run { (number : ℕ) → set.contains self.new.members number ≡ (in_run first (2 ^ order) number || set.contains self.old.members number) }
         ensures bound { self.new.bound ≡ self.old.bound }
     {
-        if L == 2 {
-            self.above.insert_run(first, order);
-            return;
-        }
         if words::insert_run(&mut self.words, first, order) {
             self.above.insert_run(first / 64, order.saturating_sub(6));
         }
     }
 
     /// Takes them out.
-    #[inline]
+    #[inline(never)]
     pub(crate) fn remove_run(&mut self, first: u32, order: u32)
         requires order { order ≤ 9 }
         requires aligned { first % 2 ^ order ≡ 0 }
@@ -118,10 +101,6 @@ impl<const L: usize> UpperLevels<L> {
         ensures run { (number : ℕ) → set.contains self.new.members number ≡ (not (in_run first (2 ^ order) number) && set.contains self.old.members number) }
         ensures bound { self.new.bound ≡ self.old.bound }
     {
-        if L == 2 {
-            self.above.remove_run(first, order);
-            return;
-        }
         if words::remove_run(&mut self.words, first, order) {
             self.above.remove_run(first / 64, order.saturating_sub(6));
         }
@@ -135,9 +114,6 @@ impl<const L: usize> UpperLevels<L> {
         requires within { first + 2 ^ order ≤ self.now.bound }
         ensures { IsTrue result ↔ ((number : ℕ) → in_run first (2 ^ order) number ≡ true → set.contains self.now.members number ≡ true) }
     {
-        if L == 2 {
-            return self.above.has_run(first, order);
-        }
         words::has_run(&self.words, first, order)
     }
 
@@ -147,10 +123,6 @@ impl<const L: usize> UpperLevels<L> {
         ensures numbers { (number : ℕ) → set.contains self.new.members number ≡ (nat_lt number bound || set.contains self.old.members number) }
         ensures bound { self.new.bound ≡ self.old.bound }
     {
-        if L == 2 {
-            self.above.insert_below(bound);
-            return;
-        }
         words::insert_below(&mut self.words, bound);
         self.above.insert_below((bound + 63) / 64);
     }
@@ -161,9 +133,6 @@ impl<const L: usize> UpperLevels<L> {
         ensures first { MatchOption result (NoneAtAll (set.contains self.now.members)) (IsFirst (set.contains self.now.members)) }
         ensures within { IfSome result (λ n. n < self.now.bound) }
     {
-        if L == 2 {
-            return self.above.first();
-        }
         let Some(word) = self.above.first() else {
             return None;
         };
@@ -184,9 +153,6 @@ impl<const L: usize> UpperLevels<L> {
         ensures last { MatchOption result (NoneAtAll (set.contains self.now.members)) (IsLast (set.contains self.now.members)) }
         ensures within { IfSome result (λ n. n < self.now.bound) }
     {
-        if L == 2 {
-            return self.above.last();
-        }
         let Some(word) = self.above.last() else {
             return None;
         };
@@ -200,9 +166,6 @@ impl<const L: usize> UpperLevels<L> {
         ensures next { MatchOption result (NoneAbove (set.contains self.now.members) number) (IsNext (set.contains self.now.members) number) }
         ensures within { IfSome result (λ n. n < self.now.bound) }
     {
-        if L == 2 {
-            return self.above.after(number);
-        }
         if let Some(found) = words::next_in_word(&self.words, number) {
             return Some(found);
         }
@@ -219,9 +182,6 @@ impl<const L: usize> UpperLevels<L> {
         ensures previous { MatchOption result (NoneBelow (set.contains self.now.members) number) (IsPrevious (set.contains self.now.members) number) }
         ensures within { IfSome result (λ n. n < self.now.bound) }
     {
-        if L == 2 {
-            return self.above.before(number);
-        }
         if let Some(found) = words::previous_in_word(&self.words, number) {
             return Some(found);
         }

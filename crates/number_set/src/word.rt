@@ -1,9 +1,12 @@
 //! The bits of one word.
 
-ghost use Rattle.std.specs.Prelude.{◌≡◌, ℕ, ◌+◌, ◌<◌, ◌≤◌, MatchOption, IfSome};
+ghost use Rattle.std.specs.Prelude.{◌≡◌, ℕ, ◌+◌, ◌^◌, ◌<◌, ◌≤◌, nat_lt, MatchOption, IfSome};
 ghost use Rattle.number_set.specs.Bits.{has_bit};
 ghost use Rattle.number_set.specs.Finds.{IsFirst, IsLast, IsNext, IsPrevious, NoneAbove, NoneBelow};
 ghost use Rattle.number_set.specs.Runs.{in_run};
+
+/// For each order, the word whose set bits are its lowest 2^order ones.
+const LOW_BITS: [u64; 7] = [0x1, 0x3, 0xf, 0xff, 0xffff, 0xffff_ffff, u64::MAX];
 
 /// The lowest bit that is set in a word that isn't empty.
 #[inline(always)]
@@ -53,12 +56,22 @@ pub(crate) fn previous_bit(word: u64, from: u32) -> Option<u32>
     Some(highest_bit(below))
 }
 
-/// The word whose set bits are `count` ones from bit `first` upwards.
+/// The word whose set bits are its lowest `count` ones.
 #[inline(always)]
-pub(crate) fn run_bits(first: u32, count: u32) -> u64
+pub(crate) fn low_bits(count: u32) -> u64
     requires some { 0 < count }
-    requires within { first + count ≤ 64 }
-    ensures { (bit : ℕ) → has_bit result bit ≡ in_run first count bit }
+    requires within { count ≤ 64 }
+    ensures { (bit : ℕ) → has_bit result bit ≡ nat_lt bit count }
 {
-    u64::MAX >> (64 - count) << first
+    u64::MAX >> (64 - count)
+}
+
+/// The word whose set bits are 2^order ones from bit `first` upwards.
+#[inline(always)]
+pub(crate) fn run_bits(first: u32, order: u32) -> u64
+    requires order { order ≤ 6 }
+    requires within { first + 2 ^ order ≤ 64 }
+    ensures { (bit : ℕ) → has_bit result bit ≡ in_run first (2 ^ order) bit }
+{
+    LOW_BITS[order as usize] << first
 }

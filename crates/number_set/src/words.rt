@@ -6,7 +6,7 @@ ghost use Rattle.number_set.specs.Bits.{has_number, is_filled};
 ghost use Rattle.number_set.specs.Finds.{IsFirstIn, IsLastIn, IsNext, IsPrevious, NoneAboveIn, NoneBelowIn};
 ghost use Rattle.number_set.specs.Runs.{in_run};
 
-use crate::word::{highest_bit, lowest_bit, next_bit, previous_bit, run_bits};
+use crate::word::{highest_bit, low_bits, lowest_bit, next_bit, previous_bit, run_bits};
 use std::alloc::{AllocError, Global};
 
 /// This many words without a number, or an error where there is no memory for them.
@@ -71,7 +71,7 @@ pub(crate) fn insert_run(words: &mut [u64], first: u32, order: u32) -> bool
     }
     let word = (first / 64) as usize;
     let before = words[word];
-    words[word] = before | run_bits(first % 64, 1 << order);
+    words[word] = before | run_bits(first % 64, order);
     before == 0
 }
 
@@ -90,7 +90,7 @@ pub(crate) fn remove_run(words: &mut [u64], first: u32, order: u32) -> bool
         return true;
     }
     let word = (first / 64) as usize;
-    let after = words[word] & !run_bits(first % 64, 1 << order);
+    let after = words[word] & !run_bits(first % 64, order);
     words[word] = after;
     after == 0
 }
@@ -106,7 +106,7 @@ pub(crate) fn has_run(words: &[u64], first: u32, order: u32) -> bool
     if order > 6 {
         return are_full(words, first / 64, 1 << (order - 6));
     }
-    let bits = run_bits(first % 64, 1 << order);
+    let bits = run_bits(first % 64, order);
     words[(first / 64) as usize] & bits == bits
 }
 
@@ -119,12 +119,12 @@ pub(crate) fn insert_below(words: &mut [u64], bound: u32)
 {
     write_run(words, 0, bound / 64, u64::MAX);
     if bound % 64 != 0 {
-        words[(bound / 64) as usize] |= run_bits(0, bound % 64);
+        words[(bound / 64) as usize] |= low_bits(bound % 64);
     }
 }
 
 /// Writes the same bits to each of `count` words, from a first one upwards.
-#[inline(always)]
+#[inline(never)]
 fn write_run(words: &mut [u64], first: u32, count: u32, bits: u64)
     requires { first + count ≤ length words.old }
     ensures words { (word : ℕ) → slice_index words.new word ≡ (if in_run first count word then bits else slice_index words.old word) }

@@ -1,5 +1,5 @@
 -- The members of sets of numbers.
-use Rattle.std.proofs.Common.{◌≡◌, ◌≢◌, ℕ, zero, suc, ◌^◌, ◌<◌, ◌≤◌, Bool, true, false, not, inl, inr, refl, sym, ap, ◌∙◌, eq-eqb, arith}
+use Rattle.std.proofs.Common.{◌≡◌, ◌≢◌, ℕ, zero, suc, ◌<◌, ◌≤◌, Bool, true, false, not, inl, inr, refl, sym, ap, ◌∙◌, eq-eqb, arith}
 use Rattle.std.specs.Prelude.{nat_eq, ◌&&◌, ◌||◌, if◌then◌else◌}
 use Rattle.std.specs.Ordering.{nat_cmp}
 use Rattle.std.specs.Cmp.{nat_cmp_total, unsigned_tied}
@@ -33,12 +33,3 @@ gathered_in p (suc n) q h =
       | inl is ↦ ap (set.contains (if p n then set.insert (gathered p n) n else gathered p n)) is.1 ∙ put_same (gathered p n) n (p n) (gathered_past p n n (omega arith)) ∙ ap p (sym is.1)
       | inr isnt ↦ put_other (gathered p n) n q (p n) isnt.1 ∙ gathered_in p n q (omega arith)
     ]
-
--- so many frames at most have a number in sets of 4 levels at most
-pub most_of_levels : (levels n : ℕ) → levels ≤ 4 → n ≤ 64 ^ levels → n ≤ 16777216
-most_of_levels zero n few most = let one : n ≤ 1 = most in omega (arith, one)
-most_of_levels (suc zero) n few most = let all : n ≤ 64 = most in omega (arith, all)
-most_of_levels (suc (suc zero)) n few most = let all : n ≤ 4096 = most in omega (arith, all)
-most_of_levels (suc (suc (suc zero))) n few most = let all : n ≤ 262144 = most in omega (arith, all)
-most_of_levels (suc (suc (suc (suc zero)))) n few most = most
-most_of_levels (suc (suc (suc (suc (suc more))))) n few most = absurd (omega (arith, few))

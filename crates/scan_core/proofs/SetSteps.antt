@@ -10,7 +10,7 @@ use Rattle.scan_core.specs.declared.frame_set.FrameSet.TheInside.{Inside}
 use Rattle.scan_core.specs.declared.whole_runs.WholeRuns.{WholeRuns}
 use Rattle.scan_core.proofs.RunCounts.{Adds, count_has, count_room, counted_most, counts_fewer, counts_more, room_fewer, room_more}
 
-module _ {L : ℕ} (s : Inside L) (sound : IsCounted s) (numbers : Numbers) (first number m : ℕ) (low : first < 512 * length s.blocks) (within : first % 512 + m ≤ 512) (at : number ≡ first) where
+module _ (s : Inside) (sound : IsCounted s) (numbers : Numbers) (first number m : ℕ) (low : first < 512 * length s.blocks) (within : first % 512 + m ≤ 512) (at : number ≡ first) where
   block_low : first / 512 < length s.blocks
   block_low = omega (arith, low)
 
@@ -21,7 +21,7 @@ module _ {L : ℕ} (s : Inside L) (sound : IsCounted s) (numbers : Numbers) (fir
     pub more_room : slice_index s.blocks (number / 512) + m ≤ 512
     more_room = omega (arith, room_more _ _ first m within adds s.blocks block_low sound.counts.each, ap (λ n. slice_index s.blocks (n / 512)) at)
 
-    pub set_more : (blocks : List ℕ) → numbers.bound ≡ s.numbers.bound → blocks ≡ with_more s.blocks (number / 512) m → (runs : WholeRuns L) → IsOpen runs → runs.blocks ≡ s.runs.blocks → HasWholeRuns runs (set.contains numbers.members) → IsCounted (record s { numbers = numbers; count = s.count + m; blocks = blocks; runs = runs })
+    pub set_more : (blocks : List ℕ) → numbers.bound ≡ s.numbers.bound → blocks ≡ with_more s.blocks (number / 512) m → (runs : WholeRuns) → IsOpen runs → runs.blocks ≡ s.runs.blocks → HasWholeRuns runs (set.contains numbers.members) → IsCounted (record s { numbers = numbers; count = s.count + m; blocks = blocks; runs = runs })
     set_more blocks same are runs runs_open as_many whole =
         let now : blocks ≡ with_more s.blocks (first / 512) m = are ∙ ap (λ n. with_more s.blocks (n / 512) m) at in
         let long : length blocks ≡ length s.blocks = ap length now ∙ length-set s.blocks (first / 512) (slice_index s.blocks (first / 512) + m) in
@@ -41,7 +41,7 @@ module _ {L : ℕ} (s : Inside L) (sound : IsCounted s) (numbers : Numbers) (fir
     pub fewer_room : m ≤ slice_index s.blocks (number / 512)
     fewer_room = omega (arith, room_fewer _ _ first m within adds s.blocks block_low sound.counts.each, ap (λ n. slice_index s.blocks (n / 512)) at)
 
-    pub set_fewer : (blocks : List ℕ) → numbers.bound ≡ s.numbers.bound → blocks ≡ with_fewer s.blocks (number / 512) m → (runs : WholeRuns L) → IsOpen runs → runs.blocks ≡ s.runs.blocks → HasWholeRuns runs (set.contains numbers.members) → IsCounted (record s { numbers = numbers; count = s.count - m; blocks = blocks; runs = runs })
+    pub set_fewer : (blocks : List ℕ) → numbers.bound ≡ s.numbers.bound → blocks ≡ with_fewer s.blocks (number / 512) m → (runs : WholeRuns) → IsOpen runs → runs.blocks ≡ s.runs.blocks → HasWholeRuns runs (set.contains numbers.members) → IsCounted (record s { numbers = numbers; count = s.count - m; blocks = blocks; runs = runs })
     set_fewer blocks same are runs runs_open as_many whole =
         let now : blocks ≡ with_fewer s.blocks (first / 512) m = are ∙ ap (λ n. with_fewer s.blocks (n / 512) m) at in
         let long : length blocks ≡ length s.blocks = ap length now ∙ length-set s.blocks (first / 512) (slice_index s.blocks (first / 512) - m) in

@@ -51,7 +51,7 @@ pub if_some_within : (states : List FrameState) (o : Option ℕ) → IfSome o (�
 if_some_within states None free = free
 if_some_within states (Some frame) free = free_within states frame free
 
-module _ {L : ℕ} (z : Inside L) (sound : IsSound z) where
+module _ (z : Inside) (sound : IsSound z) where
   pub kept_length : length (seen z.held.members z.kept.items) ≡ length z.kept.items
   kept_length = length_seen (set.contains z.held.members) 0 z.kept.items
 

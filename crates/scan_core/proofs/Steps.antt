@@ -98,7 +98,7 @@ then_true : (c x : Bool) → (if c then true else x) ≡ (c || x)
 then_true true x = refl
 then_true false x = refl
 
-module _ {L : ℕ} (z : Inside L) (sound : IsSound z) where
+module _ (z : Inside) (sound : IsSound z) where
   pub seen_length : length (seen z.held.members z.kept.items) ≡ length z.kept.items
   seen_length = length_seen (set.contains z.held.members) 0 z.kept.items
 
@@ -143,7 +143,6 @@ module _ {L : ℕ} (z : Inside L) (sound : IsSound z) where
         record {
           whole = omega (arith, len, sound.whole);
           some = omega (arith, len, sound.some);
-          levels = omega (arith, len, sound.levels);
           few = omega (arith, len, sound.few);
           movable = flag_len ∙ sound.movable ∙ sym len;
           never_huge = λ n. ap (λ (xs : List FrameState). huge_at xs n) list ∙ elim (eqb_tells n frame) [
@@ -181,7 +180,6 @@ module _ {L : ℕ} (z : Inside L) (sound : IsSound z) where
         record {
           whole = sound.whole;
           some = sound.some;
-          levels = sound.levels;
           few = sound.few;
           movable = sound.movable;
           never_huge = sound.never_huge;
@@ -225,7 +223,6 @@ module _ {L : ℕ} (z : Inside L) (sound : IsSound z) where
         record {
           whole = sound.whole;
           some = sound.some;
-          levels = sound.levels;
           few = sound.few;
           movable = sound.movable;
           never_huge = sound.never_huge;
@@ -277,7 +274,7 @@ page_of : (o : Option FrameState) → is_holding_state o ≡ true → (page : �
 page_of (Some (Holds page)) e = (page, refl)
 page_of _ e = cc
 
-module _ {L : ℕ} {now : Frames} (z : Inside L) (sound : IsSound z) (view : frames_of z ≡ now) (frame : ℕ) where
+module _ {now : Frames} (z : Inside) (sound : IsSound z) (view : frames_of z ≡ now) (frame : ℕ) where
   abbrev was : Option FrameState
   was = slice_get (seen z.held.members z.kept.items) frame
 
@@ -425,7 +422,7 @@ module _ {L : ℕ} {now : Frames} (z : Inside L) (sound : IsSound z) (view : fra
         (λ n. keep_if n frame (set.contains z.free.members) false (page_isnt_free page)) refl sources_put sources_same (page_is_stuck page) recounts).0
 
 -- the frames of a block are handed out or taken back
-module _ {L : ℕ} {now : Frames} (z : Inside L) (sound : IsSound z) (view : frames_of z ≡ now) (first order : ℕ) where
+module _ {now : Frames} (z : Inside) (sound : IsSound z) (view : frames_of z ≡ now) (first order : ℕ) where
   pub block_within : has_block now.states order first ≡ true → first + 2 ^ order ≤ length z.kept.items
   block_within here =
       let parts = both (is_aligned order first) (nat_le (first + 2 ^ order) (length now.states)) here in
@@ -474,8 +471,8 @@ module _ {L : ℕ} {now : Frames} (z : Inside L) (sound : IsSound z) (view : fra
         (next.0, next.1 ∙ ap (λ (frames : Frames). with_run frames.states first (2 ^ order) Free) view)
 
 -- the frames of a zone in which all are free
-pub sound_free : {L : ℕ} (z : Inside L) (blocks : ℕ) → 0 < blocks → blocks ≤ 32768 → 512 * blocks ≤ 64 ^ L → z.kept.items ≡ replicate (512 * blocks) Free → z.movable.items ≡ replicate (512 * blocks) false → z.held.members ≡ set.empty → 512 * blocks ≤ z.held.bound → ((n : ℕ) → set.contains z.free.members n ≡ nat_lt n (512 * blocks)) → z.free.bound ≡ 512 * blocks → z.candidates.sources.members ≡ set.empty → 512 * blocks ≤ z.candidates.sources.bound → z.candidates.stuck ≡ replicate blocks 0 → IsSound z × (seen z.held.members z.kept.items ≡ replicate (512 * blocks) Free)
-sound_free z blocks some few levels kept movable held held_room free free_room sources sources_room stuck =
+pub sound_free : (z : Inside) (blocks : ℕ) → 0 < blocks → blocks ≤ 32768 → z.kept.items ≡ replicate (512 * blocks) Free → z.movable.items ≡ replicate (512 * blocks) false → z.held.members ≡ set.empty → 512 * blocks ≤ z.held.bound → ((n : ℕ) → set.contains z.free.members n ≡ nat_lt n (512 * blocks)) → z.free.bound ≡ 512 * blocks → z.candidates.sources.members ≡ set.empty → 512 * blocks ≤ z.candidates.sources.bound → z.candidates.stuck ≡ replicate blocks 0 → IsSound z × (seen z.held.members z.kept.items ≡ replicate (512 * blocks) Free)
+sound_free z blocks some few kept movable held held_room free free_room sources sources_room stuck =
     let count : length z.kept.items ≡ 512 * blocks = ap length kept ∙ length-replicate (512 * blocks) Free in
     let movable_count : length z.movable.items ≡ 512 * blocks = ap length movable ∙ length-replicate (512 * blocks) false in
     let stuck_count : length z.candidates.stuck ≡ blocks = ap length stuck ∙ length-replicate blocks 0 in
@@ -485,7 +482,6 @@ sound_free z blocks some few levels kept movable held held_room free free_room s
       record {
         whole = omega arith;
         some = omega arith;
-        levels = omega (arith, count, levels);
         few = omega arith;
         movable = omega arith;
         never_huge = λ n. ap (λ (xs : List FrameState). huge_at xs n) kept ∙ no_free is_huge_state blocks n refl refl;

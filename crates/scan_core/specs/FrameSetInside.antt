@@ -1,5 +1,5 @@
 -- What contracts see of the fields of a counted set of frames, and what is true of these fields.
-use Rattle.std.specs.Prelude.{◌≡◌, ℕ, ◌*◌, ◌≤◌, length}
+use Rattle.std.specs.Prelude.{◌≡◌, ◌*◌, ◌≤◌, length}
 use Rattle.std.specs.FinSet as set
 use Rattle.number_set.specs.Numbers.{Numbers}
 use Rattle.scan_core.specs.FrameSet.{Counts}
@@ -7,12 +7,12 @@ use Rattle.scan_core.specs.WholeRuns.{HasWholeRuns, IsOpen}
 use Rattle.scan_core.specs.declared.frame_set.FrameSet.TheInside.{Inside}
 
 -- the frames of the set, and how many frames its pageblocks have
-abbrev pub frames_in : {L : ℕ} → Inside L → Numbers
+abbrev pub frames_in : Inside → Numbers
 frames_in s = record { members = s.numbers.members; bound = 512 * length s.blocks }
 
 -- the counts are those of the set's frames, each frame of its pageblocks has a number, and the whole blocks of each order are
 -- those that the frames make
-pub record IsCounted {L : ℕ} (s : Inside L) : Type 0 where
+pub record IsCounted (s : Inside) : Type 0 where
   pub counts : Counts s.count s.blocks (set.contains s.numbers.members)
   pub room : 512 * length s.blocks ≤ s.numbers.bound
   pub few : 512 * length s.blocks ≤ 16777216

@@ -1,5 +1,5 @@
 -- What contracts see of the fields of `Frames`, and what is true of these fields.
-use Rattle.std.specs.Prelude.{◌≡◌, ℕ, ◌<◌, ◌≤◌, ◌*◌, ◌^◌, length, true, false, slice_get, Some}
+use Rattle.std.specs.Prelude.{◌≡◌, ℕ, ◌<◌, ◌≤◌, ◌*◌, length, true, false, slice_get, Some}
 use Rattle.std.specs.FinSet as set
 use Rattle.frame_core.specs.declared.state.FrameState.TheVariants.{Free}
 use Rattle.scan_core.specs.FrameCounts.{CountsEach}
@@ -8,14 +8,13 @@ use Rattle.scan_core.specs.Seen.{seen}
 use Rattle.scan_core.specs.declared.frames.Frames.TheInside.{Inside}
 
 -- the two lists that contracts see
-abbrev pub frames_of : {L : ℕ} → Inside L → Frames
+abbrev pub frames_of : Inside → Frames
 frames_of z = record { states = seen z.held.members z.kept.items; movable = z.movable.items }
 
 -- there are whole pageblocks, each frame of which has a number, and the sets and counts have the frames that they should
-pub record IsSound {L : ℕ} (z : Inside L) : Type 0 where
+pub record IsSound (z : Inside) : Type 0 where
   pub whole : length z.kept.items ≡ 512 * blocks_of z.kept.items
   pub some : 0 < blocks_of z.kept.items
-  pub levels : length z.kept.items ≤ 64 ^ L
   pub few : length z.kept.items ≤ 16777216
   pub movable : length z.movable.items ≡ length z.kept.items
   pub never_huge : (frame : ℕ) → huge_at z.kept.items frame ≡ false

@@ -5,14 +5,14 @@ use Rattle.scan_core.specs.NumberSet.{all_from, in_run}
 use Rattle.scan_core.specs.declared.whole_runs.WholeRuns.{WholeRuns}
 
 -- there are some pageblocks, and the blocks of each order have numbers
-pub record IsOpen {L : ℕ} (runs : WholeRuns L) : Type 0 where
+pub record IsOpen (runs : WholeRuns) : Type 0 where
   pub some : 0 < runs.blocks
   pub few : runs.blocks ≤ 32768
   pub room : 128 * runs.blocks ≤ runs.numbers.bound
 
 -- of the blocks of each order, those are members whose frames all pass: block `run` of an order has the frames from
 -- run * 2 ^ order on, and as many numbers stand below those of an order as it has blocks
-abbrev pub HasWholeRuns : {L : ℕ} → WholeRuns L → (ℕ → Bool) → Type 0
+abbrev pub HasWholeRuns : WholeRuns → (ℕ → Bool) → Type 0
 HasWholeRuns runs p =
     (order run : ℕ) → 3 ≤ order → order ≤ 9 → run < 512 * runs.blocks / 2 ^ order → set.contains runs.numbers.members (512 * runs.blocks / 2 ^ order + run) ≡ all_from p (run * 2 ^ order) (2 ^ order)
 

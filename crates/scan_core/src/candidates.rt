@@ -12,16 +12,15 @@ use std::alloc::{AllocError, Global};
 /// The frames with a page that may be taken from them, and how many frames of each pageblock are stuck: handed out, or with a page
 /// that may not be taken.
 #[derive(Drop)]
-pub(crate) struct Candidates<const L: usize> {
-    pub(crate) sources: NumberSet<L>,
+pub(crate) struct Candidates {
+    pub(crate) sources: NumberSet,
     pub(crate) stuck: FrameCounts,
 }
 
-impl<const L: usize> Candidates<L> {
+impl Candidates {
     /// Those of this many pageblocks in which no frame holds a page, or an error where there is no memory for them.
     pub(crate) fn open(alloc: Global, blocks: u32) -> Result<Self, AllocError>
-        requires levels { (2 ≤ L) × (L ≤ 4) }
-        requires room { 512 * blocks ≤ 64 ^ L }
+        requires room { 512 * blocks ≤ 16777216 }
         ensures sources { IfOk result (λ c. c.sources.members ≡ set.empty) }
         ensures room { IfOk result (λ c. 512 * blocks ≤ c.sources.bound) }
         ensures stuck { IfOk result (λ c. c.stuck ≡ replicate blocks 0) }

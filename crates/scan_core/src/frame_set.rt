@@ -16,14 +16,14 @@ use std::marker::Model;
 
 /// A set of frames, how many frames it has in all and in each pageblock, and the blocks of each order that it has whole.
 #[derive(Drop)]
-pub(crate) struct FrameSet<const L: usize> {
-    numbers: NumberSet<L>,
+pub(crate) struct FrameSet {
+    numbers: NumberSet,
     count: u32,
     blocks: FrameCounts,
-    runs: WholeRuns<L>,
+    runs: WholeRuns,
 }
 
-impl<const L: usize> Model for FrameSet<L> {
+impl Model for FrameSet {
     ghost use Rattle.number_set.specs.Numbers.{Numbers, coded_numbers};
 
     ghost Value = { Numbers };
@@ -37,12 +37,11 @@ impl<const L: usize> Model for FrameSet<L> {
     ghost invariant = { IsCounted };
 }
 
-impl<const L: usize> FrameSet<L> {
+impl FrameSet {
     /// The set of all frames of this many pageblocks, or an error where there is no memory for it.
     pub(crate) fn full(alloc: Global, blocks: u32) -> Result<Self, AllocError>
-        requires levels { (2 ≤ L) × (L ≤ 4) }
         requires some { 0 < blocks }
-        requires room { 512 * blocks ≤ 64 ^ L }
+        requires room { 512 * blocks ≤ 16777216 }
         ensures members { IfOk result (λ s. (frame : ℕ) → set.contains s.members frame ≡ nat_lt frame (512 * blocks)) }
         ensures bound { IfOk result (λ s. s.bound ≡ 512 * blocks) }
     {
@@ -60,7 +59,7 @@ impl<const L: usize> FrameSet<L> {
 
     /// The numbers of its frames.
     #[inline(always)]
-    pub(crate) fn numbers(&self) -> &NumberSet<L>
+    pub(crate) fn numbers(&self) -> &NumberSet
         ensures members { result.now.members ≡ self.now.members }
         ensures bound { self.now.bound ≤ result.now.bound }
     {

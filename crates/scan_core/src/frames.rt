@@ -15,18 +15,18 @@ use number_set::NumberSet;
 use std::alloc::{AllocError, Global};
 use std::marker::Model;
 
-/// The states of a zone's frames, with sets and counts of them. The sets have `L` levels, 2 to 4: a zone has 64^L frames at most.
+/// The states of a zone's frames, with sets and counts of them. A zone has 32,768 pageblocks at most.
 #[derive(Drop)]
-pub struct Frames<const L: usize> {
+pub struct Frames {
     /// The state of each frame. A frame of a block that is handed out stands here as free, and is a member of `held`.
     kept: FixedVec<FrameState>,
     movable: FixedVec<bool>,
-    held: NumberSet<L>,
-    free: FrameSet<L>,
-    candidates: Candidates<L>,
+    held: NumberSet,
+    free: FrameSet,
+    candidates: Candidates,
 }
 
-impl<const L: usize> Model for Frames<L> {
+impl Model for Frames {
     ghost use Rattle.scan_core.specs.Frames.{Frames as Seen};
 
     ghost Value = { Seen };
@@ -38,13 +38,12 @@ impl<const L: usize> Model for Frames<L> {
     ghost invariant = { IsSound };
 }
 
-impl<const L: usize> Frames<L> {
+impl Frames {
     /// The frames of this many pageblocks, each frame free, or an error where there is no memory for them. No
     /// other call takes memory.
     pub fn open(alloc: Global, blocks: u32) -> Result<Self, AllocError>
-        requires levels { (2 ≤ L) × (L ≤ 4) }
         requires some { 0 < blocks }
-        requires room { 512 * blocks ≤ 64 ^ L }
+        requires room { 512 * blocks ≤ 16777216 }
         ensures open { IfOk result (λ frames. frames ≡ all_free blocks) }
         ensures frames { IfOk result (λ frames. length frames.states ≡ 512 * blocks) }
     {
@@ -68,7 +67,7 @@ impl<const L: usize> Frames<L> {
         ensures len { result ≡ length self.now.states }
         ensures whole { result ≡ 512 * blocks_of self.now.states }
         ensures some { 0 < result }
-        ensures levels { result ≤ 64 ^ L }
+        ensures levels { result ≤ 16777216 }
         ensures movable { length self.now.movable ≡ length self.now.states }
     {
         self.kept.len() as u32
@@ -79,7 +78,7 @@ impl<const L: usize> Frames<L> {
         ensures blocks { result ≡ blocks_of self.now.states }
         ensures frames { length self.now.states ≡ 512 * result }
         ensures some { 0 < result }
-        ensures levels { 512 * result ≤ 64 ^ L }
+        ensures levels { 512 * result ≤ 16777216 }
     {
         self.len() / 512
     }

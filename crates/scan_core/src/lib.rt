@@ -17,9 +17,6 @@ mod whole_runs;
 
 pub use blocks::{BlockCounts, first_whole, whole_blocks};
 pub use fingers::{Fingers, Step};
-pub use frames::Frames as FramesOf;
+pub use frames::Frames;
 pub use lists::first_run;
 pub use pair::next_pair;
-
-/// The frames of a zone, of 32,768 pageblocks at most.
-pub type Frames = FramesOf<4>;

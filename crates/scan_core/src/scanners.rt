@@ -12,11 +12,7 @@ use frame_core::FrameNo;
 use number_set::NumberSet;
 
 /// The lowest source between the fingers, in an unmarked pageblock. It passes over the rest of a marked pageblock at once.
-pub(crate) fn next_source<const L: usize>(
-    sources: &NumberSet<L>,
-    marked: &[bool],
-    fingers: Fingers,
-) -> Option<FrameNo>
+pub(crate) fn next_source(sources: &NumberSet, marked: &[bool], fingers: Fingers) -> Option<FrameNo>
     requires few { fingers.free ≤ 16777216 }
     requires room { fingers.free ≤ sources.now.bound }
     requires marked { fingers.free ≤ 512 * length marked.now }
@@ -38,8 +34,8 @@ pub(crate) fn next_source<const L: usize>(
 
 /// The highest free frame above a source and below the free finger, in an unmarked pageblock. It passes over the rest of a marked
 /// pageblock at once.
-pub(crate) fn next_target<const L: usize>(
-    free: &NumberSet<L>,
+pub(crate) fn next_target(
+    free: &NumberSet,
     marked: &[bool],
     fingers: Fingers,
     source: FrameNo,
@@ -65,7 +61,7 @@ pub(crate) fn next_target<const L: usize>(
 
 /// The highest number of a set below an end, which may be its bound.
 #[inline(always)]
-fn last_below<const L: usize>(numbers: &NumberSet<L>, end: u32) -> Option<u32>
+fn last_below(numbers: &NumberSet, end: u32) -> Option<u32>
     requires some { 0 < end }
     requires within { end ≤ numbers.now.bound }
     ensures { MatchOption result (NoneBelow (set.contains numbers.now.members) end) (IsPrevious (set.contains numbers.now.members) end) }

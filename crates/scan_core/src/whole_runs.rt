@@ -19,17 +19,16 @@ use std::alloc::{AllocError, Global};
 /// A frame that comes into the set or goes out of it looks at the eight frames that it stands with. Only where these are all in does it
 /// look at blocks: at one of each order, up to the first that isn't whole.
 #[derive(Drop)]
-pub(crate) struct WholeRuns<const L: usize> {
-    pub(crate) numbers: NumberSet<L>,
+pub(crate) struct WholeRuns {
+    pub(crate) numbers: NumberSet,
     pub(crate) blocks: u32,
 }
 
-impl<const L: usize> WholeRuns<L> {
+impl WholeRuns {
     /// The blocks of the set of all frames of this many pageblocks, or an error where there is no memory for them.
     pub(crate) fn full(alloc: Global, blocks: u32) -> Result<Self, AllocError>
-        requires levels { (2 ≤ L) × (L ≤ 4) }
         requires some { 0 < blocks }
-        requires room { 512 * blocks ≤ 64 ^ L }
+        requires room { 512 * blocks ≤ 16777216 }
         ensures open { IfOk result (λ runs. IsOpen runs) }
         ensures blocks { IfOk result (λ runs. runs.blocks ≡ blocks) }
         ensures whole { IfOk result (λ runs. HasWholeRuns runs (λ frame. nat_lt frame (512 * blocks))) }
@@ -40,7 +39,7 @@ impl<const L: usize> WholeRuns<L> {
 
     /// A frame has come into the set of these numbers.
     #[inline(always)]
-    pub(crate) fn insert_frame(&mut self, numbers: &NumberSet<L>, frame: u32)
+    pub(crate) fn insert_frame(&mut self, numbers: &NumberSet, frame: u32)
         requires open { IsOpen self.old }
         requires within { frame < 512 * self.old.blocks }
         requires room { 512 * self.old.blocks ≤ numbers.now.bound }
@@ -56,7 +55,7 @@ impl<const L: usize> WholeRuns<L> {
 
     /// A frame is about to go out of the set of these numbers.
     #[inline(always)]
-    pub(crate) fn remove_frame(&mut self, numbers: &NumberSet<L>, frame: u32)
+    pub(crate) fn remove_frame(&mut self, numbers: &NumberSet, frame: u32)
         requires open { IsOpen self.old }
         requires within { frame < 512 * self.old.blocks }
         requires room { 512 * self.old.blocks ≤ numbers.now.bound }

@@ -19,7 +19,7 @@ pub struct Notes {
     /// How many page numbers are in use.
     in_use: u32,
     /// The page numbers that aren't in use.
-    unused: NumberSet<4>,
+    unused: NumberSet,
 }
 
 impl Model for Notes {

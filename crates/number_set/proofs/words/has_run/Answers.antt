@@ -5,7 +5,7 @@ use Rattle.std.proofs.lemmas.Bool.{eqb-true}
 use Rattle.std.proofs.lemmas.Nat.{pow_pos}
 use Rattle.number_set.specs.Bits.{has_bit}
 use Rattle.number_set.specs.Runs.{in_run}
-use Rattle.number_set.proofs.Running.{bits_within, count_fits, part_found, part_has, parts, shifted_within, whole_found, whole_has, words_within}
+use Rattle.number_set.proofs.Running.{count_fits, part_found, part_has, parts, shifted_within, whole_found, whole_has, words_within}
 use Rattle.number_set.proofs.words.has_run.Goals as goal
 
 pub are_full-requires : goal.are_full-requires
@@ -22,7 +22,7 @@ returns-then-order-gt6 c =
     )
 
 pub run_bits-bits-requires-clause-within : goal.run_bits-bits-requires-clause-within
-run_bits-bits-requires-clause-within c = bits_within c.args.first c.args.order c.requires.order c.requires.aligned (omega (arith, c.if-order-gt6.false))
+run_bits-bits-requires-clause-within c = (parts c.args.first c.args.order c.requires.order c.requires.aligned).low (omega (arith, c.if-order-gt6.false))
 
 pub returns : goal.returns
 returns c =
@@ -32,7 +32,7 @@ returns c =
     let run_parts = parts c.args.first c.args.order c.requires.order c.requires.aligned in
     let within = words_within c.args.first c.args.order _ c.requires.order c.requires.aligned c.requires.within in
     let inside : c.args.first / 64 < length words = omega (arith, within, pow_pos (c.args.order - 6)) in
-    let ones : (i : ℕ) → has_bit bits i ≡ in_run (c.args.first % 64) (2 ^ c.args.order) i = λ i. c.run_bits-bits.ensures i ∙ ap (λ k. in_run (c.args.first % 64) k i) (count_fits c.args.order (omega (arith, less))) in (
+    let ones : (i : ℕ) → has_bit bits i ≡ in_run (c.args.first % 64) (2 ^ c.args.order) i = c.run_bits-bits.ensures in (
       λ same. part_found words c.args.first c.args.order bits run_parts less inside ones (eqb-true (bit_and (slice_index words (c.args.first / 64)) bits) bits same),
       λ all. eq-eqb (bit_and (slice_index words (c.args.first / 64)) bits) bits (part_has words c.args.first c.args.order bits run_parts less inside ones c.run_bits-bits.type_inv all),
     )

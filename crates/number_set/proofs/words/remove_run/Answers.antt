@@ -1,8 +1,8 @@
-use Rattle.std.proofs.Common.{◌-◌, ◌/◌, ◌%◌, ◌≤◌, refl, ap, ◌∙◌, slice_index, arith}
+use Rattle.std.proofs.Common.{◌-◌, ◌/◌, ◌≤◌, refl, ap, ◌∙◌, slice_index, arith}
 use Rattle.std.specs.Prelude.{if◌then◌else◌}
 use Rattle.number_set.specs.Runs.{in_run}
 use Rattle.std.proofs.lemmas.Nat.{pow_pos}
-use Rattle.number_set.proofs.Running.{bits_within, count_fits, part_cut, parts, shifted_within, whole_cut}
+use Rattle.number_set.proofs.Running.{count_fits, part_cut, parts, shifted_within, whole_cut}
 use Rattle.number_set.proofs.words.remove_run.Goals as goal
 
 pub write_run-requires : goal.write_run-requires
@@ -16,10 +16,9 @@ returns-then-order-gt6-clause-numbers c =
     ∙ ap (λ k. if in_run (c.args.first / 64) k word then 0 else slice_index words word) count) refl
 
 pub run_bits-requires-clause-within : goal.run_bits-requires-clause-within
-run_bits-requires-clause-within c = bits_within c.args.first c.args.order c.requires.order c.requires.aligned (omega (arith, c.if-order-gt6.false))
+run_bits-requires-clause-within c = (parts c.args.first c.args.order c.requires.order c.requires.aligned).low (omega (arith, c.if-order-gt6.false))
 
 pub returns-clause-numbers : goal.returns-clause-numbers
 returns-clause-numbers c =
     let less : c.args.order ≤ 6 = omega (arith, c.if-order-gt6.false) in
-    part_cut c.args.words.now c.args.first c.args.order c.run_bits.result (parts c.args.first c.args.order c.requires.order c.requires.aligned) less (omega (arith, c.requires.within, pow_pos c.args.order)) (λ i. c.run_bits.ensures i
-    ∙ ap (λ k. in_run (c.args.first % 64) k i) (count_fits c.args.order (omega (arith, less)))) c.run_bits.type_inv
+    part_cut c.args.words.now c.args.first c.args.order c.run_bits.result (parts c.args.first c.args.order c.requires.order c.requires.aligned) less (omega (arith, c.requires.within, pow_pos c.args.order)) c.run_bits.ensures c.run_bits.type_inv

@@ -5,10 +5,10 @@ use Rattle.scan_core.specs.Pairs.{is_marked}
 use Rattle.scan_core.proofs.scanners.next_source.Given as goal
 
 abbrev pub invariant-loop-next : goal.invariant-loop-next
-invariant-loop-next g l = record {
+invariant-loop-next l = record {
   low : l.fn.fingers.migrate ≤ l.next;
   before : (k : ℕ) → k < l.next → (nat_le l.fn.fingers.migrate k && (not (is_marked l.marked k) && set.contains l.sources.members k)) ≡ false;
 }
 
 abbrev pub decreases-loop-next : goal.decreases-loop-next
-decreases-loop-next g l = l.fn.fingers.free - l.next
+decreases-loop-next l = l.fn.fingers.free - l.next

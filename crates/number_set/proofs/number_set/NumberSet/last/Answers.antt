@@ -2,11 +2,11 @@ use Rattle.std.proofs.Common.{subst}
 use Rattle.number_set.specs.Bits.{has_number}
 use Rattle.number_set.specs.Finds.{IsLastIn}
 use Rattle.number_set.proofs.OneAbove.{last_in, none_in}
-use Rattle.number_set.proofs.Levels.{in_fourth, members_of}
+use Rattle.number_set.proofs.Levels.{members_of}
 use Rattle.number_set.proofs.number_set.NumberSet.last.Goals as goal
 
 pub returns-in_default-clause-last : goal.returns-in_default-clause-last
-returns-in_default-clause-last g c = none_in c.self.inside.words.items c.self.inside.above.members c.args.self.now.members (c.self.invariant c.if-this-ne4.false).2 (members_of (in_fourth _ c.self.inside.above c.self.inside.words.items c.args.self.now c.if-this-ne4.false c.self.view_is)) c.in_default.ensures.last
+returns-in_default-clause-last c = none_in c.self.inside.words.items c.self.inside.above.members c.args.self.now.members c.self.invariant.2 (members_of c.self.view_is) c.in_default.ensures.last
 
 pub returns-clause-last : goal.returns-clause-last
-returns-clause-last g c = last_in c.self.inside.words.items c.self.inside.above.members c.args.self.now.members (c.self.invariant c.if-this-ne4.false).2 (members_of (in_fourth _ c.self.inside.above c.self.inside.words.items c.args.self.now c.if-this-ne4.false c.self.view_is)) c.in-Some.word c.last_in.result c.in-Some.ensures.last (subst (λ words. IsLastIn (has_number words) c.in-Some.word c.last_in.result) c.deref.ensures.value c.last_in.ensures)
+returns-clause-last c = last_in c.self.inside.words.items c.self.inside.above.members c.args.self.now.members c.self.invariant.2 (members_of c.self.view_is) c.in-Some.word c.last_in.result c.in-Some.ensures.last (subst (λ words. IsLastIn (has_number words) c.in-Some.word c.last_in.result) c.deref.ensures.value c.last_in.ensures)

@@ -3,31 +3,31 @@ use Rattle.std.specs.Prelude.{nat_eq, ◌||◌}
 use Rattle.std.specs.Vec.{with_items}
 use Rattle.number_set.specs.Bits.{has_number, is_filled}
 use Rattle.number_set.proofs.OneAbove.{kept_above, numbers_put, put_above, written}
-use Rattle.number_set.proofs.Levels.{bound_of, in_third, members_of, of_third}
+use Rattle.number_set.proofs.Levels.{bound_of, members_of}
 use Rattle.number_set.proofs.upper_levels.UpperLevels.insert.Goals as goal
 
-pub invariant_of-self-then-insert : goal.invariant_of-self-then-insert
-invariant_of-self-then-insert g c more =
-    let long = written c.self.inside.words c.deref_mut.result.now c.insert-2.new.words c.deref_mut.ensures.value c.insert-2.ensures.as_long (λ old new. length new ≡ length old) c.insert-2.ensures.as_long in
-    (omega (arith, long, (c.self.invariant more).0), put_above c.self.inside.words.items (with_items c.self.inside.words c.insert-2.new.words).items c.args.number (written c.self.inside.words c.deref_mut.result.now c.insert-2.new.words c.deref_mut.ensures.value c.insert-2.ensures.as_long (λ old new. (word : ℕ) → is_filled new word ≡ (nat_eq word (c.args.number / 64) || is_filled old word)) c.insert-2.ensures.filled) c.self.inside.above (c.self.invariant more).1 c.insert-then-insert.new.self c.insert-then-insert.ensures)
+pub invariant_of-self : goal.invariant_of-self
+invariant_of-self c =
+    let long = written c.self.inside.words c.deref_mut.result.now c.insert.new.words c.deref_mut.ensures.value c.insert.ensures.as_long (λ old new. length new ≡ length old) c.insert.ensures.as_long in
+    (omega (arith, long, c.self.invariant.0), put_above c.self.inside.words.items (with_items c.self.inside.words c.insert.new.words).items c.args.number (written c.self.inside.words c.deref_mut.result.now c.insert.new.words c.deref_mut.ensures.value c.insert.ensures.as_long (λ old new. (word : ℕ) → is_filled new word ≡ (nat_eq word (c.args.number / 64) || is_filled old word)) c.insert.ensures.filled) c.self.inside.above c.self.invariant.1 c.insert-then-insert.new.self c.insert-then-insert.ensures)
 
 pub invariant_of-self-else-insert : goal.invariant_of-self-else-insert
-invariant_of-self-else-insert g c more =
-    let long = written c.self.inside.words c.deref_mut.result.now c.insert-2.new.words c.deref_mut.ensures.value c.insert-2.ensures.as_long (λ old new. length new ≡ length old) c.insert-2.ensures.as_long in
-    (omega (arith, long, (c.self.invariant more).0), kept_above c.self.inside.words.items (with_items c.self.inside.words c.insert-2.new.words).items c.args.number (written c.self.inside.words c.deref_mut.result.now c.insert-2.new.words c.deref_mut.ensures.value c.insert-2.ensures.as_long (λ old new. (word : ℕ) → is_filled new word ≡ (nat_eq word (c.args.number / 64) || is_filled old word)) c.insert-2.ensures.filled) c.self.inside.above (c.self.invariant more).1 (ap (λ words. not (is_filled words (c.args.number / 64))) (sym c.deref_mut.ensures.value) ∙ sym c.insert-2.ensures.was_empty ∙ c.if-insert.false))
+invariant_of-self-else-insert c =
+    let long = written c.self.inside.words c.deref_mut.result.now c.insert.new.words c.deref_mut.ensures.value c.insert.ensures.as_long (λ old new. length new ≡ length old) c.insert.ensures.as_long in
+    (omega (arith, long, c.self.invariant.0), kept_above c.self.inside.words.items (with_items c.self.inside.words c.insert.new.words).items c.args.number (written c.self.inside.words c.deref_mut.result.now c.insert.new.words c.deref_mut.ensures.value c.insert.ensures.as_long (λ old new. (word : ℕ) → is_filled new word ≡ (nat_eq word (c.args.number / 64) || is_filled old word)) c.insert.ensures.filled) c.self.inside.above c.self.invariant.1 (ap (λ words. not (is_filled words (c.args.number / 64))) (sym c.deref_mut.ensures.value) ∙ sym c.insert.ensures.was_empty ∙ c.if-insert.false))
 
 pub returns-then-insert : goal.returns-then-insert
-returns-then-insert g c =
-    let long = written c.self.inside.words c.deref_mut.result.now c.insert-2.new.words c.deref_mut.ensures.value c.insert-2.ensures.as_long (λ old new. length new ≡ length old) c.insert-2.ensures.as_long in
-    of_third g.row.L c.insert-then-insert.new.self (with_items c.self.inside.words c.insert-2.new.words).items c.if-this-eq2.false ∙ (λ i. record {
-      members = numbers_put c.self.inside.words.items (with_items c.self.inside.words c.insert-2.new.words).items c.args.number (written c.self.inside.words c.deref_mut.result.now c.insert-2.new.words c.deref_mut.ensures.value c.insert-2.ensures.as_long (λ old new. (n : ℕ) → has_number new n ≡ (nat_eq n c.args.number || has_number old n)) c.insert-2.ensures.numbers) c.args.self.now.members (members_of (in_third _ c.self.inside.above c.self.inside.words.items c.args.self.now c.if-this-eq2.false c.self.view_is)) i;
-      bound = (ap (λ n. 64 * n) long ∙ bound_of (in_third _ c.self.inside.above c.self.inside.words.items c.args.self.now c.if-this-eq2.false c.self.view_is)) i;
+returns-then-insert c =
+    let long = written c.self.inside.words c.deref_mut.result.now c.insert.new.words c.deref_mut.ensures.value c.insert.ensures.as_long (λ old new. length new ≡ length old) c.insert.ensures.as_long in
+    (λ i. record {
+      members = numbers_put c.self.inside.words.items (with_items c.self.inside.words c.insert.new.words).items c.args.number (written c.self.inside.words c.deref_mut.result.now c.insert.new.words c.deref_mut.ensures.value c.insert.ensures.as_long (λ old new. (n : ℕ) → has_number new n ≡ (nat_eq n c.args.number || has_number old n)) c.insert.ensures.numbers) c.args.self.now.members (members_of c.self.view_is) i;
+      bound = (ap (λ n. 64 * n) long ∙ bound_of c.self.view_is) i;
     })
 
 pub returns-else-insert : goal.returns-else-insert
-returns-else-insert g c =
-    let long = written c.self.inside.words c.deref_mut.result.now c.insert-2.new.words c.deref_mut.ensures.value c.insert-2.ensures.as_long (λ old new. length new ≡ length old) c.insert-2.ensures.as_long in
-    of_third g.row.L c.self.inside.above (with_items c.self.inside.words c.insert-2.new.words).items c.if-this-eq2.false ∙ (λ i. record {
-      members = numbers_put c.self.inside.words.items (with_items c.self.inside.words c.insert-2.new.words).items c.args.number (written c.self.inside.words c.deref_mut.result.now c.insert-2.new.words c.deref_mut.ensures.value c.insert-2.ensures.as_long (λ old new. (n : ℕ) → has_number new n ≡ (nat_eq n c.args.number || has_number old n)) c.insert-2.ensures.numbers) c.args.self.now.members (members_of (in_third _ c.self.inside.above c.self.inside.words.items c.args.self.now c.if-this-eq2.false c.self.view_is)) i;
-      bound = (ap (λ n. 64 * n) long ∙ bound_of (in_third _ c.self.inside.above c.self.inside.words.items c.args.self.now c.if-this-eq2.false c.self.view_is)) i;
+returns-else-insert c =
+    let long = written c.self.inside.words c.deref_mut.result.now c.insert.new.words c.deref_mut.ensures.value c.insert.ensures.as_long (λ old new. length new ≡ length old) c.insert.ensures.as_long in
+    (λ i. record {
+      members = numbers_put c.self.inside.words.items (with_items c.self.inside.words c.insert.new.words).items c.args.number (written c.self.inside.words c.deref_mut.result.now c.insert.new.words c.deref_mut.ensures.value c.insert.ensures.as_long (λ old new. (n : ℕ) → has_number new n ≡ (nat_eq n c.args.number || has_number old n)) c.insert.ensures.numbers) c.args.self.now.members (members_of c.self.view_is) i;
+      bound = (ap (λ n. 64 * n) long ∙ bound_of c.self.view_is) i;
     })

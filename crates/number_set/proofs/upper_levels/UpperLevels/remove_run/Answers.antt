@@ -4,24 +4,24 @@ use Rattle.std.specs.FinSet as set
 use Rattle.std.specs.Vec.{with_items}
 use Rattle.number_set.specs.Bits.{has_number, is_filled}
 use Rattle.number_set.specs.Runs.{in_run}
-use Rattle.number_set.proofs.OneAbove.{many_cut_above, written}
-use Rattle.number_set.proofs.Levels.{bound_of, in_third, third_cut}
+use Rattle.number_set.proofs.OneAbove.{many_cut, many_cut_above, written}
+use Rattle.number_set.proofs.Levels.{bound_of, members_of}
 use Rattle.number_set.proofs.Running.{told_aligned, told_within}
 use Rattle.number_set.proofs.upper_levels.UpperLevels.remove_run.Goals as goal
 
 pub remove_run-requires-then-remove_run-clause-aligned : goal.remove_run-requires-then-remove_run-clause-aligned
-remove_run-requires-then-remove_run-clause-aligned g c = told_aligned c.args.first c.args.order c.saturating_sub.result c.requires.order c.requires.aligned c.saturating_sub.ensures
+remove_run-requires-then-remove_run-clause-aligned c = told_aligned c.args.first c.args.order c.saturating_sub.result c.requires.order c.requires.aligned c.saturating_sub.ensures
 
 pub remove_run-requires-then-remove_run-clause-within : goal.remove_run-requires-then-remove_run-clause-within
-remove_run-requires-then-remove_run-clause-within g c = told_within c.args.first c.args.order 4096 c.saturating_sub.result c.requires.order c.requires.aligned c.saturating_sub.ensures (omega (arith, c.requires.within, bound_of (in_third _ c.self.inside.above c.self.inside.words.items c.args.self.now c.if-this-eq2.false c.self.view_is), (c.self.invariant c.if-this-eq2.false).0))
+remove_run-requires-then-remove_run-clause-within c = told_within c.args.first c.args.order 4096 c.saturating_sub.result c.requires.order c.requires.aligned c.saturating_sub.ensures (omega (arith, c.requires.within, bound_of c.self.view_is, c.self.invariant.0))
 
-pub invariant_of-self-then-remove_run : goal.invariant_of-self-then-remove_run
-invariant_of-self-then-remove_run g c more =
-    let long = (written c.self.inside.words c.deref_mut.result.now c.remove_run-2.new.words c.deref_mut.ensures.value c.remove_run-2.ensures.as_long (λ old new. length new ≡ length old) c.remove_run-2.ensures.as_long) in
-    (omega (arith, long, (c.self.invariant more).0), many_cut_above c.self.inside.words.items (with_items c.self.inside.words c.remove_run-2.new.words).items (in_run (c.args.first / 64) (2 ^ (c.args.order - 6))) c.self.inside.above (c.self.invariant more).1 c.remove_run-2.result (written c.self.inside.words c.deref_mut.result.now c.remove_run-2.new.words c.deref_mut.ensures.value c.remove_run-2.ensures.as_long (λ old new. (word : ℕ) → is_filled new word ≡ (not (c.remove_run-2.result && in_run (c.args.first / 64) (2 ^ (c.args.order - 6)) word) && is_filled old word)) c.remove_run-2.ensures.filled) c.if-remove_run.true c.remove_run-then-remove_run.new.self (λ word. c.remove_run-then-remove_run.ensures word ∙ ap (λ k. not (in_run (c.args.first / 64) (2 ^ k) word) && set.contains c.self.inside.above word) c.saturating_sub.ensures))
+pub invariant_of-self : goal.invariant_of-self
+invariant_of-self c =
+    let long = (written c.self.inside.words c.deref_mut.result.now c.remove_run.new.words c.deref_mut.ensures.value c.remove_run.ensures.as_long (λ old new. length new ≡ length old) c.remove_run.ensures.as_long) in
+    (omega (arith, long, c.self.invariant.0), many_cut_above c.self.inside.words.items (with_items c.self.inside.words c.remove_run.new.words).items (in_run (c.args.first / 64) (2 ^ (c.args.order - 6))) c.self.inside.above c.self.invariant.1 c.remove_run.result (written c.self.inside.words c.deref_mut.result.now c.remove_run.new.words c.deref_mut.ensures.value c.remove_run.ensures.as_long (λ old new. (word : ℕ) → is_filled new word ≡ (not (c.remove_run.result && in_run (c.args.first / 64) (2 ^ (c.args.order - 6)) word) && is_filled old word)) c.remove_run.ensures.filled) c.if-remove_run.true c.remove_run-then-remove_run.new.self (λ word. c.remove_run-then-remove_run.ensures word ∙ ap (λ k. not (in_run (c.args.first / 64) (2 ^ k) word) && set.contains c.self.inside.above word) c.saturating_sub.ensures))
 
 pub returns-then-remove_run-clause-run : goal.returns-then-remove_run-clause-run
-returns-then-remove_run-clause-run g c = third_cut g.row.L c.self.inside.above c.self.inside.words.items c.args.self.now c.if-this-eq2.false c.self.view_is c.remove_run-then-remove_run.new.self (with_items c.self.inside.words c.remove_run-2.new.words).items (in_run c.args.first (2 ^ c.args.order)) (written c.self.inside.words c.deref_mut.result.now c.remove_run-2.new.words c.deref_mut.ensures.value c.remove_run-2.ensures.as_long (λ old new. (n : ℕ) → has_number new n ≡ (not (in_run c.args.first (2 ^ c.args.order) n) && has_number old n)) c.remove_run-2.ensures.numbers)
+returns-then-remove_run-clause-run c = many_cut c.self.inside.words.items (with_items c.self.inside.words c.remove_run.new.words).items (in_run c.args.first (2 ^ c.args.order)) (written c.self.inside.words c.deref_mut.result.now c.remove_run.new.words c.deref_mut.ensures.value c.remove_run.ensures.as_long (λ old new. (n : ℕ) → has_number new n ≡ (not (in_run c.args.first (2 ^ c.args.order) n) && has_number old n)) c.remove_run.ensures.numbers) c.args.self.now.members (members_of c.self.view_is)
 
 pub returns-else-remove_run-clause-run : goal.returns-else-remove_run-clause-run
-returns-else-remove_run-clause-run g c = third_cut g.row.L c.self.inside.above c.self.inside.words.items c.args.self.now c.if-this-eq2.false c.self.view_is c.self.inside.above (with_items c.self.inside.words c.remove_run-2.new.words).items (in_run c.args.first (2 ^ c.args.order)) (written c.self.inside.words c.deref_mut.result.now c.remove_run-2.new.words c.deref_mut.ensures.value c.remove_run-2.ensures.as_long (λ old new. (n : ℕ) → has_number new n ≡ (not (in_run c.args.first (2 ^ c.args.order) n) && has_number old n)) c.remove_run-2.ensures.numbers)
+returns-else-remove_run-clause-run c = many_cut c.self.inside.words.items (with_items c.self.inside.words c.remove_run.new.words).items (in_run c.args.first (2 ^ c.args.order)) (written c.self.inside.words c.deref_mut.result.now c.remove_run.new.words c.deref_mut.ensures.value c.remove_run.ensures.as_long (λ old new. (n : ℕ) → has_number new n ≡ (not (in_run c.args.first (2 ^ c.args.order) n) && has_number old n)) c.remove_run.ensures.numbers) c.args.self.now.members (members_of c.self.view_is)

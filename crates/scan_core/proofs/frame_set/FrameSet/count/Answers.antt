@@ -5,4 +5,4 @@ use Rattle.frame_core.specs.Below.{count_below}
 use Rattle.scan_core.proofs.frame_set.FrameSet.count.Goals as goal
 
 pub returns : goal.returns
-returns g c = c.self.invariant.counts.all ∙ ap (λ (s : Numbers). count_below (set.contains s.members) s.bound) c.self.view_is
+returns c = c.self.invariant.counts.all ∙ ap (λ (s : Numbers). count_below (set.contains s.members) s.bound) c.self.view_is

@@ -8,14 +8,14 @@ use Rattle.scan_core.proofs.Found.{some_is}
 use Rattle.scan_core.proofs.frame_set.FrameSet.first_run.Goals as goal
 
 pub returns-in_err-first : goal.returns-in_err-first
-returns-in_err-first g c =
+returns-in_err-first c =
     let p = set.contains c.self.inside.numbers.members in
     let frames : 512 * c.self.inside.runs.blocks ≡ 512 * length c.self.inside.blocks = omega (arith, c.self.invariant.runs_blocks) in
     c.from_residual.ensures ∙ c.in_err-first.ensures p c.self.invariant.runs ∙ ap (lowest (is_run_of p c.args.order)) frames
     ∙ ap (λ (s : Numbers). lowest (is_run_of (set.contains s.members) c.args.order) s.bound) c.self.view_is
 
 pub returns : goal.returns
-returns g c =
+returns c =
     let p = set.contains c.self.inside.numbers.members in
     let found = c.in_ok-first.field-0 in
     let frames : 512 * c.self.inside.runs.blocks ≡ 512 * length c.self.inside.blocks = omega (arith, c.self.invariant.runs_blocks) in

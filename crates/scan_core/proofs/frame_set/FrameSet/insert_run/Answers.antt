@@ -12,12 +12,16 @@ use Rattle.scan_core.proofs.SetSteps.{more_fits, more_room, set_more}
 use Rattle.scan_core.proofs.frame_set.FrameSet.insert_run.Goals as goal
 
 pub insert_run-requires : goal.insert_run-requires
-insert_run-requires g c =
+insert_run-requires c =
     let count = ap (λ o. 2 ^ o) c.get-2.ensures.value in
-    (omega arith, (c.get-2.ensures.high, ((λ i. c.get.ensures.value i % count i) ∙ no_rest c.args.order c.frames-frames.ensures.low c.frames-frames.ensures.high c.args.first c.requires.aligned, omega (arith, count, c.get.ensures.value, c.requires.within, ap (λ (s : Numbers). s.bound) c.self.view_is, c.self.invariant.room))))
+    record {
+      order = c.get-2.ensures.high;
+      aligned = (λ i. c.get.ensures.value i % count i) ∙ no_rest c.args.order c.frames-frames.ensures.low c.frames-frames.ensures.high c.args.first c.requires.aligned;
+      within = omega (arith, count, c.get.ensures.value, c.requires.within, ap (λ (s : Numbers). s.bound) c.self.view_is, c.self.invariant.room);
+    }
 
 pub overflow_add-self : goal.overflow_add-self
-overflow_add-self g c =
+overflow_add-self c =
     let low : c.args.first < 512 * length c.self.inside.blocks = omega (arith, ap (λ (s : Numbers). s.bound) c.self.view_is, c.requires.within, some_frames c.args.order c.frames-frames.ensures.low c.frames-frames.ensures.high) in
     let within : c.args.first % 512 + c.frames-frames.result ≤ 512 = omega (arith, c.frames-frames.ensures.value, one_block c.args.order c.frames-frames.ensures.low c.frames-frames.ensures.high c.args.first c.requires.aligned) in
     let count = ap (λ o. 2 ^ o) c.get-2.ensures.value ∙ sym c.frames-frames.ensures.value in
@@ -27,7 +31,7 @@ overflow_add-self g c =
     omega (arith, more_fits c.self.inside c.self.invariant c.insert_run.new.self c.args.first c.get.result c.frames-frames.result low within c.get.ensures.value adds)
 
 pub more-requires-clause-most : goal.more-requires-clause-most
-more-requires-clause-most g c =
+more-requires-clause-most c =
     let low : c.args.first < 512 * length c.self.inside.blocks = omega (arith, ap (λ (s : Numbers). s.bound) c.self.view_is, c.requires.within, some_frames c.args.order c.frames-frames.ensures.low c.frames-frames.ensures.high) in
     let within : c.args.first % 512 + c.frames-frames.result ≤ 512 = omega (arith, c.frames-frames.ensures.value, one_block c.args.order c.frames-frames.ensures.low c.frames-frames.ensures.high c.args.first c.requires.aligned) in
     let count = ap (λ o. 2 ^ o) c.get-2.ensures.value ∙ sym c.frames-frames.ensures.value in
@@ -37,11 +41,16 @@ more-requires-clause-most g c =
     more_room c.self.inside c.self.invariant c.insert_run.new.self c.args.first c.get-3.result c.frames-frames.result low within c.get-3.ensures.value adds
 
 pub insert-requires : goal.insert-requires
-insert-requires g c =
-    (omega arith, (c.self.invariant.runs_open, ((omega (arith, c.get-5.ensures.low), c.get-5.ensures.high), ((λ i. is_aligned (c.get-5.ensures.value i) (c.get-4.ensures.value i)) ∙ c.requires.aligned, omega (arith, c.get-4.ensures.value, c.requires.within, some_frames c.args.order c.frames-frames.ensures.low c.frames-frames.ensures.high, ap (λ (s : Numbers). s.bound) c.self.view_is, c.self.invariant.runs_blocks)))))
+insert-requires c =
+    record {
+      «open» = c.self.invariant.runs_open;
+      order = (omega (arith, c.get-5.ensures.low), c.get-5.ensures.high);
+      aligned = (λ i. is_aligned (c.get-5.ensures.value i) (c.get-4.ensures.value i)) ∙ c.requires.aligned;
+      within = omega (arith, c.get-4.ensures.value, c.requires.within, some_frames c.args.order c.frames-frames.ensures.low c.frames-frames.ensures.high, ap (λ (s : Numbers). s.bound) c.self.view_is, c.self.invariant.runs_blocks);
+    }
 
 pub invariant_of-self : goal.invariant_of-self
-invariant_of-self g c =
+invariant_of-self c =
     let low : c.args.first < 512 * length c.self.inside.blocks = omega (arith, ap (λ (s : Numbers). s.bound) c.self.view_is, c.requires.within, some_frames c.args.order c.frames-frames.ensures.low c.frames-frames.ensures.high) in
     let within : c.args.first % 512 + c.frames-frames.result ≤ 512 = omega (arith, c.frames-frames.ensures.value, one_block c.args.order c.frames-frames.ensures.low c.frames-frames.ensures.high c.args.first c.requires.aligned) in
     let count = ap (λ o. 2 ^ o) c.get-2.ensures.value ∙ sym c.frames-frames.ensures.value in

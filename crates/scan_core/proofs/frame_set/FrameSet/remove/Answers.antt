@@ -8,29 +8,33 @@ use Rattle.scan_core.proofs.SetSteps.{fewer_has, fewer_most, fewer_room, set_few
 use Rattle.scan_core.proofs.frame_set.FrameSet.remove.Goals as goal
 
 pub overflow_sub-self : goal.overflow_sub-self
-overflow_sub-self g c =
+overflow_sub-self c =
     let low : c.args.frame < 512 * length c.self.inside.blocks = omega (arith, ap (λ (s : Numbers). s.bound) c.self.view_is, c.requires.within) in
     let adds = removes_one c.self.inside.numbers.members c.remove.new.self.members c.args.frame c.get-2.result c.get-2.ensures.value (ap (λ (s : Numbers). set.contains s.members c.args.frame) c.self.view_is ∙ c.requires.member) (ap (λ (s : Numbers). s.members) c.remove.ensures) in
     fewer_has c.self.inside c.self.invariant c.remove.new.self c.args.frame c.get-2.result 1 low (omega arith) c.get-2.ensures.value adds
 
 pub fewer-requires-clause-counted : goal.fewer-requires-clause-counted
-fewer-requires-clause-counted g c =
+fewer-requires-clause-counted c =
     let low : c.args.frame < 512 * length c.self.inside.blocks = omega (arith, ap (λ (s : Numbers). s.bound) c.self.view_is, c.requires.within) in
     let adds = removes_one c.self.inside.numbers.members c.remove.new.self.members c.args.frame c.get-2.result c.get-2.ensures.value (ap (λ (s : Numbers). set.contains s.members c.args.frame) c.self.view_is ∙ c.requires.member) (ap (λ (s : Numbers). s.members) c.remove.ensures) in
     fewer_room c.self.inside c.self.invariant c.remove.new.self c.args.frame c.get-3.result 1 low (omega arith) c.get-3.ensures.value adds
 
 pub fewer-requires-clause-most : goal.fewer-requires-clause-most
-fewer-requires-clause-most g c =
+fewer-requires-clause-most c =
     let low : c.args.frame < 512 * length c.self.inside.blocks = omega (arith, ap (λ (s : Numbers). s.bound) c.self.view_is, c.requires.within) in
     let adds = removes_one c.self.inside.numbers.members c.remove.new.self.members c.args.frame c.get-2.result c.get-2.ensures.value (ap (λ (s : Numbers). set.contains s.members c.args.frame) c.self.view_is ∙ c.requires.member) (ap (λ (s : Numbers). s.members) c.remove.ensures) in
     fewer_most c.self.inside c.self.invariant c.remove.new.self c.args.frame c.get-3.result 1 low (omega arith) c.get-3.ensures.value
 
 pub remove_frame-requires : goal.remove_frame-requires
-remove_frame-requires g c =
-    (omega arith, (omega arith, (c.self.invariant.runs_open, (omega (arith, c.get.ensures.value, c.requires.within, ap (λ (s : Numbers). s.bound) c.self.view_is, c.self.invariant.runs_blocks), omega (arith, c.self.invariant.room, c.self.invariant.runs_blocks)))))
+remove_frame-requires c =
+    record {
+      «open» = c.self.invariant.runs_open;
+      within = omega (arith, c.get.ensures.value, c.requires.within, ap (λ (s : Numbers). s.bound) c.self.view_is, c.self.invariant.runs_blocks);
+      room = omega (arith, c.self.invariant.room, c.self.invariant.runs_blocks);
+    }
 
 pub invariant_of-self : goal.invariant_of-self
-invariant_of-self g c =
+invariant_of-self c =
     let low : c.args.frame < 512 * length c.self.inside.blocks = omega (arith, ap (λ (s : Numbers). s.bound) c.self.view_is, c.requires.within) in
     let adds = removes_one c.self.inside.numbers.members c.remove.new.self.members c.args.frame c.get-2.result c.get-2.ensures.value (ap (λ (s : Numbers). set.contains s.members c.args.frame) c.self.view_is ∙ c.requires.member) (ap (λ (s : Numbers). s.members) c.remove.ensures) in
     set_fewer c.self.inside c.self.invariant c.remove.new.self c.args.frame c.get-3.result 1 low (omega arith) c.get-3.ensures.value adds c.fewer.new.self (ap (λ (s : Numbers). s.bound) c.remove.ensures) c.fewer.ensures c.remove_frame.new.self c.remove_frame.ensures.open c.remove_frame.ensures.blocks

@@ -12,12 +12,16 @@ use Rattle.scan_core.proofs.SetSteps.{fewer_has, fewer_most, fewer_room, set_few
 use Rattle.scan_core.proofs.frame_set.FrameSet.remove_run.Goals as goal
 
 pub remove_run-requires : goal.remove_run-requires
-remove_run-requires g c =
+remove_run-requires c =
     let count = ap (λ o. 2 ^ o) c.get-2.ensures.value in
-    (omega arith, (c.get-2.ensures.high, ((λ i. c.get.ensures.value i % count i) ∙ no_rest c.args.order c.frames-frames.ensures.low c.frames-frames.ensures.high c.args.first c.requires.aligned, omega (arith, count, c.get.ensures.value, c.requires.within, ap (λ (s : Numbers). s.bound) c.self.view_is, c.self.invariant.room))))
+    record {
+      order = c.get-2.ensures.high;
+      aligned = (λ i. c.get.ensures.value i % count i) ∙ no_rest c.args.order c.frames-frames.ensures.low c.frames-frames.ensures.high c.args.first c.requires.aligned;
+      within = omega (arith, count, c.get.ensures.value, c.requires.within, ap (λ (s : Numbers). s.bound) c.self.view_is, c.self.invariant.room);
+    }
 
 pub overflow_sub-self : goal.overflow_sub-self
-overflow_sub-self g c =
+overflow_sub-self c =
     let low : c.args.first < 512 * length c.self.inside.blocks = omega (arith, ap (λ (s : Numbers). s.bound) c.self.view_is, c.requires.within, some_frames c.args.order c.frames-frames.ensures.low c.frames-frames.ensures.high) in
     let within : c.args.first % 512 + c.frames-frames.result ≤ 512 = omega (arith, c.frames-frames.ensures.value, one_block c.args.order c.frames-frames.ensures.low c.frames-frames.ensures.high c.args.first c.requires.aligned) in
     let count = ap (λ o. 2 ^ o) c.get-2.ensures.value ∙ sym c.frames-frames.ensures.value in
@@ -27,7 +31,7 @@ overflow_sub-self g c =
     fewer_has c.self.inside c.self.invariant c.remove_run.new.self c.args.first c.get.result c.frames-frames.result low within c.get.ensures.value adds
 
 pub fewer-requires-clause-counted : goal.fewer-requires-clause-counted
-fewer-requires-clause-counted g c =
+fewer-requires-clause-counted c =
     let low : c.args.first < 512 * length c.self.inside.blocks = omega (arith, ap (λ (s : Numbers). s.bound) c.self.view_is, c.requires.within, some_frames c.args.order c.frames-frames.ensures.low c.frames-frames.ensures.high) in
     let within : c.args.first % 512 + c.frames-frames.result ≤ 512 = omega (arith, c.frames-frames.ensures.value, one_block c.args.order c.frames-frames.ensures.low c.frames-frames.ensures.high c.args.first c.requires.aligned) in
     let count = ap (λ o. 2 ^ o) c.get-2.ensures.value ∙ sym c.frames-frames.ensures.value in
@@ -37,7 +41,7 @@ fewer-requires-clause-counted g c =
     fewer_room c.self.inside c.self.invariant c.remove_run.new.self c.args.first c.get-3.result c.frames-frames.result low within c.get-3.ensures.value adds
 
 pub fewer-requires-clause-most : goal.fewer-requires-clause-most
-fewer-requires-clause-most g c =
+fewer-requires-clause-most c =
     let low : c.args.first < 512 * length c.self.inside.blocks = omega (arith, ap (λ (s : Numbers). s.bound) c.self.view_is, c.requires.within, some_frames c.args.order c.frames-frames.ensures.low c.frames-frames.ensures.high) in
     let within : c.args.first % 512 + c.frames-frames.result ≤ 512 = omega (arith, c.frames-frames.ensures.value, one_block c.args.order c.frames-frames.ensures.low c.frames-frames.ensures.high c.args.first c.requires.aligned) in
     let count = ap (λ o. 2 ^ o) c.get-2.ensures.value ∙ sym c.frames-frames.ensures.value in
@@ -47,11 +51,16 @@ fewer-requires-clause-most g c =
     fewer_most c.self.inside c.self.invariant c.remove_run.new.self c.args.first c.get-3.result c.frames-frames.result low within c.get-3.ensures.value
 
 pub remove-requires : goal.remove-requires
-remove-requires g c =
-    (omega arith, (c.self.invariant.runs_open, ((omega (arith, c.get-5.ensures.low), c.get-5.ensures.high), ((λ i. is_aligned (c.get-5.ensures.value i) (c.get-4.ensures.value i)) ∙ c.requires.aligned, omega (arith, c.get-4.ensures.value, c.requires.within, some_frames c.args.order c.frames-frames.ensures.low c.frames-frames.ensures.high, ap (λ (s : Numbers). s.bound) c.self.view_is, c.self.invariant.runs_blocks)))))
+remove-requires c =
+    record {
+      «open» = c.self.invariant.runs_open;
+      order = (omega (arith, c.get-5.ensures.low), c.get-5.ensures.high);
+      aligned = (λ i. is_aligned (c.get-5.ensures.value i) (c.get-4.ensures.value i)) ∙ c.requires.aligned;
+      within = omega (arith, c.get-4.ensures.value, c.requires.within, some_frames c.args.order c.frames-frames.ensures.low c.frames-frames.ensures.high, ap (λ (s : Numbers). s.bound) c.self.view_is, c.self.invariant.runs_blocks);
+    }
 
 pub invariant_of-self : goal.invariant_of-self
-invariant_of-self g c =
+invariant_of-self c =
     let low : c.args.first < 512 * length c.self.inside.blocks = omega (arith, ap (λ (s : Numbers). s.bound) c.self.view_is, c.requires.within, some_frames c.args.order c.frames-frames.ensures.low c.frames-frames.ensures.high) in
     let within : c.args.first % 512 + c.frames-frames.result ≤ 512 = omega (arith, c.frames-frames.ensures.value, one_block c.args.order c.frames-frames.ensures.low c.frames-frames.ensures.high c.args.first c.requires.aligned) in
     let count = ap (λ o. 2 ^ o) c.get-2.ensures.value ∙ sym c.frames-frames.ensures.value in

@@ -9,7 +9,7 @@ use Rattle.scan_core.proofs.FrameSets.{full_by_counts}
 use Rattle.scan_core.proofs.frame_set.FrameSet.whole_blocks.Goals as goal
 
 pub returns : goal.returns
-returns g c =
+returns c =
     let blocks : length c.self.inside.blocks ≡ 512 * length c.self.inside.blocks / 512 = omega arith in
     c.whole.ensures
     ∙ count_same (is_all_counted c.self.inside.blocks) (all_of_block (set.contains c.self.inside.numbers.members)) (length c.self.inside.blocks) (full_by_counts (set.contains c.self.inside.numbers.members) c.self.inside.blocks c.self.invariant.counts.each)

@@ -6,29 +6,38 @@ use Rattle.scan_core.proofs.Steps as step
 use Rattle.scan_core.proofs.frames.Frames.empty.Goals as goal
 
 pub insert-requires : goal.insert-requires
-insert-requires g c =
-    (omega arith, (step.in_free c.self.inside c.self.invariant c.self.view_is c.args.frame (step.is_within c.self.inside c.self.invariant c.self.view_is c.args.frame is_holding_state refl c.requires), step.page_isnt_free c.self.inside c.self.invariant c.self.view_is c.args.frame c.requires))
+insert-requires c =
+    record {
+      within = step.in_free c.self.inside c.self.invariant c.self.view_is c.args.frame (step.is_within c.self.inside c.self.invariant c.self.view_is c.args.frame is_holding_state refl c.requires);
+      none = step.page_isnt_free c.self.inside c.self.invariant c.self.view_is c.args.frame c.requires;
+    }
 
 pub index-requires : goal.index-requires
-index-requires g c =
+index-requires c =
     omega (arith, step.is_within c.self.inside c.self.invariant c.self.view_is c.args.frame is_holding_state refl c.requires, c.self.invariant.movable, c.get-index.ensures.value)
 
 pub remove-requires : goal.remove-requires
-remove-requires g c =
+remove-requires c =
     let within = step.is_within c.self.inside c.self.invariant c.self.view_is c.args.frame is_holding_state refl c.requires in
     let read = step.flag_is c.self.inside c.self.invariant c.self.view_is c.args.frame c.get-index.result c.index.result.now c.get-index.ensures.value (step.is_within c.self.inside c.self.invariant c.self.view_is c.args.frame is_holding_state refl c.requires) c.index.ensures in
-    (omega arith, (step.in_sources c.self.inside c.self.invariant c.self.view_is c.args.frame within, (step.in_block c.self.inside c.self.invariant c.self.view_is c.args.frame within, (λ e. step.stuck_some c.self.inside c.self.invariant c.self.view_is c.args.frame within (step.page_is_stuck c.self.inside c.self.invariant c.self.view_is c.args.frame c.requires ∙ ap not (sym read ∙ e)), (step.stuck_most c.self.inside c.self.invariant c.self.view_is c.args.frame within, step.page_is_source c.self.inside c.self.invariant c.self.view_is c.args.frame c.requires ∙ sym read)))))
+    record {
+      room = step.in_sources c.self.inside c.self.invariant c.self.view_is c.args.frame within;
+      block = step.in_block c.self.inside c.self.invariant c.self.view_is c.args.frame within;
+      some = λ e. step.stuck_some c.self.inside c.self.invariant c.self.view_is c.args.frame within (step.page_is_stuck c.self.inside c.self.invariant c.self.view_is c.args.frame c.requires ∙ ap not (sym read ∙ e));
+      most = step.stuck_most c.self.inside c.self.invariant c.self.view_is c.args.frame within;
+      is = step.page_is_source c.self.inside c.self.invariant c.self.view_is c.args.frame c.requires ∙ sym read;
+    }
 
 pub index_mut-requires : goal.index_mut-requires
-index_mut-requires g c =
+index_mut-requires c =
     omega (arith, step.is_within c.self.inside c.self.invariant c.self.view_is c.args.frame is_holding_state refl c.requires, c.get-index.ensures.value)
 
 pub invariant_of-self : goal.invariant_of-self
-invariant_of-self g c =
+invariant_of-self c =
     (step.sound_emptied c.self.inside c.self.invariant c.self.view_is c.args.frame c.get-index.result c.get-index.ensures.value (with_item c.self.inside.kept c.get-index.result Free) c.insert.new.self c.remove.new.self.sources c.remove.new.self.stuck c.index.result.now c.requires refl c.insert.ensures (step.flag_is c.self.inside c.self.invariant c.self.view_is c.args.frame c.get-index.result c.index.result.now c.get-index.ensures.value (step.is_within c.self.inside c.self.invariant c.self.view_is c.args.frame is_holding_state refl c.requires) c.index.ensures) c.remove.ensures.sources c.remove.ensures.room c.remove.ensures.stuck).0
 
 pub returns : goal.returns
-returns g c =
+returns c =
     let states = (step.sound_emptied c.self.inside c.self.invariant c.self.view_is c.args.frame c.get-index.result c.get-index.ensures.value (with_item c.self.inside.kept c.get-index.result Free) c.insert.new.self c.remove.new.self.sources c.remove.new.self.stuck c.index.result.now c.requires refl c.insert.ensures (step.flag_is c.self.inside c.self.invariant c.self.view_is c.args.frame c.get-index.result c.index.result.now c.get-index.ensures.value (step.is_within c.self.inside c.self.invariant c.self.view_is c.args.frame is_holding_state refl c.requires) c.index.ensures) c.remove.ensures.sources c.remove.ensures.room c.remove.ensures.stuck).1 in
     record {
       state = λ i. record { states = states i; movable = (c.self.view_is i).movable };

@@ -7,28 +7,36 @@ use Rattle.scan_core.proofs.Steps as step
 use Rattle.scan_core.proofs.frames.Frames.fill.Goals as goal
 
 pub remove-requires : goal.remove-requires
-remove-requires g c =
-    (omega arith, (step.in_free c.self.inside c.self.invariant c.self.view_is c.args.frame (step.is_within c.self.inside c.self.invariant c.self.view_is c.args.frame is_free_state refl c.requires), step.free_is_free c.self.inside c.self.invariant c.self.view_is c.args.frame c.requires))
+remove-requires c =
+    record {
+      within = step.in_free c.self.inside c.self.invariant c.self.view_is c.args.frame (step.is_within c.self.inside c.self.invariant c.self.view_is c.args.frame is_free_state refl c.requires);
+      member = step.free_is_free c.self.inside c.self.invariant c.self.view_is c.args.frame c.requires;
+    }
 
 pub add-requires : goal.add-requires
-add-requires g c =
+add-requires c =
     let within = step.is_within c.self.inside c.self.invariant c.self.view_is c.args.frame is_free_state refl c.requires in
-    (omega arith, (step.in_sources c.self.inside c.self.invariant c.self.view_is c.args.frame within, (step.in_block c.self.inside c.self.invariant c.self.view_is c.args.frame within, (step.stuck_less c.self.inside c.self.invariant c.self.view_is c.args.frame within (step.free_isnt_stuck c.self.inside c.self.invariant c.self.view_is c.args.frame c.requires), step.free_isnt_source c.self.inside c.self.invariant c.self.view_is c.args.frame c.requires))))
+    record {
+      room = step.in_sources c.self.inside c.self.invariant c.self.view_is c.args.frame within;
+      block = step.in_block c.self.inside c.self.invariant c.self.view_is c.args.frame within;
+      most = step.stuck_less c.self.inside c.self.invariant c.self.view_is c.args.frame within (step.free_isnt_stuck c.self.inside c.self.invariant c.self.view_is c.args.frame c.requires);
+      none = step.free_isnt_source c.self.inside c.self.invariant c.self.view_is c.args.frame c.requires;
+    }
 
 pub index_mut-requires : goal.index_mut-requires
-index_mut-requires g c =
+index_mut-requires c =
     omega (arith, step.is_within c.self.inside c.self.invariant c.self.view_is c.args.frame is_free_state refl c.requires, c.self.invariant.movable, c.get-index.ensures.value)
 
 pub index_mut-requires-2 : goal.index_mut-requires-2
-index_mut-requires-2 g c =
+index_mut-requires-2 c =
     omega (arith, step.is_within c.self.inside c.self.invariant c.self.view_is c.args.frame is_free_state refl c.requires, c.get-index.ensures.value)
 
 pub invariant_of-self : goal.invariant_of-self
-invariant_of-self g c =
+invariant_of-self c =
     (step.sound_filled c.self.inside c.self.invariant c.self.view_is c.args.frame c.get-index.result c.get-index.ensures.value (with_item c.self.inside.kept c.get-index.result (Holds c.args.page)) (with_item c.self.inside.movable c.get-index.result c.args.movable) c.remove.new.self c.add.new.self.sources c.add.new.self.stuck c.args.page c.args.movable c.requires refl refl c.remove.ensures c.add.ensures.sources c.add.ensures.room c.add.ensures.stuck).0
 
 pub returns : goal.returns
-returns g c =
+returns c =
     let states = (step.sound_filled c.self.inside c.self.invariant c.self.view_is c.args.frame c.get-index.result c.get-index.ensures.value (with_item c.self.inside.kept c.get-index.result (Holds c.args.page)) (with_item c.self.inside.movable c.get-index.result c.args.movable) c.remove.new.self c.add.new.self.sources c.add.new.self.stuck c.args.page c.args.movable c.requires refl refl c.remove.ensures c.add.ensures.sources c.add.ensures.room c.add.ensures.stuck).1 in
     record {
       page = λ i. record { states = states i; movable = slice_set (c.self.view_is i).movable (c.get-index.ensures.value i) c.args.movable };

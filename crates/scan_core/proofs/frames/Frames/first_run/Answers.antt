@@ -12,6 +12,6 @@ run_found states order None is = tt
 run_found states order (Some first) is = (lowest_some (is_run states order) (length states) first (sym is)).1
 
 pub returns : goal.returns
-returns g c =
+returns c =
     let is = c.first_run.ensures ∙ first_run_by_set c.self.inside c.self.invariant c.args.order ∙ ap (λ (frames : Frames). first_run frames.states c.args.order) c.self.view_is in
     record { lowest = is; run = run_found c.args.self.now.states c.args.order c.first_run.result is }

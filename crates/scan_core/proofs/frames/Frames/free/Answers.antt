@@ -4,4 +4,4 @@ use Rattle.scan_core.proofs.Sounding.{free_counted}
 use Rattle.scan_core.proofs.frames.Frames.free.Goals as goal
 
 pub returns : goal.returns
-returns g c = c.count.ensures ∙ free_counted c.self.inside c.self.invariant ∙ ap (λ (frames : Frames). free_frames frames.states) c.self.view_is
+returns c = c.count.ensures ∙ free_counted c.self.inside c.self.invariant ∙ ap (λ (frames : Frames). free_frames frames.states) c.self.view_is

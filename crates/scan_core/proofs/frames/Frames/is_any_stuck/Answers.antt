@@ -6,9 +6,9 @@ use Rattle.scan_core.proofs.Sounding.{frames_kept, stuck_by_counts, stuck_frames
 use Rattle.scan_core.proofs.frames.Frames.is_any_stuck.Goals as goal
 
 pub has_some_unmarked-requires : goal.has_some_unmarked-requires
-has_some_unmarked-requires g c = omega (arith, c.requires, stuck_frames c.self.inside c.self.invariant, kept_length c.self.inside c.self.invariant, frames_kept c.self.inside c.self.invariant c.self.view_is)
+has_some_unmarked-requires c = omega (arith, c.requires, stuck_frames c.self.inside c.self.invariant, kept_length c.self.inside c.self.invariant, frames_kept c.self.inside c.self.invariant c.self.view_is)
 
 pub returns : goal.returns
-returns g c =
+returns c =
     c.has_some_unmarked.ensures ∙ stuck_by_counts c.self.inside c.self.invariant c.args.marked.now
     ∙ ap (λ (frames : Frames). some_below (is_stuck frames.states frames.movable c.args.marked.now) (length frames.states)) c.self.view_is

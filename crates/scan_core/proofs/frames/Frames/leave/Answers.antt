@@ -6,19 +6,22 @@ use Rattle.scan_core.proofs.Steps as step
 use Rattle.scan_core.proofs.frames.Frames.leave.Goals as goal
 
 pub insert-requires : goal.insert-requires
-insert-requires g c =
-    (omega arith, (step.in_free c.self.inside c.self.invariant c.self.view_is c.args.other (step.is_within c.self.inside c.self.invariant c.self.view_is c.args.other is_way_state refl c.requires), step.way_isnt_free c.self.inside c.self.invariant c.self.view_is c.args.other c.requires))
+insert-requires c =
+    record {
+      within = step.in_free c.self.inside c.self.invariant c.self.view_is c.args.other (step.is_within c.self.inside c.self.invariant c.self.view_is c.args.other is_way_state refl c.requires);
+      none = step.way_isnt_free c.self.inside c.self.invariant c.self.view_is c.args.other c.requires;
+    }
 
 pub index_mut-requires : goal.index_mut-requires
-index_mut-requires g c =
+index_mut-requires c =
     omega (arith, step.is_within c.self.inside c.self.invariant c.self.view_is c.args.other is_way_state refl c.requires, c.get.ensures.value)
 
 pub invariant_of-self : goal.invariant_of-self
-invariant_of-self g c =
+invariant_of-self c =
     (step.sound_left c.self.inside c.self.invariant c.self.view_is c.args.other c.get.result c.get.ensures.value (with_item c.self.inside.kept c.get.result Free) c.insert.new.self c.requires refl c.insert.ensures).0
 
 pub returns : goal.returns
-returns g c =
+returns c =
     let states = (step.sound_left c.self.inside c.self.invariant c.self.view_is c.args.other c.get.result c.get.ensures.value (with_item c.self.inside.kept c.get.result Free) c.insert.new.self c.requires refl c.insert.ensures).1 in
     record {
       state = λ i. record { states = states i; movable = (c.self.view_is i).movable };

@@ -6,7 +6,7 @@ use Rattle.scan_core.proofs.Sounding.{lowest_counted, if_some_within, free_is}
 use Rattle.scan_core.proofs.frames.Frames.lowest_free.Goals as goal
 
 pub returns : goal.returns
-returns g c =
+returns c =
     let z = c.self.inside in
     let same = free_is z c.self.invariant ∙ ap (λ (frames : Frames). free_at frames.states) c.self.view_is in
     let member = subst (λ (p : ℕ → Bool). IfSome c.lowest.result (λ frame. p frame ≡ true)) same c.lowest.ensures.member in

@@ -10,14 +10,14 @@ use Rattle.scan_core.proofs.frames.Frames.state.Goals as goal
 use Rattle.scan_core.proofs.frames.Frames.state.Goals.{else-is_free-via-then-is_free+else-contains, else-is_free-via-else-is_free}
 
 pub index-requires : goal.index-requires
-index-requires g c = omega (arith, c.requires, frames_kept c.self.inside c.self.invariant c.self.view_is, c.get.ensures.value)
+index-requires c = omega (arith, c.requires, frames_kept c.self.inside c.self.invariant c.self.view_is, c.get.ensures.value)
 
 pub contains-requires : goal.contains-requires
-contains-requires g c =
-    (omega arith, omega (arith, c.requires, frames_kept c.self.inside c.self.invariant c.self.view_is, c.self.invariant.held_room, c.get-then-is_free.ensures.value))
+contains-requires c =
+    omega (arith, c.requires, frames_kept c.self.inside c.self.invariant c.self.view_is, c.self.invariant.held_room, c.get-then-is_free.ensures.value)
 
 pub returns-then-contains : goal.returns-then-contains
-returns-then-contains g c =
+returns-then-contains c =
     let z = c.self.inside in
     let held = ap (set.contains z.held.members) (sym c.get-then-is_free.ensures.value) ∙ sym c.contains.ensures ∙ c.if-contains.true in
     ap (λ (frames : Frames). slice_get frames.states c.args.frame) (sym c.self.view_is)
@@ -26,7 +26,7 @@ returns-then-contains g c =
 
 -- a frame that is kept as used isn't held
 pub returns : goal.returns
-returns g c =
+returns c =
     let z = c.self.inside in
     let read = ap (slice_get z.kept.items) (sym c.get.ensures.value) ∙ slice_get_read z.kept.items (length z.kept.items) c.get.result c.index.result.now refl (omega (arith, c.requires, frames_kept c.self.inside c.self.invariant c.self.view_is, c.get.ensures.value)) c.index.ensures in
     let unheld : set.contains z.held.members c.args.frame ≡ false = elim c.else-is_free.branch [

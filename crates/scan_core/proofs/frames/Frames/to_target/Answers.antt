@@ -6,19 +6,22 @@ use Rattle.scan_core.proofs.Steps as step
 use Rattle.scan_core.proofs.frames.Frames.to_target.Goals as goal
 
 pub remove-requires : goal.remove-requires
-remove-requires g c =
-    (omega arith, (step.in_free c.self.inside c.self.invariant c.self.view_is c.args.frame (step.is_within c.self.inside c.self.invariant c.self.view_is c.args.frame is_free_state refl c.requires), step.free_is_free c.self.inside c.self.invariant c.self.view_is c.args.frame c.requires))
+remove-requires c =
+    record {
+      within = step.in_free c.self.inside c.self.invariant c.self.view_is c.args.frame (step.is_within c.self.inside c.self.invariant c.self.view_is c.args.frame is_free_state refl c.requires);
+      member = step.free_is_free c.self.inside c.self.invariant c.self.view_is c.args.frame c.requires;
+    }
 
 pub index_mut-requires : goal.index_mut-requires
-index_mut-requires g c =
+index_mut-requires c =
     omega (arith, step.is_within c.self.inside c.self.invariant c.self.view_is c.args.frame is_free_state refl c.requires, c.get.ensures.value)
 
 pub invariant_of-self : goal.invariant_of-self
-invariant_of-self g c =
+invariant_of-self c =
     (step.sound_to_target c.self.inside c.self.invariant c.self.view_is c.args.frame c.get.result c.get.ensures.value (with_item c.self.inside.kept c.get.result (Target c.args.serial)) c.remove.new.self c.args.serial c.requires refl c.remove.ensures).0
 
 pub returns : goal.returns
-returns g c =
+returns c =
     let states = (step.sound_to_target c.self.inside c.self.invariant c.self.view_is c.args.frame c.get.result c.get.ensures.value (with_item c.self.inside.kept c.get.result (Target c.args.serial)) c.remove.new.self c.args.serial c.requires refl c.remove.ensures).1 in
     record {
       state = λ i. record { states = states i; movable = (c.self.view_is i).movable };

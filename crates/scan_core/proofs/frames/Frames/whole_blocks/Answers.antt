@@ -5,4 +5,4 @@ use Rattle.scan_core.proofs.Sounding.{whole_by_set}
 use Rattle.scan_core.proofs.frames.Frames.whole_blocks.Goals as goal
 
 pub returns : goal.returns
-returns g c = c.whole_blocks.ensures ∙ whole_by_set c.self.inside c.self.invariant ∙ ap (λ (frames : Frames). count_below (is_whole frames.states) (blocks_of frames.states)) c.self.view_is
+returns c = c.whole_blocks.ensures ∙ whole_by_set c.self.inside c.self.invariant ∙ ap (λ (frames : Frames). count_below (is_whole frames.states) (blocks_of frames.states)) c.self.view_is

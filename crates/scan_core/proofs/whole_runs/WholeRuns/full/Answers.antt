@@ -3,16 +3,12 @@ use Rattle.std.specs.Prelude.{nat_lt, ◌&&◌}
 use Rattle.std.specs.FinSet as set
 use Rattle.std.proofs.lemmas.Bool.{lt-ltb}
 use Rattle.std.proofs.lemmas.Bool.Decides.{leb_tells}
-use Rattle.scan_core.proofs.Numbering.{most_of_levels}
 use Rattle.scan_core.proofs.Spanning.{all_members, in_run_is}
 use Rattle.scan_core.proofs.WholeRuns.{inner, leaf, to_orders}
 use Rattle.scan_core.proofs.whole_runs.WholeRuns.full.Goals as goal
 
-pub overflow_mul-blocks : goal.overflow_mul-blocks
-overflow_mul-blocks g c = omega (arith, most_of_levels g.row.L (512 * c.args.blocks) c.requires.levels.1 c.requires.room)
-
 pub returns-clause-whole : goal.returns-clause-whole
-returns-clause-whole g c =
+returns-clause-whole c =
     let blocks = c.args.blocks in
     let p = λ (frame : ℕ). nat_lt frame (512 * blocks) in
     let has = set.contains c.in_ok-numbers.numbers.members in

@@ -8,7 +8,7 @@ use Rattle.scan_core.proofs.WholeRuns.{of_orders, to_orders}
 use Rattle.scan_core.proofs.whole_runs.WholeRuns.insert.Goals as goal
 
 pub loop-self-init : goal.loop-self-init
-loop-self-init g c =
+loop-self-init c =
     let blocks = c.args.self.now.blocks in
     let has = set.contains c.args.self.now.numbers.members in
     record {
@@ -20,7 +20,7 @@ loop-self-init g c =
     }
 
 pub returns-then-not-has_halves-clause-whole : goal.returns-then-not-has_halves-clause-whole
-returns-then-not-has_halves-clause-whole g c =
+returns-then-not-has_halves-clause-whole c =
     let blocks = c.loop-self.self.blocks in
     let has = set.contains c.loop-self.self.numbers.members in
     let now = set.contains c.insert_run.new.self.members in
@@ -33,7 +33,7 @@ returns-then-not-has_halves-clause-whole g c =
     (fill_stop blocks r has now number size next true c.loop-self-test.true c.loop-self.invariant.at.within half put c.loop-self.invariant.sound.some (pow_pos c.saturating_sub-halvings.result) refl (c.loop-self.invariant.stale p r whole change) (sym c.has_halves.ensures ∙ c.if-not-has_halves.true))
 
 pub loop-self-preserved : goal.loop-self-preserved
-loop-self-preserved g c =
+loop-self-preserved c =
     let blocks = c.loop-self.self.blocks in
     let has = set.contains c.loop-self.self.numbers.members in
     let now = set.contains c.insert_run.new.self.members in
@@ -50,7 +50,7 @@ loop-self-preserved g c =
     }
 
 pub returns-clause-whole : goal.returns-clause-whole
-returns-clause-whole g c = λ p r whole change.
+returns-clause-whole c = λ p r whole change.
     let blocks = c.loop-self.self.blocks in
     let has = set.contains c.loop-self.self.numbers.members in
     to_orders blocks r has (at_top blocks c.loop-self.number c.loop-self.invariant.sound.some r has c.loop-self.halvings true c.loop-self.invariant.at c.loop-self-test.false (c.loop-self.invariant.stale p r whole change))

@@ -8,7 +8,7 @@ use Rattle.scan_core.proofs.WholeRuns.{of_orders, to_orders}
 use Rattle.scan_core.proofs.whole_runs.WholeRuns.remove.Goals as goal
 
 pub loop-self-init : goal.loop-self-init
-loop-self-init g c =
+loop-self-init c =
     let blocks = c.args.self.now.blocks in
     let has = set.contains c.args.self.now.numbers.members in
     record {
@@ -22,7 +22,7 @@ loop-self-init g c =
     }
 
 pub returns-then-not-contains-clause-whole : goal.returns-then-not-contains-clause-whole
-returns-then-not-contains-clause-whole g c =
+returns-then-not-contains-clause-whole c =
     let blocks = c.loop-self.self.blocks in
     let has = set.contains c.loop-self.self.numbers.members in
     let now = set.contains c.remove_run.new.self.members in
@@ -35,7 +35,7 @@ returns-then-not-contains-clause-whole g c =
     (empty_stop blocks r has now number size next false c.loop-self-test.true c.loop-self.invariant.at.within half put c.loop-self.invariant.sound.some (pow_pos c.saturating_sub-halvings.result) refl (c.loop-self.invariant.stale p r whole change).0 (c.loop-self.invariant.stale p r whole change).1 (sym c.contains.ensures ∙ c.if-not-contains.true))
 
 pub loop-self-preserved : goal.loop-self-preserved
-loop-self-preserved g c =
+loop-self-preserved c =
     let blocks = c.loop-self.self.blocks in
     let has = set.contains c.loop-self.self.numbers.members in
     let now = set.contains c.remove_run.new.self.members in
@@ -52,7 +52,7 @@ loop-self-preserved g c =
     }
 
 pub returns-clause-whole : goal.returns-clause-whole
-returns-clause-whole g c = λ p r whole change.
+returns-clause-whole c = λ p r whole change.
     let blocks = c.loop-self.self.blocks in
     let has = set.contains c.loop-self.self.numbers.members in
     to_orders blocks r has (at_top blocks c.loop-self.number c.loop-self.invariant.sound.some r has c.loop-self.halvings false c.loop-self.invariant.at c.loop-self-test.false (c.loop-self.invariant.stale p r whole change).0)

@@ -5,7 +5,7 @@ use Rattle.scan_core.proofs.HeapSteps.{AllMembers, IsAt, IsStale}
 use Rattle.scan_core.proofs.whole_runs.WholeRuns.remove.Given as goal
 
 abbrev pub invariant-loop-self : goal.invariant-loop-self
-invariant-loop-self g l = record {
+invariant-loop-self l = record {
   sound : IsOpen l.self;
   blocks : l.self.blocks ≡ l.fn.self.blocks;
   at : IsAt l.self.blocks l.number l.halvings;
@@ -13,4 +13,4 @@ invariant-loop-self g l = record {
 }
 
 abbrev pub decreases-loop-self : goal.decreases-loop-self
-decreases-loop-self g l = l.number
+decreases-loop-self l = l.number
