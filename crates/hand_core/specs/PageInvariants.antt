@@ -1,5 +1,5 @@
 -- What holds of the fields of a giver, and of a taker.
-use Rattle.std.specs.Prelude.{◌≡◌, ◌+◌, ◌^◌, ◌<◌, ◌≤◌, true, false, if◌then◌else◌, List, [], ◌++◌, length}
+use Rattle.std.specs.Prelude.{◌≡◌, ◌+◌, ◌<◌, ◌≤◌, true, false, if◌then◌else◌, List, [], ◌++◌, length}
 use Rattle.crossbeam_channel.specs.Claims.{view, IsSeatAt}
 use Rattle.crossbeam_channel.specs.Ends.{sends_on, receives_on}
 use Rattle.frame_core.specs.Page.{IsolatedPage}
@@ -13,7 +13,6 @@ pub record IsGiving (g : giver.Inside) : Type 0 where
   pub gives : (view g.pass).gives ≡ true
   pub serials : HasSerialsFrom g.base (view g.pass).given
   pub next : g.base + length (view g.pass).given ≡ g.next
-  pub fits : g.next ≤ 2 ^ 32
   pub few : (0 < g.takers) × (g.takers ≤ 4)
   pub shares : (view g.pass).shares + g.takers ≡ 1024
   pub marked : (view g.pass).marks ≡ g.marks

@@ -1,4 +1,4 @@
-ghost use Rattle.std.specs.Prelude.{◌≡◌, ◌+◌, ◌^◌, ◌<◌, ◌≤◌, ◌++◌, ◌∷◌, [], true, false, length, OnOk, OnErr, IfErr};
+ghost use Rattle.std.specs.Prelude.{◌≡◌, ◌+◌, ◌<◌, ◌≤◌, ◌++◌, ◌∷◌, [], true, false, length, OnOk, OnErr, IfErr};
 ghost use Rattle.frame_core.specs.Serials.{HasSerialsFrom};
 
 use crate::batch::Batch;
@@ -15,8 +15,8 @@ use std::sync::Wait;
 #[derive(Drop)]
 pub struct Giver {
     pub(crate) base: Serial,
-    // The serial of the next page. Where it is 2^32 no more page can be given.
-    pub(crate) next: u64,
+    // The serial of the next page. Where it is 2^64 no more page can be given.
+    pub(crate) next: u128,
     // How many pages a batch has at most.
     pub(crate) most: usize,
     pub(crate) takers: usize,
@@ -133,14 +133,12 @@ impl Giver {
 }
 
 // The serial that comes after those of the pages, of which the first has the serial `next`.
-fn serial_after(pages: &[Isolated], next: u64) -> u64
-    requires serials { HasSerialsFrom next pages.now }
-    requires fits { next ≤ 2 ^ 32 }
-    ensures value { result ≡ next + length pages.now }
-    ensures fits { result ≤ 2 ^ 32 }
+fn serial_after(pages: &[Isolated], next: u128) -> u128
+    requires { HasSerialsFrom next pages.now }
+    ensures { result ≡ next + length pages.now }
 {
     match pages.last() {
-        Some(page) => u64::from(page.serial()) + 1,
+        Some(page) => u128::from(page.serial()) + 1,
         None => next,
     }
 }

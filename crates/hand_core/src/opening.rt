@@ -80,7 +80,7 @@ fn opened(
     let all = new_takers(alloc, &to, &from, &mut pass, takers)?;
     let giver = Giver {
         base,
-        next: u64::from(base),
+        next: u128::from(base),
         most,
         takers,
         marks: 0,

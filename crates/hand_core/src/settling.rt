@@ -16,7 +16,7 @@ use frame_core::Serial;
 #[derive(Clone, Copy, Debug, PartialEq, Eq)]
 pub struct Settled {
     pub base: Serial,
-    pub count: u64,
+    pub count: u128,
 }
 
 /// Answers Ok exactly where the giver put all its marks, every taker of its hand-over is there, and each of them took its
@@ -69,6 +69,6 @@ fn take_back(giver: Giver, mut takers: Takers) -> Settled
     to.learn_as::<Whole>(&mut pass);
     Settled {
         base,
-        count: next - u64::from(base),
+        count: next - u128::from(base),
     }
 }

@@ -12,8 +12,8 @@ use Rattle.hand_core.proofs.Hands.{fits}
 use Rattle.hand_core.proofs.PageSteps.{pages_in}
 use Rattle.hand_core.proofs.giver.Giver.give_all.Goals as goal
 
-pub serial_after-after-requires-clause-serials : goal.serial_after-after-requires-clause-serials
-serial_after-after-requires-clause-serials g c =
+pub serial_after-after-requires : goal.serial_after-after-requires
+serial_after-after-requires g c =
     let k = c.self.invariant in
     subst (λ l. HasSerialsFrom c.self.inside.next l) (sym c.deref.ensures.0)
     (subst (λ n. HasSerialsFrom n c.args.pages.items) (ap (λ (v : Giver). v.base + length v.given) (sym c.self.view_is) ∙ k.next) c.requires.next)
@@ -36,7 +36,7 @@ invariant_of-self g c =
     let next : HasSerialsFrom (s.base + length (view s.pass).given) c.args.pages.items =
     subst (λ (v : Giver). HasSerialsFrom (v.base + length v.given) c.args.pages.items) (sym c.self.view_is) c.requires.next in
     let counted = k.next in
-    let after = c.serial_after-after.ensures.value in
+    let after = c.serial_after-after.ensures in
     let longer = length-append (view s.pass).given c.args.pages.items in
     let same_length = ap (λ l. length l) c.deref.ensures.0 in
     let length_now = ap (λ (v : Known). length v.given) e in
@@ -45,7 +45,6 @@ invariant_of-self g c =
       gives = ap (λ (v : Known). v.gives) e ∙ k.gives;
       serials = subst (HasSerialsFrom s.base) (sym (ap (λ (v : Known). v.given) e)) (serials-append s.base (view s.pass).given c.args.pages.items k.serials next);
       next = omega arith;
-      fits = c.serial_after-after.ensures.fits;
       few = k.few;
       shares = ap (λ (v : Known). v.shares + s.takers) e ∙ k.shares;
       marked = ap (λ (v : Known). v.marks) e ∙ k.marked;
