@@ -83,10 +83,6 @@ HAND_PROOFS = {
         "it says how many of the numbers are written, and proves no function by hand",
         "18903cc8d90fcb315c40b3a13ba86e87e8b8d112b0fe74cecc4b40d486cb26aa",
     ),
-    "crates/compactd_c/proofs/zone/move_named/Answers.antt": (
-        "it cites a law of every zone, and proves no function by hand",
-        "9fbe5e123b3db01332eefadd6f449f764dd41f6d1737ac0163f5aad47344e5c7",
-    ),
     "crates/compactd_c/src/pool.rt": (
         "it makes a box of its pointer or lends what lies there, and may go to another thread",
         "b26e6210a9cef64380e8af249fc29c7cf52ea60180bc07976e1c91eaa9825807",

@@ -83,7 +83,7 @@ struct Rates {
     array: u64,
     rest: u64,
     rounds: u64,
-    moved: u32,
+    moved: u64,
 }
 
 /// The best of so many times.

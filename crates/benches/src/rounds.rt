@@ -26,7 +26,7 @@ pub fn show_moves<R: Threads + Wait + Print + Clock + Sync>(
     Ok(())
 }
 
-fn show_moved<R: Print>(rt: &R, setting: Setting, moved: u32) -> io::Result<()> {
+fn show_moved<R: Print>(rt: &R, setting: Setting, moved: u64) -> io::Result<()> {
     let Setting { threads, capacity } = setting;
     println!(rt; "copiers {threads} room {capacity} moved {moved}")
 }

@@ -5,7 +5,7 @@ use std::time::{Clock, Instant};
 #[derive(Clone, Copy)]
 pub struct Times {
     /// The pages that were moved, or those of a zone that was only filled.
-    pub pages: u32,
+    pub pages: u64,
     /// Nanoseconds that moving them took.
     pub whole: u64,
     /// Nanoseconds that a round with nothing to move took.
@@ -21,7 +21,7 @@ impl Times {
     };
 
     /// So many pages were moved in so many nanoseconds.
-    pub fn of(pages: u32, whole: u64) -> Times {
+    pub fn of(pages: u64, whole: u64) -> Times {
         Times {
             pages,
             whole,
@@ -40,7 +40,7 @@ impl Times {
 
     /// Nanoseconds for each page that was moved.
     pub fn each(&self) -> u64 {
-        self.whole / u64::from(self.pages.max(1))
+        self.whole / self.pages.max(1)
     }
 }
 

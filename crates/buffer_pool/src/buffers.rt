@@ -126,7 +126,7 @@ impl Buffers {
     }
 
     /// How many times a buffer was moved so far.
-    pub fn moved(&mut self) -> Result<u32, ZoneError> {
+    pub fn moved(&mut self) -> Result<u64, ZoneError> {
         self.count();
         Ok(self.zone.audit()?.moved)
     }

@@ -18,7 +18,7 @@ pub struct Outcome {
     /// How many records the journal of the zone has.
     pub records: u64,
     /// How many times a buffer was moved.
-    pub moved: u32,
+    pub moved: u64,
 }
 
 /// Opens and fills a pool, takes all turns, and looks at the buffers that are left.

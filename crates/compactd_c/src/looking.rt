@@ -203,7 +203,7 @@ fn page_info_in(look: Look) -> PageInfo
             reserved: RESERVED,
         },
         Look::Moving { serial, pins, maps } => PageInfo {
-            serial: u64::from(serial),
+            serial,
             frame: 0,
             flags: 0,
             pins: u32::from(pins),
@@ -242,9 +242,9 @@ fn round_counts_in(audit: Audit) -> RoundCounts
     ensures reserved { result.reserved ≡ reserved }
 {
     RoundCounts {
-        isolated: u64::from(audit.isolated),
-        moved: u64::from(audit.moved),
-        back: u64::from(audit.back),
+        isolated: audit.isolated,
+        moved: audit.moved,
+        back: audit.back,
         reserved: RESERVED,
     }
 }

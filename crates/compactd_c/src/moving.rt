@@ -66,7 +66,7 @@ fn page_of(found: &Found) -> MovingPage
     ensures { result ≡ page_of found.now }
 {
     MovingPage {
-        serial: u64::from(found.serial),
+        serial: found.serial,
         number: found.page.get(),
         flags: u32::from(found.flags.bits()),
         reserved: RESERVED,

@@ -100,10 +100,10 @@ fn numbers_of(entry: Entry) -> Record
         Entry::Isolate { serial, page } => of_zone(8, serial, page.get()),
         Entry::Moved { serial } => of_zone(9, serial, 0),
         Entry::Back { serial, cause } => of_zone(10, serial, cause_of(cause)),
-        Entry::TakeHuge { frame, order } => of_zone(11, frame.get(), order.get()),
-        Entry::GiveHuge { frame, order } => of_zone(12, frame.get(), order.get()),
-        Entry::Mark { block } => of_zone(13, block.get(), 0),
-        Entry::Unmark { block } => of_zone(14, block.get(), 0),
+        Entry::TakeHuge { frame, order } => of_zone(11, u64::from(frame.get()), order.get()),
+        Entry::GiveHuge { frame, order } => of_zone(12, u64::from(frame.get()), order.get()),
+        Entry::Mark { block } => of_zone(13, u64::from(block.get()), 0),
+        Entry::Unmark { block } => of_zone(14, u64::from(block.get()), 0),
     }
 }
 
@@ -131,7 +131,7 @@ fn of_client(
 }
 
 /// A record that names no client and no address.
-fn of_zone(kind: u32, number: u32, other: u32) -> Record
+fn of_zone(kind: u32, number: u64, other: u32) -> Record
     ensures { result ≡ of_zone kind number other }
 {
     Record {
@@ -139,7 +139,7 @@ fn of_zone(kind: u32, number: u32, other: u32) -> Record
         client: 0,
         space: 0,
         vpage: 0,
-        number: u64::from(number),
+        number,
         other: u64::from(other),
         value: 0,
         reserved: RESERVED,

@@ -21,7 +21,7 @@ use state_core::ZoneError;
 use zone_core::Answered;
 
 /// Runs a whole round on the thread that calls, and tells whether its scanners met; else the journal had no room for a
-/// further move, or the pool has taken 2^32 - 1 pages in its rounds.
+/// further move.
 ///
 /// Refused as CLOSED.
 #[unsafe(no_mangle)]

@@ -38,7 +38,7 @@ use crate::looking::{Geometry, RESERVED};
 use bitflags::Flags;
 use frame_core::{
     BlockNo, ClientNo, FrameNo, IsolatedOf, Journal, Order, PageFlags, PageNo, PageOf, Record,
-    Serial, ZoneNo,
+    ZoneNo,
 };
 use state_core::{Audit, Ended, Info, Look, Next, ZoneAnswer, ZoneError, ZoneSize};
 use std::alloc::Global;
@@ -619,7 +619,7 @@ fn put_back<const W: usize>(
     ensures err { OnErr result (zone.new ≡ zone.old) }
     ensures ok { OnOk result (zone.new ≡ put_back_to_source zone.old serial number Cause.NotCopied) }
 {
-    let (serial, number) = move_named(zone, serial, number).ok_or(ZoneError::Stranger)?;
+    let number = page_no(zone, number).ok_or(ZoneError::Stranger)?;
     let page = PageOf::new(zone.number(), number);
     zone.put_back(IsolatedOf::new(serial, page))
         .or(Err(ZoneError::Stranger))
@@ -635,22 +635,15 @@ fn block(first: u32, order: u32) -> Option<(FrameNo, Order)>
     Some((first, order))
 }
 
-/// The serial and the number of a page, if one may be moving with them: serials have 32 bits, and there are as many pages as the zone has
-/// frames.
-fn move_named<const W: usize>(
-    zone: &BareZone<W>,
-    serial: u64,
-    number: u32,
-) -> Option<(Serial, PageNo)>
-    ensures serial { IfSome result (λ named. named.0 ≡ serial) }
-    ensures number { IfSome result (λ named. named.1 ≡ number) }
-    ensures none { result ≡ None → is_moving zone.now number serial ≡ false }
+/// The number of a page, if the zone may have such a page: there are as many as it has frames.
+fn page_no<const W: usize>(zone: &BareZone<W>, number: u32) -> Option<PageNo>
+    ensures number { IfSome result (λ page. page ≡ number) }
+    ensures none { result ≡ None → (serial : ℕ) → is_moving zone.now number serial ≡ false }
 {
     if number >= 512 * zone.blocks() {
         return None;
     }
-    let serial = Serial::try_from(serial).ok()?;
-    Some((serial, PageNo::in_any_zone(number)?))
+    PageNo::in_any_zone(number)
 }
 
 fn isolate<const W: usize>(
@@ -673,7 +666,7 @@ fn isolate<const W: usize>(
         Ok(Next::Page(isolated)) => {
             words.copy_from_slice(isolated.page().words());
             Ok(Some(MovingPage {
-                serial: u64::from(isolated.serial()),
+                serial: isolated.serial(),
                 number: isolated.page_no().get(),
                 flags: u32::from(isolated.page().flags().bits()),
                 reserved: RESERVED,
@@ -700,7 +693,7 @@ fn commit<const W: usize>(
     if words.len() != zone.page_words() {
         return Err(ZoneError::Range);
     }
-    let (serial, number) = move_named(zone, serial, number).ok_or(ZoneError::Stranger)?;
+    let number = page_no(zone, number).ok_or(ZoneError::Stranger)?;
     let mut held = [0; W];
     held.copy_from_slice(words);
     let page = PageOf::carrying(zone.number(), number, PageFlags::empty(), held);

@@ -30,7 +30,7 @@ pub struct Seen {
     pub before: u32,
     pub after: u32,
     /// The pages that the round moved.
-    pub moved: u32,
+    pub moved: u64,
     /// The word that was stored before the round, loaded after it.
     pub loaded: u64,
     /// The pageblock that was handed out.
@@ -76,7 +76,7 @@ pub fn compact_two_pages<
 fn see<I: Ledger, M: Ledger, B: Ledger>(
     zone: &mut Zone<I, M, B>,
     before: u32,
-    moved: u32,
+    moved: u64,
 ) -> Result<Seen> {
     let after = zone.info().whole;
     let (loaded, huge) = take_pageblock(zone)?;

@@ -1,9 +1,9 @@
 -- Reservations by hand over zones that are the same leave the same.
-use Rattle.std.proofs.Common.{◌≡◌, ℕ, zero, suc, ◌+◌, ◌-◌, ◌^◌, ◌≤◌, ◌&&◌, Bool, true, false, cond, nat_lt, List, ◌∷◌, ◌++◌, length, refl, sym, ap, ◌∙◌, arith, Option, Some, None, unwrap_or, if◌then◌else◌, rules}
+use Rattle.std.proofs.Common.{◌≡◌, ℕ, zero, suc, ◌+◌, ◌-◌, ◌≤◌, Bool, true, false, cond, nat_lt, List, ◌∷◌, ◌++◌, length, refl, sym, ap, ◌∙◌, arith, Option, Some, None, unwrap_or, if◌then◌else◌, rules}
 use Rattle.std.proofs.lemmas.Bool.Decides.{nat_tests}
-use Rattle.frame_core.specs.Moves.{isolated, out}
+use Rattle.frame_core.specs.Moves.{out}
 use Rattle.zone_core.proofs.ByHand.{moving_isolated, moving_all, none_by_hand, outcome_all}
-use Rattle.zone_core.proofs.Records.{isolated_same, isolated-without_ends}
+use Rattle.zone_core.proofs.Records.{isolated_same}
 use Rattle.zone_core.specs.Alone.{IsAtRest}
 use Rattle.zone_core.specs.ByHand.{all_isolated, by_hand}
 use Rattle.zone_core.specs.Outcome.{Outcome, IsSame}
@@ -109,13 +109,6 @@ room_by_hand z rest =
     let none : length (out (by_hand z).records) ≡ 0 = ap length (none_by_hand z rest) in
     omega (arith, same, none)
 
--- ending a move isolates no page
-isolated_by_hand : (z : ZoneState) → IsAtRest z → isolated (by_hand z).records ≡ isolated (all_isolated z).records
-isolated_by_hand z rest =
-    sym (isolated-without_ends (by_hand z).records)
-    ∙ ap (λ (o : Outcome). isolated o.records) (outcome_all (frame_count z) (all_isolated z) (moving_isolated z rest))
-    ∙ isolated-without_ends (all_isolated z).records
-
 two_left : (room out room' out' : ℕ) → room - out ≡ room' - out' → nat_lt (out + 1) room ≡ nat_lt (out' + 1) room'
 two_left room out room' out' e = grind (arith, nat_tests)
 
@@ -132,8 +125,7 @@ module _ (z w : ZoneState) (rest_z : IsAtRest z) (rest_w : IsAtRest w) (same : I
       let of_z = all_isolated z in
       let of_w = all_isolated w in
       let two = two_left of_z.room (length (out of_z.records)) of_w.room (length (out of_w.records)) left in
-      let count = sym (isolated_by_hand z rest_z) ∙ isolated_same (by_hand z) (by_hand w) by_hand_same ∙ isolated_by_hand w rest_w in
-      λ i. stop_for (if two i && nat_lt (count i) (2 ^ 32 - 1) then None else Some JournalIsFull)
+      λ i. stop_for (if two i then None else Some JournalIsFull)
 
 -- a block that is taken
 

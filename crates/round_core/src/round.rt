@@ -14,11 +14,11 @@ pub struct Round {
     /// The serial of its first page.
     pub base: Serial,
     /// How many pages it isolated.
-    pub count: u32,
+    pub count: u64,
     /// How many of them were moved.
-    pub moved: u32,
+    pub moved: u64,
     /// How many of them were put back.
-    pub back: u32,
+    pub back: u64,
     /// The serials of the pages that each copier copied.
     pub by_copier: Vec<Vec<Serial>>,
     pub stopped: Stop,

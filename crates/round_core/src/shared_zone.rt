@@ -15,7 +15,7 @@ use zone_core::Zone;
 pub struct Room<K: Keeping, I: Ledger, M: Ledger, B: Ledger> {
     pub zone: Zone<I, M, B>,
     pub stub: Option<Stub>,
-    ended_before: Option<u32>,
+    ended_before: Option<u64>,
     of: PhantomData<K>,
 }
 

@@ -43,7 +43,7 @@ impl Cache {
     }
 
     /// How many pages rounds have moved.
-    pub fn moves(&mut self) -> Result<u32, Trouble> {
+    pub fn moves(&mut self) -> Result<u64, Trouble> {
         Ok(self.zone.audit()?.moved)
     }
 }

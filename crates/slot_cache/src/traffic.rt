@@ -24,7 +24,7 @@ pub struct Outcome {
     pub hits: u32,
     pub evictions: u32,
     /// The pages that rounds moved.
-    pub moves: u32,
+    pub moves: u64,
     /// The pageblocks that were asked for.
     pub asked: u32,
     /// Those that were handed out.

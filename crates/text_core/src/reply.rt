@@ -45,9 +45,9 @@ pub enum Reply {
     },
     /// A round: how many pages it isolated, moved and put back, and why it stopped.
     Round {
-        isolated: u32,
-        moved: u32,
-        back: u32,
+        isolated: u64,
+        moved: u64,
+        back: u64,
         stopped: Stopped,
     },
     /// A pool: the numbers that name its blocks, in the order in which it got them, its rounds, and why it stopped.
@@ -94,11 +94,11 @@ pub fn push_reply<const N: usize>(text: &mut ArrayString<N>, reply: &Reply)
             push_counts(text, info);
             push_field(text, " held=", u64::from(info.held));
         }
-        Reply::Serial(serial) => push_field(text, "serial=", u64::from(*serial)),
+        Reply::Serial(serial) => push_field(text, "serial=", *serial),
         Reply::Met => text.push_str("met"),
-        Reply::Moved(serial) => push_field(text, "moved serial=", u64::from(*serial)),
+        Reply::Moved(serial) => push_field(text, "moved serial=", *serial),
         Reply::PutBack(serial) => {
-            push_field(text, "back serial=", u64::from(*serial));
+            push_field(text, "back serial=", *serial);
             text.push_str(" cause=1");
         }
         Reply::Shut(count) => push_field(text, "back=", u64::from(*count)),
@@ -167,7 +167,7 @@ fn push_look<const N: usize>(text: &mut ArrayString<N>, look: Look)
             push_uses(text, pins, maps);
         }
         Look::Moving { serial, pins, maps } => {
-            push_field(text, "moving serial=", u64::from(serial));
+            push_field(text, "moving serial=", serial);
             push_uses(text, pins, maps);
         }
     }
@@ -187,18 +187,18 @@ fn push_uses<const N: usize>(text: &mut ArrayString<N>, pins: u8, maps: u8)
 /// Appends what a round did.
 fn push_round<const N: usize>(
     text: &mut ArrayString<N>,
-    isolated: u32,
-    moved: u32,
-    back: u32,
+    isolated: u64,
+    moved: u64,
+    back: u64,
     stopped: Stopped,
 )
     requires { array_string_len text.old + 102 ≤ N }
     ensures text { text.new.bytes ≡ text.old.bytes ++ round_text isolated moved back stopped }
     ensures len { array_string_len text.new ≤ array_string_len text.old + 102 }
 {
-    push_field(text, "isolated=", u64::from(isolated));
-    push_field(text, " moved=", u64::from(moved));
-    push_field(text, " back=", u64::from(back));
+    push_field(text, "isolated=", isolated);
+    push_field(text, " moved=", moved);
+    push_field(text, " back=", back);
     text.push_str(stopped_word(stopped));
 }
 

@@ -30,8 +30,8 @@ pub fn run_rounds<
     keeper: &mut Client,
     cap: usize,
     ended: &AtomicBool,
-) -> Option<u32> {
-    let mut moved = 0u32;
+) -> Option<u64> {
+    let mut moved = 0u64;
     if cap == 0 || cap > 64 {
         return Some(moved);
     }

@@ -10,7 +10,7 @@ pub struct Outcome {
     /// Calls that stand in the journal as they were answered.
     pub settled: usize,
     /// Pages that the rounds moved.
-    pub moved: u32,
+    pub moved: u64,
 }
 
 impl Outcome {

@@ -51,8 +51,8 @@ pub fn time_moves<I: Ledger, N: Ledger, M: Ledger, B: Ledger, R: Clock>(
 fn move_all<I: Ledger, N: Ledger, M: Ledger, B: Ledger>(
     zone: &mut Zone<I, M, B>,
     seats: &mut Seats<I, N, M, B>,
-) -> u32 {
-    let mut moved = 0u32;
+) -> u64 {
+    let mut moved = 0u64;
     zone.begin_round(&mut seats.scan);
     for _frame in 0..4096 {
         if !move_next(zone, seats) {

@@ -46,7 +46,7 @@ pub fn time<
         mut seats,
     } = opening;
     match work {
-        Work::Filling => Ok(Times::of(zone.info().pages, u64::MAX)),
+        Work::Filling => Ok(Times::of(u64::from(zone.info().pages), u64::MAX)),
         Work::Alone => time_moves(rt, &mut zone, &mut seats),
         Work::Rounds(setting) => {
             time_rounds::<Brand, I, N, M, B, R>(rt, alloc, zone, &mut seats, setting)

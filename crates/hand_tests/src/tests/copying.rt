@@ -2,7 +2,7 @@ ghost use Rattle.std.specs.Prelude.{◌≡◌, ◌<◌, ℕ, true, false, All, I
 ghost use Rattle.hand_core.specs.CopyEnds.{has_ended};
 
 use super::{assert_of, is_page, isolated};
-use frame_core::Copied;
+use frame_core::{Copied, Serial};
 use hand_core::{Batch, Came, DoneSender, DoneTaker, done_open, done_open_in_batches, done_settle};
 use std::alloc::Global;
 use std::process::Abort;
@@ -16,12 +16,12 @@ const COPIES: u32 = 150;
 fn copy_of<R: Abort>(rt: &R, sender: u32, number: u32) -> Copied
     requires { (sender < 5) × (number < 1000) }
 {
-    isolated(sender * 1000 + number, number)
+    isolated(Serial::from(sender * 1000 + number), number)
         .expect(rt, "in range")
         .copy_into_new()
 }
 
-fn assert_is_copy<R: Abort>(rt: &R, copy: Copied, serial: u32, number: u32) {
+fn assert_is_copy<R: Abort>(rt: &R, copy: Copied, serial: Serial, number: u32) {
     assert!(rt; copy.serial() == serial);
     assert!(rt; is_page(&copy.into_page(), number));
 }
@@ -135,7 +135,7 @@ fn assert_next<R: Abort>(rt: &R, copy: Copied, next: &mut [u32; 4]) {
 }
 
 // The number of the copy with this serial, which has to be the next of its sender. It's counted.
-fn number_of<R: Abort>(rt: &R, serial: u32, next: &mut [u32; 4]) -> u32 {
+fn number_of<R: Abort>(rt: &R, serial: Serial, next: &mut [u32; 4]) -> u32 {
     let sender = (serial / 1000) as usize;
     assert_of(rt, serial, sender < 4, "no sender has");
     let number = next[sender];
@@ -144,9 +144,9 @@ fn number_of<R: Abort>(rt: &R, serial: u32, next: &mut [u32; 4]) -> u32 {
     number
 }
 
-fn assert_in_place<R: Abort>(rt: &R, serial: u32, number: u32) {
+fn assert_in_place<R: Abort>(rt: &R, serial: Serial, number: u32) {
     assert!(rt;
-        serial % 1000 == number,
+        serial % 1000 == Serial::from(number),
         "{serial} came in the place of {number}"
     );
 }
@@ -230,7 +230,7 @@ fn assert_finds_nothing<R: Wait + Abort>(rt: &R, taker: &mut DoneTaker)
 }
 
 // A copy is there, and then nothing.
-fn assert_finds_one<R: Wait + Abort>(rt: &R, taker: &mut DoneTaker, serial: u32, number: u32)
+fn assert_finds_one<R: Wait + Abort>(rt: &R, taker: &mut DoneTaker, serial: Serial, number: u32)
     requires { has_ended taker.old ≡ false }
     ensures { has_ended taker.new ≡ false }
 {

@@ -1,7 +1,7 @@
 ghost use Rattle.std.specs.Prelude.{◌≡◌, ◌+◌, ◌<◌, ◌++◌, ◌∷◌, [], false, length, All, IfSome};
 
 use super::{assert_of, is_page, isolated};
-use frame_core::Isolated;
+use frame_core::{Isolated, Serial};
 use hand_core::{Batch, Giver, Taker, Takers, Took, open, open_in_batches, settle};
 use std::alloc::Global;
 use std::process::Abort;
@@ -9,11 +9,11 @@ use std::sync::Wait;
 use std::sync::atomic::{AtomicU32, Ordering};
 use std::thread::{Threads, join, map_vec};
 
-const BASE: u32 = 5;
+const BASE: Serial = 5;
 
 const PAGES: u32 = 600;
 
-fn page_of<R: Abort>(rt: &R, serial: u32, number: u32) -> Isolated
+fn page_of<R: Abort>(rt: &R, serial: Serial, number: u32) -> Isolated
     ensures { result.serial ≡ serial }
 {
     isolated(serial, number).expect(rt, "in range")
@@ -38,7 +38,7 @@ fn assert_closes<R: Wait + Abort>(rt: &R, giver: &mut Giver)
 fn assert_is_numbered<R: Abort>(rt: &R, page: Isolated, number: u32)
     requires { number < PAGES }
 {
-    assert!(rt; page.serial() == BASE + number);
+    assert!(rt; page.serial() == BASE + Serial::from(number));
     assert!(rt; is_page(&page.into_page(), number));
 }
 
@@ -49,7 +49,11 @@ fn give_all<R: Wait + Abort>(rt: &R, mut giver: Giver) -> Giver
     ensures { result.hand_over ≡ giver.hand_over }
 {
     for number in 0..PAGES {
-        assert_gives(rt, &mut giver, page_of(rt, BASE + number, number));
+        assert_gives(
+            rt,
+            &mut giver,
+            page_of(rt, BASE + Serial::from(number), number),
+        );
     }
     assert_closes(rt, &mut giver);
     giver
@@ -84,7 +88,7 @@ fn take_all<R: Wait + Abort>(rt: &R, mut taker: Taker, seen: &[AtomicU32]) -> Ta
 }
 
 // Counts the page, whose serial is at least `next`, and returns the serial after it.
-fn note_page<R: Abort>(rt: &R, page: Isolated, next: u32, seen: &[AtomicU32]) -> u32 {
+fn note_page<R: Abort>(rt: &R, page: Isolated, next: Serial, seen: &[AtomicU32]) -> Serial {
     let serial = page.serial();
     let number = number_of(rt, serial, next);
     let is_the_page = is_page(&page.into_page(), number);
@@ -99,12 +103,12 @@ fn note_page<R: Abort>(rt: &R, page: Isolated, next: u32, seen: &[AtomicU32]) ->
 }
 
 // The number of the page with this serial, which is at least `next`.
-fn number_of<R: Abort>(rt: &R, serial: u32, next: u32) -> u32
+fn number_of<R: Abort>(rt: &R, serial: Serial, next: Serial) -> u32
     ensures { (BASE + result ≡ serial) × (result < PAGES) }
 {
-    let rises = BASE <= serial && next <= serial && serial < BASE + PAGES;
+    let rises = BASE <= serial && next <= serial && serial < BASE + Serial::from(PAGES);
     assert_of(rt, serial, rises, "the list doesn't rise at");
-    serial - BASE
+    (serial - BASE) as u32
 }
 
 // Counts the page of this number, and tells whether it's the first.
@@ -152,7 +156,7 @@ fn assert_all_seen<R: Abort>(rt: &R, seen: &[AtomicU32]) {
 fn opened<R: Wait + Abort>(
     rt: &R,
     alloc: Global,
-    base: u32,
+    base: Serial,
     takers: usize,
     cap: usize,
 ) -> (Giver, Vec<Taker>)
@@ -171,7 +175,12 @@ fn last_taker<R: Abort>(rt: &R, mut takers: Takers) -> Taker
     takers.pop().expect(rt, "a taker")
 }
 
-fn opened_for_one<R: Wait + Abort>(rt: &R, alloc: Global, base: u32, cap: usize) -> (Giver, Taker)
+fn opened_for_one<R: Wait + Abort>(
+    rt: &R,
+    alloc: Global,
+    base: Serial,
+    cap: usize,
+) -> (Giver, Taker)
     ensures giver { (result.0.closed ≡ false) × (result.0.given ≡ []) × (result.0.base ≡ base) }
     ensures taker { (result.1.hand_over ≡ result.0.hand_over) × (result.1.ended ≡ false) }
 {
@@ -180,13 +189,13 @@ fn opened_for_one<R: Wait + Abort>(rt: &R, alloc: Global, base: u32, cap: usize)
 }
 
 // The giver and all its takers settle: so many pages were handed over from `base` on.
-fn assert_settles<R: Abort>(rt: &R, giver: Giver, takers: Vec<Taker>, base: u32, count: u32)
+fn assert_settles<R: Abort>(rt: &R, giver: Giver, takers: Vec<Taker>, base: Serial, count: u32)
     requires { All (λ t. t.hand_over ≡ giver.hand_over) takers.items }
 {
     let settled = settle(giver, takers)
         .ok()
         .expect(rt, "a hand-over that is settled");
-    assert!(rt; settled.base == base && settled.count == u64::from(count));
+    assert!(rt; settled.base == base && settled.count == u128::from(count));
 }
 
 fn assert_settles_with_one<R: Abort>(
@@ -194,7 +203,7 @@ fn assert_settles_with_one<R: Abort>(
     alloc: Global,
     giver: Giver,
     one: Taker,
-    base: u32,
+    base: Serial,
     count: u32,
 )
     requires { one.hand_over ≡ giver.hand_over }

@@ -37,7 +37,7 @@ fn run_alone<
             let Ok(round) = round else {
                 panic!(rt; "the round is refused");
             };
-            assert!(rt; round.moved == PAGES);
+            assert!(rt; round.moved == u64::from(PAGES));
             zone
         }
         Way::Reserve => {
@@ -72,7 +72,7 @@ fn is_watched_in<
     let watch = Watch::by(Plan::HoldsFirst(Point::Ended, until));
     let zone = run_alone(rt, way, zone.into_zone(), &mut seats, &watch);
     watch.assert_let_go(rt);
-    assert!(rt; watch.ahead() == 15 && zone.ended() == PAGES);
+    assert!(rt; watch.ahead() == 15 && zone.ended() == u64::from(PAGES));
     for point in 0..4 {
         assert!(rt; watch.told.number(point) == u64::from(PAGES), "{point}");
     }

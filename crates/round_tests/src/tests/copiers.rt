@@ -37,7 +37,7 @@ impl<Z: Names> Opening<Z> {
         self.fill(rt, pages);
         let round = self.shared.round(rt, &mut self.seats, copiers, room, watch);
         watch.assert_let_go(rt);
-        assert!(rt; round.count == pages && round.by_copier.len() == copiers);
+        assert!(rt; round.count == u64::from(pages) && round.by_copier.len() == copiers);
         round
     }
 

@@ -101,7 +101,7 @@ impl<Z: Names> Opening<Z> {
             let_go: Tally::zeros(),
         };
         let round = shared.round(rt, seats, copiers, room, &gate);
-        assert!(rt; counts_of(&round) == (PAGES, PAGES, 0));
+        assert!(rt; counts_of(&round) == (u64::from(PAGES), u64::from(PAGES), 0));
         for point in 0..4 {
             assert!(rt; gate.let_go.number(point) == u64::from(PAGES), "{point}");
         }

@@ -67,7 +67,7 @@ pub fn open_zone<
 }
 
 /// How many pages a round isolates, moves and puts back.
-pub type Counts = (u32, u32, u32);
+pub type Counts = (u64, u64, u64);
 
 impl<Z: Names> Shared<Z> {
     /// A round with so many copiers and so much room, or why it is refused.

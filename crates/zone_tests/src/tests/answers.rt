@@ -34,7 +34,7 @@ pub enum Answer {
     /// The page isn't the zone's, or its copy has other words. It came back, and the zone is as before.
     Stranger,
     /// So many pages were isolated, moved and put back.
-    Audited(u32, u32, u32),
+    Audited(u64, u64, u64),
     /// The seat has one part only.
     NoPart,
     /// The hand doesn't hold what the call needs, or no page waits.

@@ -71,7 +71,7 @@ pub struct Opened<const W: usize, I: Ledger, N: Ledger, M: Ledger, B: Ledger> {
     ends: EndSeat<M, B>,
     page: Option<IsolatedOf<W>>,
     parts: Vec<EndSeat<M, B>>,
-    isolated: u32,
+    isolated: u64,
 }
 
 impl<const W: usize, I: Ledger, N: Ledger, M: Ledger, B: Ledger> Opened<W, I, N, M, B> {

@@ -36,19 +36,19 @@ returns-clause-text g c =
           all ∙ ap (λ t. t.bytes ++ codes "\n") w.text-is ∙ ap (λ (r : List ℕ). r ++ codes "\n") to_held ∙ append_assoc old held (codes "\n") ∙ ap (λ r. old ++ text_of r) (sym w.in-InfoWithHeld.is)
       | in-Serial w ↦
           all ∙ ap (λ t. t.bytes ++ codes "\n") w.text-is
-          ∙ one_field old (w.push_field-in-Serial.new.text.bytes) (codes "serial=") (codes "\n") w.from-in-Serial.result w.in-Serial.serial w.push_field-in-Serial.ensures.text (omega (arith, w.from-in-Serial.ensures))
+          ∙ one_field old (w.push_field-in-Serial.new.text.bytes) (codes "serial=") (codes "\n") w.in-Serial.serial w.in-Serial.serial w.push_field-in-Serial.ensures.text refl
           ∙ ap (λ r. old ++ text_of r) (sym w.in-Serial.is)
       | in-Met w ↦
           all ∙ ap (λ t. t.bytes ++ codes "\n") w.text-is
           ∙ ap (λ (r : List ℕ). r ++ codes "\n") w.push_str-in-Met.ensures.bytes ∙ append_assoc old (codes "met") (codes "\n") ∙ ap (λ r. old ++ text_of r) (sym w.in-Met.is)
       | in-Moved w ↦
           all ∙ ap (λ t. t.bytes ++ codes "\n") w.text-is
-          ∙ one_field old (w.push_field-in-Moved.new.text.bytes) (codes "moved serial=") (codes "\n") w.from-in-Moved.result w.in-Moved.serial w.push_field-in-Moved.ensures.text (omega (arith, w.from-in-Moved.ensures))
+          ∙ one_field old (w.push_field-in-Moved.new.text.bytes) (codes "moved serial=") (codes "\n") w.in-Moved.serial w.in-Moved.serial w.push_field-in-Moved.ensures.text refl
           ∙ ap (λ r. old ++ text_of r) (sym w.in-Moved.is)
       | in-PutBack w ↦
           let told = w.push_field-in-PutBack.new.text.bytes in
           all ∙ ap (λ t. t.bytes ++ codes "\n") w.text-is ∙ ap (λ (r : List ℕ). r ++ codes "\n") w.push_str-in-PutBack.ensures.bytes ∙ append_assoc told (codes " cause=1") (codes "\n")
-          ∙ one_field old told (codes "back serial=") (codes " cause=1\n") w.from-in-PutBack.result w.in-PutBack.serial w.push_field-in-PutBack.ensures.text (omega (arith, w.from-in-PutBack.ensures))
+          ∙ one_field old told (codes "back serial=") (codes " cause=1\n") w.in-PutBack.serial w.in-PutBack.serial w.push_field-in-PutBack.ensures.text refl
           ∙ ap (λ r. old ++ text_of r) (sym w.in-PutBack.is)
       | in-Shut w ↦
           all ∙ ap (λ t. t.bytes ++ codes "\n") w.text-is
