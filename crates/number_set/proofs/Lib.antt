@@ -1,3 +1,4 @@
+pub mod Counting
 pub mod Gathering
 pub mod Levels
 pub mod Masking

@@ -1,6 +1,11 @@
 -- Runs of numbers.
-use Rattle.std.specs.Prelude.{ℕ, ◌+◌, Bool, ◌&&◌, nat_le, nat_lt}
+use Rattle.std.specs.Prelude.{ℕ, zero, suc, ◌+◌, Bool, ◌&&◌, nat_le, nat_lt, if◌then◌else◌}
 
 -- whether a number is in a run: one of `count` numbers, from `first` upwards
 abbrev pub in_run : ℕ → ℕ → ℕ → Bool
 in_run first count number = nat_le first number && nat_lt number (first + count)
+
+-- how many numbers of such a run pass
+abbrev pub count_in_run : (ℕ → Bool) → ℕ → ℕ → ℕ
+count_in_run p first zero = 0
+count_in_run p first (suc n) = (if p (first + n) then 1 else 0) + count_in_run p first n

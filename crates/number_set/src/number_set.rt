@@ -4,7 +4,7 @@ ghost use Rattle.std.specs.Prelude.{◌≡◌, ◌↔◌, ℕ, ◌+◌, ◌%◌,
 ghost use Rattle.std.specs.FinSet as set;
 ghost use Rattle.number_set.specs.Finds.{IsFirst, IsFrom, IsLast, IsNext, IsPrevious, NoneAbove, NoneAtAll, NoneBelow, NoneFrom};
 ghost use Rattle.number_set.specs.Numbers.{room_for};
-ghost use Rattle.number_set.specs.Runs.{in_run};
+ghost use Rattle.number_set.specs.Runs.{count_in_run, in_run};
 
 use crate::upper_levels::UpperLevels;
 use crate::words;
@@ -144,6 +144,17 @@ impl NumberSet {
         ensures { IsTrue result ↔ ((number : ℕ) → in_run first (2 ^ order) number ≡ true → set.contains self.now.members number ≡ true) }
     {
         words::has_run(&self.words, first, order)
+    }
+
+    /// How many of the 2^order numbers from `first` upwards are members. `first` is a multiple of 2^order, and order is 9 at most.
+    #[inline]
+    pub fn count_run(&self, first: u32, order: u32) -> u32
+        requires order { order ≤ 9 }
+        requires aligned { first % 2 ^ order ≡ 0 }
+        requires within { first + 2 ^ order ≤ self.now.bound }
+        ensures { result ≡ count_in_run (set.contains self.now.members) first (2 ^ order) }
+    {
+        words::count_run(&self.words, first, order)
     }
 
     /// The lowest number of the set, if it has one.

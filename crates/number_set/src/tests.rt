@@ -128,6 +128,11 @@ fn turn_and_ask(rt: &impl Abort, set: &mut NumberSet, table: &mut [bool], first:
         run.iter().all(|member| *member),
         "run {first} {order}"
     );
+    assert_eq!(rt;
+        set.count_run(first, order) as usize,
+        run.iter().filter(|member| **member).count(),
+        "count {first} {order}"
+    );
     run.fill(!had);
     if had {
         set.remove_run(first, order);

@@ -4,7 +4,7 @@ ghost use Rattle.std.specs.Prelude.{◌≡◌, ◌↔◌, ℕ, ◌+◌, ◌-◌,
 ghost use Rattle.std.specs.List.{list_all, slice_range};
 ghost use Rattle.number_set.specs.Bits.{has_number, is_filled};
 ghost use Rattle.number_set.specs.Finds.{IsFirstIn, IsLastIn, IsNext, IsPrevious, NoneAboveIn, NoneBelowIn};
-ghost use Rattle.number_set.specs.Runs.{in_run};
+ghost use Rattle.number_set.specs.Runs.{count_in_run, in_run};
 
 use crate::word::{highest_bit, low_bits, lowest_bit, next_bit, previous_bit, run_bits};
 use std::alloc::{AllocError, Global};
@@ -110,6 +110,21 @@ pub(crate) fn has_run(words: &[u64], first: u32, order: u32) -> bool
     words[(first / 64) as usize] & bits == bits
 }
 
+/// How many of them the level has.
+#[inline(always)]
+pub(crate) fn count_run(words: &[u64], first: u32, order: u32) -> u32
+    requires order { order ≤ 9 }
+    requires aligned { first % 2 ^ order ≡ 0 }
+    requires within { first + 2 ^ order ≤ 64 * length words.now }
+    ensures { result ≡ count_in_run (has_number words.now) first (2 ^ order) }
+{
+    if order > 6 {
+        return count_words(words, first / 64, 1 << (order - 6));
+    }
+    let bits = run_bits(first % 64, order);
+    (words[(first / 64) as usize] & bits).count_ones()
+}
+
 /// Puts in all numbers below a bound.
 pub(crate) fn insert_below(words: &mut [u64], bound: u32)
     requires { bound ≤ 64 * length words.old }
@@ -143,6 +158,21 @@ fn are_full(words: &[u64], first: u32, count: u32) -> bool
     let first = first as usize;
     let run = &words[first..first + count as usize];
     run.iter().all(|bits| *bits == u64::MAX)
+}
+
+/// How many numbers `count` words have, from a first one upwards.
+#[inline(never)]
+fn count_words(words: &[u64], first: u32, count: u32) -> u32
+    requires within { first + count ≤ length words.now }
+    requires few { 64 * count < 2 ^ 32 }
+    ensures { result ≡ count_in_run (has_number words.now) (64 * first) (64 * count) }
+{
+    let first = first as usize;
+    let mut sum = 0;
+    for word in 0..count as usize {
+        sum += words[first + word].count_ones();
+    }
+    sum
 }
 
 /// The lowest number of a word that has one.

@@ -4,6 +4,7 @@ pub mod FrameSets
 pub mod HeapSteps
 pub mod Masking
 pub mod Numbering
+pub mod OpenRuns
 pub mod Orders
 pub mod Pairing
 pub mod RunCounts

@@ -50,7 +50,7 @@ huge_not_free : (o : Option FrameState) → is_huge_state o ≡ true → is_free
 huge_not_free (Some Free) e = cc
 huge_not_free _ e = refl
 
-free_not_source : (o : Option FrameState) (movable : Bool) → is_free_state o ≡ true → is_source_state o movable ≡ false
+pub free_not_source : (o : Option FrameState) (movable : Bool) → is_free_state o ≡ true → is_source_state o movable ≡ false
 free_not_source None m e = refl
 free_not_source (Some Free) m e = refl
 free_not_source _ m e = cc

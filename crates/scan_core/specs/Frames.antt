@@ -72,6 +72,10 @@ stuck_at states movable frame = is_stuck_state (slice_get states frame) (true_at
 abbrev pub source_at : List FrameState → List Bool → ℕ → Bool
 source_at states movable frame = is_source_state (slice_get states frame) (true_at movable frame)
 
+-- whether a frame is open: it is free, or holds a page that may be taken from it
+abbrev pub is_open_at : Frames → ℕ → Bool
+is_open_at frames frame = free_at frames.states frame || source_at frames.states frames.movable frame
+
 -- how many frames are free
 abbrev pub free_frames : List FrameState → ℕ
 free_frames states = count_below (free_at states) (length states)

@@ -2,7 +2,7 @@
 
 ghost use Rattle.std.specs.Prelude.{◌≡◌, ℕ, ◌+◌, ◌*◌, ◌/◌, ◌^◌, ◌<◌, ◌≤◌, ◌&&◌, ◌||◌, not, true, false, nat_lt, IfOk, IfSome};
 ghost use Rattle.std.specs.FinSet as set;
-ghost use Rattle.frame_core.specs.Below.{count_below, lowest};
+ghost use Rattle.frame_core.specs.Below.{count_below, count_from, lowest};
 ghost use Rattle.frame_core.specs.Order.{is_aligned};
 ghost use Rattle.scan_core.specs.FrameSet.{all_of_block, is_run_of};
 ghost use Rattle.scan_core.specs.NumberSet.{in_run};
@@ -134,6 +134,16 @@ impl FrameSet {
         ensures { result ≡ count_below (set.contains self.now.members) self.now.bound }
     {
         self.count
+    }
+
+    /// How many frames of a block of this order are members.
+    #[inline(always)]
+    pub(crate) fn count_run(&self, first: FrameNo, order: Order) -> u32
+        requires aligned { is_aligned order first ≡ true }
+        requires within { first + 2 ^ order ≤ self.now.bound }
+        ensures { result ≡ count_from (set.contains self.now.members) first (2 ^ order) }
+    {
+        self.numbers.count_run(first.get(), order.get())
     }
 
     /// The lowest frame of the set, if it has one.

@@ -1,7 +1,7 @@
-ghost use Rattle.std.specs.Prelude.{◌≡◌, ◌*◌, ◌^◌, ◌<◌, ◌≤◌, length, slice_get, slice_set, true, Some, IfOk, IfSome};
+ghost use Rattle.std.specs.Prelude.{◌≡◌, ◌*◌, ◌^◌, ◌<◌, ◌≤◌, is_some, length, slice_get, slice_set, true, Some, IfOk, IfSome};
 ghost use Rattle.frame_core.specs.declared.state.FrameState.TheVariants.{Free, Holds, Huge, Source, Target};
-ghost use Rattle.frame_core.specs.Below.{count_below, lowest, some_below};
-ghost use Rattle.scan_core.specs.Frames.{all_free, blocks_of, free_at, free_frames, holds_at, huge_at, is_whole, true_at, way_at};
+ghost use Rattle.frame_core.specs.Below.{count_below, count_from, lowest, some_below};
+ghost use Rattle.scan_core.specs.Frames.{all_free, blocks_of, free_at, free_frames, holds_at, huge_at, is_open_at, is_whole, true_at, way_at};
 ghost use Rattle.scan_core.specs.NumberSet.{all_from};
 ghost use Rattle.scan_core.specs.Pairs.{after_step, is_stuck, next_step, Finds};
 ghost use Rattle.scan_core.specs.Runs.{first_run, has_block, is_run, with_run};
@@ -230,6 +230,21 @@ impl Frames {
         ensures run { IfSome result (λ first. is_run self.now.states order first ≡ true) }
     {
         self.free.first_run(order)
+    }
+
+    /// How many pages rest in a block, where each frame of it is free or has a page that may be taken from it. For each 64 frames it
+    /// looks at a word of two sets.
+    pub fn pages_of_run(&self, first: FrameNo, order: Order) -> Option<u32>
+        requires { has_block self.now.states order first ≡ true }
+        ensures open { is_some result ≡ all_from (is_open_at self.now) first (2 ^ order) }
+        ensures pages { IfSome result (λ pages. pages ≡ count_from (holds_at self.now.states) first (2 ^ order)) }
+    {
+        let free = self.free.count_run(first, order);
+        let pages = self.candidates.sources.count_run(first.get(), order.get());
+        if free + pages != order.frames() {
+            return None;
+        }
+        Some(pages)
     }
 
     /// Hands out the frames of a block, all of which are free.

@@ -1,0 +1,77 @@
+-- Runs of frames that are free, or have a page that may be taken from them.
+use Rattle.std.proofs.Common.{◌≡◌, ◌≢◌, ℕ, zero, suc, ◌+◌, ◌^◌, ◌≤◌, Bool, true, false, refl, sym, ap, ◌∙◌, eq-eqb, arith}
+use Rattle.std.specs.Prelude.{Option, Some, None, slice_get, ◌||◌, if◌then◌else◌}
+use Rattle.std.specs.FinSet as set
+use Rattle.std.proofs.lemmas.Bool.{ne_eqb}
+use Rattle.number_set.specs.Runs.{count_in_run}
+use Rattle.frame_core.specs.Below.{count_below, count_from, one_if}
+use Rattle.frame_core.specs.declared.state.FrameState.{FrameState}
+use Rattle.frame_core.specs.declared.state.FrameState.TheVariants.{Free, Holds, Huge, Source, Target}
+use Rattle.frame_core.proofs.Searches.{count_from_full, count_from_most, count_from_same}
+use Rattle.scan_core.specs.Frames.{Frames, free_at, holds_at, is_free_state, is_holding_state, is_open_at, is_source_state, source_at, true_at}
+use Rattle.scan_core.specs.NumberSet.{all_from}
+use Rattle.scan_core.specs.Seen.{seen}
+use Rattle.scan_core.specs.Sound.{frames_of, IsSound}
+use Rattle.scan_core.specs.declared.frames.Frames.TheInside.{Inside}
+use Rattle.scan_core.proofs.Steps.{free_not_source}
+
+-- the two words for the count of the numbers of a run
+counts_are : (p : ℕ → Bool) (first n : ℕ) → count_in_run p first n ≡ count_from p first n
+unfolding count_from
+counts_are p first zero = refl
+counts_are p first (suc n) = λ i. one (p (first + n)) i + counts_are p first n i where
+  one : (b : Bool) → (if b then 1 else 0) ≡ one_if b
+  one true = refl
+  one false = refl
+
+-- what a set of numbers tells of the count of a block's frames
+pub block_counted : (p : ℕ → Bool) (number first exponent order counted : ℕ) → counted ≡ count_in_run p number (2 ^ exponent) → number ≡ first → exponent ≡ order → counted ≡ count_from p first (2 ^ order)
+block_counted p number first exponent order counted is from to = is ∙ (λ i. count_in_run p (from i) (2 ^ to i)) ∙ counts_are p first (2 ^ order)
+
+either_below : (p q : ℕ → Bool) (n : ℕ) → ((k : ℕ) → p k ≡ true → q k ≡ false) → count_below p n + count_below q n ≡ count_below (λ k. p k || q k) n
+either_below p q zero apart = refl
+either_below p q (suc n) apart = omega (arith, one (p n) (q n) (apart n), either_below p q n apart) where
+  one : (a b : Bool) → (a ≡ true → b ≡ false) → one_if a + one_if b ≡ one_if (a || b)
+  one true true clash = let no : true ≡ false = clash refl in cc
+  one true false clash = refl
+  one false b clash = omega arith
+
+-- two counts of numbers that don't pass both
+either_from : (p q : ℕ → Bool) (first n : ℕ) → ((k : ℕ) → p k ≡ true → q k ≡ false) → count_from p first n + count_from q first n ≡ count_from (λ k. p k || q k) first n
+unfolding count_from
+either_from p q first n apart = either_below (λ k. p (first + k)) (λ k. q (first + k)) n (λ k. apart (first + k))
+
+-- the page of an open frame may be taken from it
+open_holds : (state : Option FrameState) (movable : Bool) → (is_free_state state || is_source_state state movable) ≡ true → is_source_state state movable ≡ is_holding_state state
+open_holds (Some Free) movable is = refl
+open_holds (Some (Holds page)) movable is = is
+open_holds (Some Huge) movable is = refl
+open_holds (Some (Source serial)) movable is = refl
+open_holds (Some (Target serial)) movable is = refl
+open_holds None movable is = refl
+
+-- the counts that the two sets give of a run
+module _ (z : Inside) (sound : IsSound z) {now : Frames} (view : frames_of z ≡ now) (first count free pages : ℕ) (free_is : free ≡ count_from (set.contains z.free.members) first count) (pages_is : pages ≡ count_from (set.contains z.candidates.sources.members) first count) where
+  -- neither of them is greater than the run
+  pub counts_fit : (free ≤ count) × (pages ≤ count)
+  counts_fit = (omega (arith, free_is, count_from_most (set.contains z.free.members) first count), omega (arith, pages_is, count_from_most (set.contains z.candidates.sources.members) first count))
+
+  open_counted : free + pages ≡ count_from (is_open_at now) first count
+  open_counted =
+      let states = seen z.held.members z.kept.items in
+      (λ i. free_is i + pages_is i)
+      ∙ (λ i. count_from (λ n. sound.free n i) first count + count_from (λ n. sound.sources n i) first count)
+      ∙ either_from (free_at states) (source_at states z.movable.items) first count (λ n. free_not_source (slice_get states n) (true_at z.movable.items n))
+      ∙ ap (λ (frames : Frames). count_from (is_open_at frames) first count) view
+
+  pub all_open : free + pages ≡ count → true ≡ all_from (is_open_at now) first count
+  all_open all = sym (eq-eqb (count_from (is_open_at now) first count) count (sym open_counted ∙ all))
+
+  pub not_all_open : free + pages ≢ count → false ≡ all_from (is_open_at now) first count
+  not_all_open some = sym (ne_eqb (count_from (is_open_at now) first count) count (λ all. some (open_counted ∙ all)))
+
+  pub pages_held : free + pages ≡ count → pages ≡ count_from (holds_at now.states) first count
+  pages_held all =
+      pages_is ∙ (λ i. count_from (λ n. sound.sources n i) first count)
+      ∙ ap (λ (frames : Frames). count_from (source_at frames.states frames.movable) first count) view
+      ∙ count_from_same (source_at now.states now.movable) (holds_at now.states) first count (λ k low high. open_holds (slice_get now.states k) (true_at now.movable k) (count_from_full (is_open_at now) first count k (sym open_counted ∙ all) low high))
