@@ -3,6 +3,7 @@ pub mod Costs
 pub mod Counts
 pub mod Evacuation
 pub mod Moves
+pub mod OpenRuns
 pub mod Placements
 pub mod Ranks
 pub mod Reached

@@ -26,7 +26,7 @@ use Rattle.fewest_core.proofs.Counts.{count_within, none_counted, taken}
 use Rattle.fewest_core.proofs.Ranks.{picks_from, picks_parts, rank_alone}
 use Rattle.fewest_core.proofs.Reached.{is_spare, past}
 use Rattle.zone_core.proofs.Emptying.{HasEnough, IsEmptying, emptying_begins, frames_beside, goes_on_emptying, in_run, none_above, pages_below, passes_over, run_bounds, stays_emptying}
-use Rattle.zone_core.proofs.Evacuated.{aligned, block_within}
+use Rattle.fewest_core.proofs.OpenRuns.{aligned, block_within}
 
 -- two tests that imply each other are the same
 both_same : (a b : Bool) → (a ≡ true → b ≡ true) → (b ≡ true → a ≡ true) → a ≡ b

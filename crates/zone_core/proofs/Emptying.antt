@@ -332,22 +332,3 @@ none_above_run first size m z h =
     let p = λ (g : ℕ). is_in_run first size g && is_used z g in
     let all : first + size + (m - (first + size)) ≡ m = omega (arith, h) in
     omega (arith, ap (count_below p) all, count_split p (first + size) (m - (first + size)), count_from_none p (first + size) (m - (first + size)) (λ k l. and_left (is_in_run first size (first + size + k)) _ (false_from_ne_true _ (λ e. absurd (omega (arith, (run_bounds first size (first + size + k) e).1))))))
-
-count_from-suc : (p : ℕ → Bool) (first n : ℕ) → count_from p first (suc n) ≡ one_if (p (first + n)) + count_from p first n
-unfolding count_from
-count_from-suc p first n = refl
-
-pub count_from-zero : (p : ℕ → Bool) (first : ℕ) → count_from p first 0 ≡ 0
-unfolding count_from
-count_from-zero p first = refl
-
-pub count_from-next : (p : ℕ → Bool) (first n : ℕ) → count_from p first (n + 1) ≡ one_if (p (first + n)) + count_from p first n
-count_from-next p first n = let next : n + 1 ≡ suc n = omega arith in ap (count_from p first) next ∙ count_from-suc p first n
-
--- a run isn't open where a frame of it is shut
-pub shut_closes : (z : ZoneState) (first size frame : ℕ) → first ≤ frame → frame < first + size → is_shut z frame ≡ true → nat_eq (count_from (is_shut z) first size) 0 ≡ false
-shut_closes z first size frame low high shut = ne_eqb (count_from (is_shut z) first size) 0 (λ none. both_ways _ (none_counted (is_shut z) first size frame none low high) shut)
-
--- and is where none is
-pub unshut_opens : (z : ZoneState) (first size : ℕ) → ((frame : ℕ) → first ≤ frame → frame < first + size → is_shut z frame ≡ false) → nat_eq (count_from (is_shut z) first size) 0 ≡ true
-unshut_opens z first size unshut = eq-eqb (count_from (is_shut z) first size) 0 (count_from_none (is_shut z) first size (λ k h. unshut (first + k) (omega arith) (omega (arith, h))))

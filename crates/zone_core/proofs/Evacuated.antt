@@ -13,6 +13,7 @@ use Rattle.state_core.specs.ZoneState.{ZoneState, frame_count, is_free, is_held,
 use Rattle.fewest_core.specs.Evacuation.{can_empty, emptied, evacuate_refusal, evacuated, has_room_for_moves, is_in_run, spare_frames, IsCarriedOut}
 use Rattle.fewest_core.specs.FewestMoves.{cost, is_open, is_shut}
 use Rattle.fewest_core.proofs.Counts.{none_counted}
+use Rattle.fewest_core.proofs.OpenRuns.{block_within, cost_is, open_is}
 use Rattle.zone_core.proofs.Emptying.{HasEnough, IsEmptying, IsPartEmptied, emptied_further, emptying_begins, in_run, none_above_run, none_below_run, pages_below, pages_of_run, run_bounds}
 
 three_tests : (a b c : Bool) (x y w : ZoneError) → cond (not a) (Some x) (cond (not b) (Some y) (cond (not c) (Some w) None)) ≡ None → (a ≡ true) × (b ≡ true) × (c ≡ true)
@@ -20,19 +21,6 @@ three_tests true true true x y w e = (refl, refl, refl)
 three_tests true true false x y w e = cc
 three_tests true false c x y w e = cc
 three_tests false b c x y w e = cc
-
--- a run of a block begins at a multiple of its size
-pub aligned : (z : ZoneState) (first order : ℕ) → has_block z order first ≡ true → 2 ^ order * (first / 2 ^ order) ≡ first
-aligned z first order has = omega (arith, eqb-true (first / 2 ^ order * 2 ^ order) first (and_parts (is_aligned order first) _ has).0)
-
-pub block_within : (z : ZoneState) (first order : ℕ) → has_block z order first ≡ true → first + 2 ^ order ≤ frame_count z
-block_within z first order has = leb-true (first + 2 ^ order) (frame_count z) (and_parts (is_aligned order first) _ has).1
-
-pub cost_is : (z : ZoneState) (first order : ℕ) → has_block z order first ≡ true → cost z (2 ^ order) (first / 2 ^ order) ≡ count_from (is_used z) first (2 ^ order)
-cost_is z first order has = ap (λ (k : ℕ). count_from (is_used z) k (2 ^ order)) (aligned z first order has)
-
-pub open_is : (z : ZoneState) (first order : ℕ) → has_block z order first ≡ true → is_open z (2 ^ order) (first / 2 ^ order) ≡ nat_eq (count_from (is_shut z) first (2 ^ order)) 0
-open_is z first order has = ap (λ (k : ℕ). nat_eq (count_from (is_shut z) k (2 ^ order)) 0) (aligned z first order has)
 
 module _ (z : ZoneState) (first order : ℕ) (accepted : evacuate_refusal z first order ≡ None) where
   abbrev size : ℕ

@@ -1,18 +1,29 @@
--- Which frames are shut, and which are used, by their states.
-use Rattle.std.proofs.Common.{◌≡◌, ℕ, ◌<◌, Bool, true, false, not, ◌&&◌, ◌||◌, length, inl, inr, refl, sym, ap, ◌∙◌, arith}
-use Rattle.std.specs.Prelude.{Option, Some, slice_get, unwrap_or}
+-- Which frames are shut, which are used, and which runs are open, by the states of the frames.
+use Rattle.std.proofs.Common.{◌≡◌, ℕ, ◌+◌, ◌-◌, ◌*◌, ◌/◌, ◌^◌, ◌<◌, ◌≤◌, Bool, true, false, not, ◌&&◌, ◌||◌, length, inl, inr, refl, sym, ap, ◌∙◌, arith}
+use Rattle.std.specs.Prelude.{Option, Some, nat_eq, slice_get, unwrap_or}
 use Rattle.std.specs.FinMap as map
-use Rattle.std.proofs.lemmas.Bool.{and_parts, both_ways, not-true}
+use Rattle.std.specs.FinSet as set
+use Rattle.std.proofs.lemmas.Bool.{and_parts, both_ways, eq-eqb, eqb-true, not-false, not-true, or_left}
+use Rattle.std.proofs.lemmas.Nat.{pow-add}
 use Rattle.std.proofs.lemmas.Option.{slice_get-get_or}
+use Rattle.frame_core.proofs.Searches.{count_from_all, count_from_full, count_from_same}
+use Rattle.frame_core.specs.Below.{count_from}
+use Rattle.frame_core.specs.Order.{is_aligned}
 use Rattle.frame_core.specs.declared.state.FrameState.{FrameState}
 use Rattle.frame_core.specs.declared.state.FrameState.TheVariants.{Free, Holds, Huge, Source, Target}
-use Rattle.scan_core.specs.Frames.{is_free_state, is_holding_state, free_at, holds_at, source_at, true_at}
+use Rattle.scan_core.specs.Frames.{is_free_state, is_holding_state, holds_at, is_open_at, true_at}
 use Rattle.state_core.specs.declared.placement.Placement.TheVariants.{At}
 use Rattle.state_core.specs.Pairs.{can_move, is_marked}
 use Rattle.state_core.specs.ZoneState.{ZoneState, frame_count, is_held, is_used}
+use Rattle.scan_core.specs.NumberSet.{all_from}
+use Rattle.state_core.specs.HandingOut.{has_block}
 use Rattle.state_core.proofs.Facts.{not_none}
-use Rattle.fewest_core.specs.FewestMoves.{is_immovable, is_shut}
+use Rattle.state_core.proofs.Filled.{block_of_run}
+use Rattle.state_core.proofs.Runs.{count_from_none}
+use Rattle.fewest_core.specs.FewestMoves.{cost, is_immovable, is_open, is_shut}
+use Rattle.fewest_core.proofs.Counts.{none_counted}
 use Rattle.fewest_core.proofs.Moves.{used_at}
+use Rattle.fewest_core.proofs.OpenRuns.{block_within, cost_is, open_is, shut_closes}
 use Rattle.zone_tables.specs.declared.zone.ZoneTables.TheInside.{Inside}
 use Rattle.zone_tables.specs.Sound.{IsSound}
 use Rattle.zone_tables.proofs.SearchesAndCounts.{free_seen}
@@ -20,16 +31,12 @@ use Rattle.zone_tables.proofs.Shut.{fixed_at, fixed_free, fixed_other}
 use Rattle.zone_tables.proofs.Tables.{holds_seen}
 
 module _ {W : ℕ} (z : Inside W) (v : ZoneState) (sound : IsSound z v) (frame : ℕ) (within : frame < frame_count v) where
-  -- whether a frame is free, or has a page that may be taken from it
-  abbrev is_open : Bool
-  is_open = free_at z.frames.states frame || source_at z.frames.states z.frames.movable frame
-
   -- a frame of an unmarked pageblock is shut where it is neither
   module _ (unmarked : is_marked v frame ≡ false) where
     fixed_is : (fixed : Bool) → (is_held v frame || is_immovable v frame) ≡ fixed → is_shut v frame ≡ fixed
     fixed_is fixed e = (λ i. unmarked i || (is_held v frame || is_immovable v frame)) ∙ e
 
-    shut_by : (state : FrameState) → slice_get z.frames.states frame ≡ Some state → is_shut v frame ≡ not is_open
+    shut_by : (state : FrameState) → slice_get z.frames.states frame ≡ Some state → is_shut v frame ≡ not (is_open_at z.frames frame)
     shut_by Free at = fixed_is false (fixed_free z v sound frame within at) ∙ sym (λ i. not (is_free_state (at i) || (is_holding_state (at i) && true_at z.frames.movable frame)))
     shut_by (Holds page) at =
         let here = holds_seen z.frames.states v sound.frames frame page (Holds page) within at refl in
@@ -42,7 +49,7 @@ module _ {W : ℕ} (z : Inside W) (v : ZoneState) (sound : IsSound z v) (frame :
     state_there : (state : FrameState) × (slice_get z.frames.states frame ≡ Some state)
     state_there = (_, slice_get-get_or z.frames.states frame Free (omega (arith, within, sound.frames.count)))
 
-    pub shut_is : is_shut v frame ≡ not is_open
+    pub shut_is : is_shut v frame ≡ not (is_open_at z.frames frame)
     shut_is = shut_by state_there.0 state_there.1
 
     -- one that isn't shut is used where it holds a page
@@ -57,3 +64,41 @@ module _ {W : ℕ} (z : Inside W) (v : ZoneState) (sound : IsSound z v) (frame :
 
     pub used_is : is_shut v frame ≡ false → is_used v frame ≡ holds_at z.frames.states frame
     used_is = used_by state_there.0 state_there.1
+
+-- a frame of a run is in the pageblock of its first frame
+run_block : (first order frame : ℕ) → is_aligned order first ≡ true → order ≤ 9 → first ≤ frame → frame < first + 2 ^ order → frame / 512 ≡ first / 512
+run_block first order frame is high low top =
+    let whole : 2 ^ order * 2 ^ (9 - order) ≡ 512 = sym (pow-add 2 order (9 - order)) ∙ ap (λ (k : ℕ). 2 ^ k) (omega (arith, high)) in
+    let at : 2 ^ order * (first / 2 ^ order) ≡ first = omega (arith, eqb-true (first / 2 ^ order * 2 ^ order) first is) in
+    let here : 2 ^ order * (first / 2 ^ order) + (frame - first) ≡ frame = omega (arith, at, low) in
+    let start : 2 ^ order * (first / 2 ^ order) + 0 ≡ first = omega (arith, at) in
+    ap (λ (k : ℕ). k / 512) (sym here) ∙ block_of_run (2 ^ order) (2 ^ (9 - order)) whole (first / 2 ^ order) (frame - first) (omega (arith, low, top))
+    ∙ sym (ap (λ (k : ℕ). k / 512) (sym start) ∙ block_of_run (2 ^ order) (2 ^ (9 - order)) whole (first / 2 ^ order) 0 (pow_pos order))
+
+-- each number of a run passes where none of them fails
+all_unless : (p q : ℕ → Bool) (first n : ℕ) → ((k : ℕ) → first ≤ k → k < first + n → q k ≡ not (p k)) → all_from p first n ≡ nat_eq (count_from q first n) 0
+all_unless p q first n fails = same_by _ _
+    (λ e. eq-eqb _ 0 (count_from_none q first n (λ k h. fails (first + k) (omega arith) (omega (arith, h)) ∙ ap not (count_from_full p first n (first + k) (eqb-true _ n e) (omega arith) (omega (arith, h))))))
+    (λ e. eq-eqb _ n (count_from_all p first n (λ k low high. not-false _ (sym (fails k low high) ∙ none_counted q first n k (eqb-true _ 0 e) low high))))
+
+module _ {W : ℕ} (z : Inside W) (v : ZoneState) (sound : IsSound z v) (first order : ℕ) (has : has_block v order first ≡ true) (high : order ≤ 9) where
+  -- where the pageblock of a run is marked, the run is shut
+  pub marked_shut : set.contains v.marked (first / 512) ≡ true → is_open v (2 ^ order) (first / 2 ^ order) ≡ false
+  marked_shut marked = open_is v first order has ∙ shut_closes v first (2 ^ order) first (omega arith) (omega (arith, pow_pos order)) (or_left _ _ marked)
+
+  module _ (unmarked : set.contains v.marked (first / 512) ≡ false) where
+    unmarked_at : (frame : ℕ) → first ≤ frame → frame < first + 2 ^ order → is_marked v frame ≡ false
+    unmarked_at frame low top = ap (set.contains v.marked) (run_block first order frame (and_parts (is_aligned order first) _ has).0 high low top) ∙ unmarked
+
+    within_at : (frame : ℕ) → frame < first + 2 ^ order → frame < frame_count v
+    within_at frame top = omega (arith, top, block_within v first order has)
+
+    pub open_by : all_from (is_open_at z.frames) first (2 ^ order) ≡ is_open v (2 ^ order) (first / 2 ^ order)
+    open_by = all_unless (is_open_at z.frames) (is_shut v) first (2 ^ order) (λ k low top. shut_is z v sound k (within_at k top) (unmarked_at k low top)) ∙ sym (open_is v first order has)
+
+    pub cost_by : is_open v (2 ^ order) (first / 2 ^ order) ≡ true → count_from (holds_at z.frames.states) first (2 ^ order) ≡ cost v (2 ^ order) (first / 2 ^ order)
+    cost_by is =
+        let none = eqb-true _ 0 (sym (open_is v first order has) ∙ is) in
+        count_from_same (holds_at z.frames.states) (is_used v) first (2 ^ order) (λ k low top.
+            sym (used_is z v sound k (within_at k top) (unmarked_at k low top) (none_counted (is_shut v) first (2 ^ order) k none low top)))
+        ∙ sym (cost_is v first order has)

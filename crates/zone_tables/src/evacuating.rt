@@ -1,25 +1,30 @@
 //! Moving pages outside of a round: what an evacuation asks of frames and of the journal, and the move of one page.
 
-ghost use Rattle.std.specs.Prelude.{◌≡◌, ◌<◌, ◌||◌, None};
+ghost use Rattle.std.specs.Prelude.{◌≡◌, ◌/◌, ◌^◌, ◌<◌, None, IfSome, IsTrue, is_some};
 ghost use Rattle.fewest_core.specs.Evacuation.{has_room_for_moves, moved_away};
-ghost use Rattle.fewest_core.specs.FewestMoves.{IsMove, is_immovable, is_shut};
+ghost use Rattle.fewest_core.specs.FewestMoves.{IsMove, cost, is_open};
 ghost use Rattle.fewest_core.specs.Reservation.{has_room_to_reserve};
+ghost use Rattle.state_core.specs.HandingOut.{has_block};
 ghost use Rattle.state_core.specs.Isolating.{isolate_refusal};
 ghost use Rattle.state_core.specs.Pairs.{is_free_unmarked};
 ghost use Rattle.state_core.specs.Valid.{IsValidZone};
-ghost use Rattle.state_core.specs.ZoneState.{frame_count, is_held};
+ghost use Rattle.state_core.specs.ZoneState.{frame_count};
 
 use crate::zone::ZoneTables;
-use frame_core::{FrameNo, FrameState, PageNo, Record, block_of};
+use frame_core::{FrameNo, Order, PageNo, Record, block_of};
 use state_core::Placement;
 
 impl<const W: usize> ZoneTables<W> {
-    /// Whether a frame is shut: it is in a marked pageblock, handed out, or of a page that has to stay.
-    pub fn is_shut(&self, frame: FrameNo) -> bool
-        requires { frame < frame_count self.now }
-        ensures { result ≡ is_shut self.now frame }
+    /// How many pages a run has, or none where a frame of it is shut: in a marked pageblock, handed out, or of a page that has to stay.
+    pub fn pages_of(&self, first: FrameNo, order: Order) -> Option<u32>
+        requires { IsTrue (has_block self.now order first) }
+        ensures open { is_some result ≡ is_open self.now (2 ^ order) (first / 2 ^ order) }
+        ensures pages { IfSome result (λ pages. pages ≡ cost self.now (2 ^ order) (first / 2 ^ order)) }
     {
-        self.is_marked(block_of(frame)) || self.is_fixed(frame)
+        if self.is_marked(block_of(first)) {
+            return None;
+        }
+        self.frames.pages_of_run(first, order)
     }
 
     /// Whether a frame is free, in an unmarked pageblock.
@@ -28,18 +33,6 @@ impl<const W: usize> ZoneTables<W> {
         ensures { result ≡ is_free_unmarked self.now frame }
     {
         !self.is_marked(block_of(frame)) && self.is_free(frame)
-    }
-
-    /// Whether a frame is handed out, or of a page that has to stay.
-    fn is_fixed(&self, frame: FrameNo) -> bool
-        requires { frame < frame_count self.now }
-        ensures { result ≡ (is_held self.now frame || is_immovable self.now frame) }
-    {
-        match self.frames.state(frame) {
-            FrameState::Free => false,
-            FrameState::Holds(_) => !self.frames.movable(frame),
-            FrameState::Source(_) | FrameState::Target(_) | FrameState::Huge => true,
-        }
     }
 
     /// Whether the journal has room for so many isolations and their ends.

@@ -1,11 +1,11 @@
 //! Evacuations: the pages of a run of frames go out of it, and then all of its frames are free.
 
-ghost use Rattle.std.specs.Prelude.{◌≡◌, ◌+◌, ◌/◌, ◌^◌, ◌<◌, None, is_some, IsTrue, IfOk, IfSome, OnOk, OnErr};
+ghost use Rattle.std.specs.Prelude.{◌≡◌, ◌+◌, ◌/◌, ◌^◌, ◌<◌, None, IsTrue, IfOk, OnOk, OnErr};
 ghost use Rattle.std.specs.Result.{result_err};
 ghost use Rattle.fewest_core.specs.Evacuation.{evacuate_refusal, evacuated, highest_spare, is_in_run, is_spare, spare_frames, IsCarriedOut};
-ghost use Rattle.fewest_core.specs.FewestMoves.{cost, is_open};
+ghost use Rattle.fewest_core.specs.FewestMoves.{cost};
 ghost use Rattle.frame_core.specs.Moves.{moved};
-ghost use Rattle.state_core.specs.HandingOut.{has_block, is_run};
+ghost use Rattle.state_core.specs.HandingOut.{is_run};
 ghost use Rattle.state_core.specs.Valid.{IsValidZone};
 ghost use Rattle.state_core.specs.ZoneState.{frame_count};
 ghost use Rattle.zone_core.specs.ZoneIdentity.{HasIdentity};
@@ -58,7 +58,7 @@ impl<const W: usize> BareZone<W> {
         if !self.tables.has_block(first, order) {
             return Err(ZoneError::Range);
         }
-        let Some(pages) = self.pages_of(first, order) else {
+        let Some(pages) = self.tables.pages_of(first, order) else {
             return Err(ZoneError::NoBlock);
         };
         if self.count_spare(first, order) < pages {
@@ -68,25 +68,6 @@ impl<const W: usize> BareZone<W> {
             return Err(ZoneError::JournalFull);
         }
         Ok(pages)
-    }
-
-    /// How many pages a run has, or none where a frame of it is shut.
-    pub(crate) fn pages_of(&self, first: FrameNo, order: Order) -> Option<u32>
-        requires { IsTrue (has_block self.now order first) }
-        ensures open { is_some result ≡ is_open self.now (2 ^ order) (first / 2 ^ order) }
-        ensures pages { IfSome result (λ pages. pages ≡ cost self.now (2 ^ order) (first / 2 ^ order)) }
-    {
-        let mut pages = 0;
-        for place in 0..order.frames() {
-            let frame = frame_at(first, place);
-            if self.tables.is_shut(frame) {
-                return None;
-            }
-            if self.tables.holder(frame).is_some() {
-                pages += 1;
-            }
-        }
-        Some(pages)
     }
 
     /// How many frames may take a page of a run.

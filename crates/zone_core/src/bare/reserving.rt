@@ -131,7 +131,7 @@ impl<const W: usize> BareZone<W> {
         let mut next = None;
         for number in 0..512 * self.blocks() / order.frames() {
             let first = run_start(order, number);
-            let Some(pages) = self.pages_of(first, order) else {
+            let Some(pages) = self.tables.pages_of(first, order) else {
                 continue;
             };
             let run = OpenRun { number, pages };

@@ -5,7 +5,8 @@ use Rattle.state_core.specs.Isolating.{isolate_refusal}
 use Rattle.state_core.specs.Pairs.{holder}
 use Rattle.state_core.specs.ZoneState.{ZoneState, frame_count}
 use Rattle.zone_core.proofs.Emptying.{accepted_here, in_it, may_move_here, part_goes, part_stays, spare_here}
-use Rattle.zone_core.proofs.Evacuated.{begins, block_within, carried_out, enough, fits, has_it, identity_is, moved_all, run_free, zone_is}
+use Rattle.fewest_core.proofs.OpenRuns.{block_within}
+use Rattle.zone_core.proofs.Evacuated.{begins, carried_out, enough, fits, has_it, identity_is, moved_all, run_free, zone_is}
 use Rattle.zone_core.proofs.bare.BareZone.evacuate.Goals as goal
 
 pub loop-place-init : goal.loop-place-init
