@@ -25,7 +25,7 @@ module _ (size rest : ℕ) (whole : size * rest ≡ 512) where
   rest_some = positive rest size (mul_comm rest size ∙ whole)
 
   -- a frame of a run is in the pageblock of the run's first frame
-  block_of_run : (i k : ℕ) → k < size → (size * i + k) / 512 ≡ i / rest
+  pub block_of_run : (i k : ℕ) → k < size → (size * i + k) / 512 ≡ i / rest
   block_of_run i k h =
       let split : i / rest * rest + i % rest ≡ i = div-add-mod' i rest in
       let below : i % rest < rest = mod_below i rest rest_some in

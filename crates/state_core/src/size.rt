@@ -16,8 +16,11 @@ pub struct ZoneSize {
 }
 
 const MOST_BLOCKS: u32 = 32_768;
+
 const MOST_SPACES: u32 = 256;
+
 const MOST_VPAGES: u32 = 16_777_216;
+
 const MOST_ADDRESSES: u64 = 67_108_864;
 
 impl ZoneSize {

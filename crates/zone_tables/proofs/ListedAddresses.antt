@@ -102,8 +102,8 @@ module _ (entries : EntryTable) (v : ZoneState) (fit : EntriesFit entries v) (la
       (λ space vpage h l. (let a : Address = record { space = space; vpage = vpage } in listed_names page frame at a (listed_range size a h l)))
       ∙ ap (λ (s : Size). count_pairs (λ space vpage. names v.records (record { space = space; vpage = vpage }) page) s.spaces s.pages) size
       ∙ sym (pairs_within (λ space vpage. names v.records (record { space = space; vpage = vpage }) page) v.spaces v.vpages 256 16777216 law.addresses.0 law.addresses.1 (λ i j e.
-          (let a : Address = record { space = i; vpage = j } in
-          let inside = (law.agrees.named a page (page_is (page_at v.records a) page e)).0 in (inside.space, inside.vpage))))
+      (let a : Address = record { space = i; vpage = j } in
+      let inside = (law.agrees.named a page (page_is (page_at v.records a) page e)).0 in (inside.space, inside.vpage))))
 
   -- no entry has the serial that is given next
   pub fresh_serial : (a : Address) (source : ℕ) → InRange a → entry_at entries a ≢ Migration (isolated v.records) source

@@ -4,7 +4,7 @@ use Rattle.std.specs.Prelude.{Option, Some, nat_eq, slice_get, unwrap_or}
 use Rattle.std.specs.FinMap as map
 use Rattle.std.specs.FinSet as set
 use Rattle.std.proofs.lemmas.Bool.{and_parts, both_ways, eq-eqb, eqb-true, not-false, not-true, or_left}
-use Rattle.std.proofs.lemmas.Nat.{pow-add}
+use Rattle.std.proofs.lemmas.Nat.{pow_pos, pow-add}
 use Rattle.std.proofs.lemmas.Option.{slice_get-get_or}
 use Rattle.frame_core.proofs.Searches.{count_from_all, count_from_full, count_from_same}
 use Rattle.frame_core.specs.Below.{count_from}
@@ -15,6 +15,7 @@ use Rattle.scan_core.specs.Frames.{is_free_state, is_holding_state, holds_at, is
 use Rattle.state_core.specs.declared.placement.Placement.TheVariants.{At}
 use Rattle.state_core.specs.Pairs.{can_move, is_marked}
 use Rattle.state_core.specs.ZoneState.{ZoneState, frame_count, is_held, is_used}
+use Rattle.scan_core.proofs.Spanning.{same_by}
 use Rattle.scan_core.specs.NumberSet.{all_from}
 use Rattle.state_core.specs.HandingOut.{has_block}
 use Rattle.state_core.proofs.Facts.{not_none}
@@ -100,5 +101,5 @@ module _ {W : ℕ} (z : Inside W) (v : ZoneState) (sound : IsSound z v) (first o
     cost_by is =
         let none = eqb-true _ 0 (sym (open_is v first order has) ∙ is) in
         count_from_same (holds_at z.frames.states) (is_used v) first (2 ^ order) (λ k low top.
-            sym (used_is z v sound k (within_at k top) (unmarked_at k low top) (none_counted (is_shut v) first (2 ^ order) k none low top)))
+        sym (used_is z v sound k (within_at k top) (unmarked_at k low top) (none_counted (is_shut v) first (2 ^ order) k none low top)))
         ∙ sym (cost_is v first order has)

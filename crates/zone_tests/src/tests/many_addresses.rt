@@ -16,9 +16,13 @@ const SIZE: ZoneSize = ZoneSize {
 
 /// The last address of such a zone, the first of its last space, and three that it hasn't.
 const LAST: (u32, u32) = (2, 69_999);
+
 const OTHER: (u32, u32) = (2, 0);
+
 const PAST_THE_SPACE: (u32, u32) = (0, 70_000);
+
 const PAST_THE_SPACES: (u32, u32) = (3, 0);
+
 const HIGHEST: (u32, u32) = (255, 16_777_215);
 
 const ROWS: &[(Call, Answer)] = &[
@@ -38,10 +42,7 @@ const ROWS: &[(Call, Answer)] = &[
         Call::Pin(PAST_THE_SPACES),
         Answer::Refused(ZoneError::Unmapped),
     ),
-    (
-        Call::Unmap(HIGHEST),
-        Answer::Refused(ZoneError::Unmapped),
-    ),
+    (Call::Unmap(HIGHEST), Answer::Refused(ZoneError::Unmapped)),
     (
         Call::Share(LAST, PAST_THE_SPACE),
         Answer::Refused(ZoneError::Range),
