@@ -5,9 +5,8 @@ use crate::trouble::Trouble;
 use std::alloc::Global;
 use zone_core::{
     Address, BareZone, ClientNo, FrameNo, Look, Order, SpaceNo, VPage, WordOf, ZoneError, ZoneNo,
+    ZoneSize,
 };
-
-const PAGEBLOCKS: u32 = 8;
 
 #[derive(Drop)]
 pub struct Buffers {
@@ -20,14 +19,14 @@ pub struct Buffers {
 }
 
 impl Buffers {
-    /// No buffers, in a zone of 16 MiB whose journal is unrecorded.
-    pub fn open(alloc: Global) -> Result<Self, Trouble> {
+    /// No buffers, in a zone of this size whose journal is unrecorded.
+    pub fn open(alloc: Global, size: ZoneSize) -> Result<Self, Trouble> {
         let client = ClientNo::new(0).ok_or(Trouble::Range)?;
         let space = SpaceNo::new(0).ok_or(Trouble::Range)?;
         let first = WordOf::new(0).ok_or(Trouble::Range)?;
         let number = ZoneNo::new(0).ok_or(Trouble::Range)?;
         Ok(Buffers {
-            zone: BareZone::open_unrecorded(alloc, number, PAGEBLOCKS)?,
+            zone: BareZone::open_sized(alloc, number, size, None)?,
             client,
             space,
             first,

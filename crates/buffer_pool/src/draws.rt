@@ -2,7 +2,7 @@
 
 ghost use Rattle.std.specs.Prelude.{◌<◌, IfOk};
 
-use crate::file::{BLOCKS, WORDS};
+use crate::file::{WORDS, block_at};
 use crate::trouble::Trouble;
 use rand_core::Rng;
 use rand_pcg::Pcg32;
@@ -20,9 +20,9 @@ impl Draws {
         }
     }
 
-    /// A block of the file.
-    pub fn block(&mut self) -> Result<VPage, Trouble> {
-        VPage::new(self.words.next_u32() % BLOCKS).ok_or(Trouble::Range)
+    /// A block of a file that has so many.
+    pub fn block(&mut self, blocks: usize) -> Result<VPage, Trouble> {
+        block_at(self.place(blocks)?)
     }
 
     /// A word of a block that isn't its header.

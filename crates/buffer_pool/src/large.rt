@@ -16,34 +16,35 @@ impl Pool {
     }
 
     /// Asks for a large buffer. Where none is free, a round is run, and it is asked for once more.
-    fn ask(&mut self) -> Result<(), ZoneError> {
-        self.take()?;
-        if self.large.is_none() {
+    fn ask(&mut self) -> Result<(), Trouble> {
+        let mut is_got = self.take()?;
+        if !is_got {
             self.buffers.compact();
             self.tally.rounds = self.tally.rounds.saturating_add(1);
-            self.take()?;
+            is_got = self.take()?;
         }
-        self.tally.large.note(self.large.is_some());
+        self.tally.large.note(is_got);
         Ok(())
     }
 
-    /// Takes a large buffer if there is one.
-    fn take(&mut self) -> Result<(), ZoneError> {
+    /// Takes a large buffer if there is one. Whether there was.
+    fn take(&mut self) -> Result<bool, Trouble> {
         match self.buffers.take_large() {
-            Err(ZoneError::NoBlock) => Ok(()),
-            Err(refused) => Err(refused),
+            Err(ZoneError::NoBlock) => Ok(false),
+            Err(refused) => Err(Trouble::Zone(refused)),
             Ok(large) => {
-                self.large = Some(large);
-                Ok(())
+                self.large.push(large)?;
+                Ok(true)
             }
         }
     }
 
-    /// Gives the large buffer back, if there is one.
+    /// Gives all large buffers back.
     pub fn give_back(&mut self) -> Result<(), ZoneError> {
-        match self.large.take() {
-            Some(large) => self.buffers.give_large(large),
-            None => Ok(()),
+        for large in &self.large {
+            self.buffers.give_large(*large)?;
         }
+        self.large.clear();
+        Ok(())
     }
 }

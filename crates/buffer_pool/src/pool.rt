@@ -2,14 +2,14 @@
 
 use crate::buffers::Buffers;
 use crate::draws::Draws;
-use crate::file::{BLOCKS, File};
+use crate::file::{File, block_at};
 use crate::tally::Tally;
 use crate::trouble::Trouble;
 use std::alloc::Global;
-use zone_core::{FrameNo, VPage};
+use zone_core::{FrameNo, VPage, ZoneSize};
 
-/// How many blocks have no buffer, once the pool is filled.
-const OUTSIDE: u32 = 100;
+/// Of so many blocks one has no buffer, once the pool is filled.
+const OF_BLOCKS: usize = 36;
 
 #[derive(Drop)]
 pub struct Pool {
@@ -18,31 +18,32 @@ pub struct Pool {
     /// The blocks that have a buffer.
     resident: Vec<VPage>,
     pub draws: Draws,
-    /// The first frame of the large buffer that is in use.
-    pub large: Option<FrameNo>,
+    /// The first frames of the large buffers that are in use.
+    pub large: Vec<FrameNo>,
     pub tally: Tally,
 }
 
 impl Pool {
-    /// A pool without buffers.
-    pub fn open(alloc: Global) -> Result<Self, Trouble> {
-        let buffers = Buffers::open(alloc)?;
+    /// A pool without buffers, in a zone of this size.
+    pub fn open(alloc: Global, size: ZoneSize) -> Result<Self, Trouble> {
+        let buffers = Buffers::open(alloc, size)?;
         Ok(Pool {
             buffers,
-            file: File::new(),
+            file: File::new(alloc, size.blocks)?,
             resident: Vec::new(alloc),
             draws: Draws::new(),
-            large: None,
+            large: Vec::new(alloc),
             tally: Tally::default(),
         })
     }
 
     /// Brings the whole file in, and then evicts some of its blocks: free frames are left all over the zone.
     pub fn fill(&mut self) -> Result<(), Trouble> {
-        for number in 0..BLOCKS {
-            self.bring_in(VPage::new(number).ok_or(Trouble::Range)?)?;
+        let blocks = self.file.blocks();
+        for number in 0..blocks {
+            self.bring_in(block_at(number)?)?;
         }
-        for _ in 0..OUTSIDE {
+        for _ in 0..blocks / OF_BLOCKS {
             self.evict()?;
         }
         Ok(())
@@ -51,7 +52,7 @@ impl Pool {
     /// Brings a block into a fresh buffer.
     pub fn bring_in(&mut self, block: VPage) -> Result<(), Trouble> {
         self.buffers.map(block)?;
-        self.buffers.write(block, &self.file.content(block))?;
+        self.buffers.write(block, &self.file.content(block)?)?;
         self.resident.push(block)?;
         Ok(())
     }
@@ -60,7 +61,7 @@ impl Pool {
     pub fn evict(&mut self) -> Result<(), Trouble> {
         let slot = self.draws.place(self.resident.len())?;
         let block = self.resident.swap_remove(slot);
-        let holds = self.buffers.holds(block, &self.file.content(block))?;
+        let holds = self.buffers.holds(block, &self.file.content(block)?)?;
         self.tally.evicted.note(holds);
         self.buffers.unmap(block)?;
         Ok(())
@@ -75,7 +76,7 @@ impl Pool {
     /// Reads the buffers that are left, and sees how many hold what was stored.
     pub fn see_left(&mut self) -> Result<(), Trouble> {
         for block in &self.resident {
-            let holds = self.buffers.holds(*block, &self.file.content(*block))?;
+            let holds = self.buffers.holds(*block, &self.file.content(*block)?)?;
             self.tally.left.note(holds);
         }
         Ok(())

@@ -2,11 +2,15 @@ use crate::pool::Pool;
 use crate::tally::Tally;
 use crate::trouble::Trouble;
 use std::alloc::Global;
+use zone_core::ZoneSize;
 
-/// How many times a large buffer is asked for.
+/// How many times large buffers are asked for.
 const TURNS: u32 = 100;
 
-/// Transactions while a large buffer is in use, and as many again before the next is asked for.
+/// For so many pageblocks of the zone one large buffer is asked for.
+const OF_PAGEBLOCKS: u32 = 8;
+
+/// Transactions while large buffers are in use, and as many again before the next are asked for.
 const TRANSACTIONS: u32 = 10_000;
 
 /// What came of a run.
@@ -22,22 +26,25 @@ pub struct Outcome {
 }
 
 /// Opens and fills a pool, takes all turns, and looks at the buffers that are left.
-pub fn run(alloc: Global) -> Result<Outcome, Trouble> {
-    let mut pool = Pool::open(alloc)?;
+pub fn run(alloc: Global, size: ZoneSize) -> Result<Outcome, Trouble> {
+    let mut pool = Pool::open(alloc, size)?;
     pool.fill()?;
     for _ in 0..TURNS {
-        turn(&mut pool)?;
+        turn(&mut pool, size.blocks / OF_PAGEBLOCKS)?;
     }
     pool.see_left()?;
     outcome_of(&mut pool)
 }
 
-/// Transactions before and after a large buffer is given back, and the request for the next.
-fn turn(pool: &mut Pool) -> Result<(), Trouble> {
+/// Transactions before and after the large buffers are given back, and the requests for the next.
+fn turn(pool: &mut Pool, large: u32) -> Result<(), Trouble> {
     pool.serve(TRANSACTIONS)?;
     pool.give_back()?;
     pool.serve(TRANSACTIONS)?;
-    pool.ask_pinned()
+    for _ in 0..large {
+        pool.ask_pinned()?;
+    }
+    Ok(())
 }
 
 fn outcome_of(pool: &mut Pool) -> Result<Outcome, Trouble> {

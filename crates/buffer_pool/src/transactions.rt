@@ -14,7 +14,7 @@ impl Pool {
 
     /// Changes a block that is drawn, while its buffer is pinned.
     fn transact(&mut self) -> Result<(), Trouble> {
-        let block = self.draws.block()?;
+        let block = self.draws.block(self.file.blocks())?;
         let word = self.draws.word()?;
         self.pin(block)?;
         let is_right = self.change(block, word)?;
@@ -40,11 +40,11 @@ impl Pool {
 
     /// Loads the header of a block and one more word, and stores the next header. The answer is whether the loads gave what was
     /// stored.
-    fn change(&mut self, block: VPage, word: WordOf<WORDS>) -> Result<bool, ZoneError> {
+    fn change(&mut self, block: VPage, word: WordOf<WORDS>) -> Result<bool, Trouble> {
         let header = self.buffers.load_header(block)?;
         let value = self.buffers.load(block, word)?;
-        let is_right = header == self.file.header(block) && value == word_of(block, word.get());
-        let next = self.file.change(block);
+        let is_right = header == self.file.header(block)? && value == word_of(block, word.get());
+        let next = self.file.change(block)?;
         self.buffers.store_header(block, next)?;
         Ok(is_right)
     }

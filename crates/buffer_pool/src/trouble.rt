@@ -1,13 +1,13 @@
-use std::alloc::AllocFailed;
+use std::alloc::{AllocError, AllocFailed};
 use thiserror::Error;
-use zone_core::{VPage, ZoneError};
+use zone_core::ZoneError;
 
 /// What can go wrong.
 #[derive(Debug, Drop, Error)]
 pub enum Trouble {
     #[error("a number is out of its range")]
     Range,
-    #[error("there is no memory for the list of buffers")]
+    #[error("there is no memory for a list")]
     Memory,
     #[error("{0}")]
     Zone(ZoneError),
@@ -19,8 +19,14 @@ impl From<ZoneError> for Trouble {
     }
 }
 
-impl From<AllocFailed<VPage>> for Trouble {
-    fn from(_failed: AllocFailed<VPage>) -> Trouble {
+impl From<AllocError> for Trouble {
+    fn from(_failed: AllocError) -> Trouble {
+        Trouble::Memory
+    }
+}
+
+impl<T: Drop> From<AllocFailed<T>> for Trouble {
+    fn from(_failed: AllocFailed<T>) -> Trouble {
         Trouble::Memory
     }
 }
