@@ -238,6 +238,7 @@ impl Frames {
         requires { has_block self.now.states order first ≡ true }
         ensures open { is_some result ≡ all_from (is_open_at self.now) first (2 ^ order) }
         ensures pages { IfSome result (λ pages. pages ≡ count_from (holds_at self.now.states) first (2 ^ order)) }
+        ensures order { order ≤ 9 }
     {
         let free = self.free.count_run(first, order);
         let pages = self.candidates.sources.count_run(first.get(), order.get());

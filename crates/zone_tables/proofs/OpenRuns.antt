@@ -69,12 +69,16 @@ module _ {W : ℕ} (z : Inside W) (v : ZoneState) (sound : IsSound z v) (frame :
 -- a frame of a run is in the pageblock of its first frame
 run_block : (first order frame : ℕ) → is_aligned order first ≡ true → order ≤ 9 → first ≤ frame → frame < first + 2 ^ order → frame / 512 ≡ first / 512
 run_block first order frame is high low top =
-    let whole : 2 ^ order * 2 ^ (9 - order) ≡ 512 = sym (pow-add 2 order (9 - order)) ∙ ap (λ (k : ℕ). 2 ^ k) (omega (arith, high)) in
-    let at : 2 ^ order * (first / 2 ^ order) ≡ first = omega (arith, eqb-true (first / 2 ^ order * 2 ^ order) first is) in
+    let sum : order + (9 - order) ≡ 9 = omega (arith, high) in
+    let whole : 2 ^ order * 2 ^ (9 - order) ≡ 512 = sym (pow-add 2 order (9 - order)) ∙ ap (λ (k : ℕ). 2 ^ k) sum in
+    let at : first / 2 ^ order * 2 ^ order ≡ first = eqb-true (first / 2 ^ order * 2 ^ order) first is in
     let here : 2 ^ order * (first / 2 ^ order) + (frame - first) ≡ frame = omega (arith, at, low) in
     let start : 2 ^ order * (first / 2 ^ order) + 0 ≡ first = omega (arith, at) in
-    ap (λ (k : ℕ). k / 512) (sym here) ∙ block_of_run (2 ^ order) (2 ^ (9 - order)) whole (first / 2 ^ order) (frame - first) (omega (arith, low, top))
-    ∙ sym (ap (λ (k : ℕ). k / 512) (sym start) ∙ block_of_run (2 ^ order) (2 ^ (9 - order)) whole (first / 2 ^ order) 0 (pow_pos order))
+    let short : frame - first < 2 ^ order = omega (arith, low, top) in
+    let some : 0 < 2 ^ order = pow_pos order in
+    let of_frame : (2 ^ order * (first / 2 ^ order) + (frame - first)) / 512 ≡ first / 2 ^ order / 2 ^ (9 - order) = block_of_run (2 ^ order) (2 ^ (9 - order)) whole (first / 2 ^ order) (frame - first) short in
+    let of_first : (2 ^ order * (first / 2 ^ order) + 0) / 512 ≡ first / 2 ^ order / 2 ^ (9 - order) = block_of_run (2 ^ order) (2 ^ (9 - order)) whole (first / 2 ^ order) 0 some in
+    ap (λ (k : ℕ). k / 512) (sym here) ∙ of_frame ∙ sym of_first ∙ ap (λ (k : ℕ). k / 512) start
 
 -- each number of a run passes where none of them fails
 all_unless : (p q : ℕ → Bool) (first n : ℕ) → ((k : ℕ) → first ≤ k → k < first + n → q k ≡ not (p k)) → all_from p first n ≡ nat_eq (count_from q first n) 0
@@ -82,11 +86,11 @@ all_unless p q first n fails = same_by _ _
     (λ e. eq-eqb _ 0 (count_from_none q first n (λ k h. fails (first + k) (omega arith) (omega (arith, h)) ∙ ap not (count_from_full p first n (first + k) (eqb-true _ n e) (omega arith) (omega (arith, h))))))
     (λ e. eq-eqb _ n (count_from_all p first n (λ k low high. not-false _ (sym (fails k low high) ∙ none_counted q first n k (eqb-true _ 0 e) low high))))
 
-module _ {W : ℕ} (z : Inside W) (v : ZoneState) (sound : IsSound z v) (first order : ℕ) (has : has_block v order first ≡ true) (high : order ≤ 9) where
-  -- where the pageblock of a run is marked, the run is shut
-  pub marked_shut : set.contains v.marked (first / 512) ≡ true → is_open v (2 ^ order) (first / 2 ^ order) ≡ false
-  marked_shut marked = open_is v first order has ∙ shut_closes v first (2 ^ order) first (omega arith) (omega (arith, pow_pos order)) (or_left _ _ marked)
+-- where the pageblock of a run is marked, the run is shut
+pub marked_shut : (v : ZoneState) (first order : ℕ) → has_block v order first ≡ true → set.contains v.marked (first / 512) ≡ true → is_open v (2 ^ order) (first / 2 ^ order) ≡ false
+marked_shut v first order has marked = open_is v first order has ∙ shut_closes v first (2 ^ order) first (omega arith) (omega (arith, pow_pos order)) (or_left _ _ marked)
 
+module _ {W : ℕ} (z : Inside W) (v : ZoneState) (sound : IsSound z v) (first order : ℕ) (has : has_block v order first ≡ true) (high : order ≤ 9) where
   module _ (unmarked : set.contains v.marked (first / 512) ≡ false) where
     unmarked_at : (frame : ℕ) → first ≤ frame → frame < first + 2 ^ order → is_marked v frame ≡ false
     unmarked_at frame low top = ap (set.contains v.marked) (run_block first order frame (and_parts (is_aligned order first) _ has).0 high low top) ∙ unmarked

@@ -14,7 +14,8 @@ pages_of-requires g c =
     let z = c.args.self.now in
     let all : 512 * c.blocks-2.result / c.frames.result ≡ run_count z (2 ^ c.args.order) = λ i. 512 * c.blocks-2.ensures.blocks i / c.frames.ensures.value i in
     let within : c.loop-number.number < run_count z (2 ^ c.args.order) = omega (arith, c.loop-number-test.true, all) in
-    (omega arith, ap (has_block z c.args.order) c.run_start-first.ensures ∙ start_block z c.args.order c.loop-number.number within)
+    let here = c.deref.ensures ∙ c.self.view_is in
+    (omega arith, (λ i. has_block (here i) c.args.order (c.run_start-first.ensures i)) ∙ start_block z c.args.order c.loop-number.number within)
 
 pub loop-number-preserved-in_default : goal.loop-number-preserved-in_default
 loop-number-preserved-in_default g c =
@@ -23,7 +24,8 @@ loop-number-preserved-in_default g c =
     let all : 512 * c.blocks-2.result / c.frames.result ≡ run_count z (2 ^ c.args.order) = λ i. 512 * c.blocks-2.ensures.blocks i / c.frames.ensures.value i in
     let within : c.loop-number.number < run_count z (2 ^ c.args.order) = omega (arith, c.loop-number-test.true, all) in
     let at : c.run_start-first.result / 2 ^ c.args.order ≡ c.loop-number.number = ap (λ (k : ℕ). k / 2 ^ c.args.order) c.run_start-first.ensures ∙ start_number z c.args.order c.loop-number.number within in
-    let shut : is_open z (2 ^ c.args.order) c.loop-number.number ≡ false = ap (is_open z (2 ^ c.args.order)) (sym at) ∙ sym c.pages_of.ensures.open ∙ ap is_some c.in_default.is in
+    let here = c.deref.ensures ∙ c.self.view_is in
+    let shut : is_open z (2 ^ c.args.order) c.loop-number.number ≡ false = sym (λ i. is_open (here i) (2 ^ c.args.order) (at i)) ∙ sym c.pages_of.ensures.open ∙ ap is_some c.in_default.is in
     walk_shut z size c.args.last c.loop-number.next c.loop-number.number c.loop-number.invariant shut
 
 pub loop-number-preserved : goal.loop-number-preserved
@@ -34,10 +36,11 @@ loop-number-preserved g c =
     let within : c.loop-number.number < run_count z (2 ^ c.args.order) = omega (arith, c.loop-number-test.true, all) in
     let at : c.run_start-first.result / 2 ^ c.args.order ≡ c.loop-number.number = ap (λ (k : ℕ). k / 2 ^ c.args.order) c.run_start-first.ensures ∙ start_number z c.args.order c.loop-number.number within in
     let r : OpenRun = record { number = c.loop-number.number; pages = c.in-Some.pages } in
+    let here = c.deref.ensures ∙ c.self.view_is in
     let run : IsOpenRun z (2 ^ c.args.order) (record { number = c.loop-number.number; pages = c.in-Some.pages }) = record {
       within = within;
-      opened = ap (is_open z (2 ^ c.args.order)) (sym at) ∙ sym c.in-Some.ensures.open;
-      pages = c.in-Some.ensures.pages ∙ ap (cost z (2 ^ c.args.order)) at;
+      opened = sym (λ i. is_open (here i) (2 ^ c.args.order) (at i)) ∙ sym c.in-Some.ensures.open;
+      pages = c.in-Some.ensures.pages ∙ (λ i. cost (here i) (2 ^ c.args.order) (at i));
     } in
     elim c.if-is_after.branch [
       | then-is_after+then-is_ahead w ↦

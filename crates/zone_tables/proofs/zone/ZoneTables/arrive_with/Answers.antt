@@ -30,10 +30,10 @@ pub arrive-requires : goal.arrive-requires
 arrive-requires g c = some_on_the_way c.self.view_is c.self.invariant c.args.way.now.page c.requires.placed
 
 pub leave-requires : goal.leave-requires
-leave-requires g c = (omega arith, source_on_way c.self.view_is c.self.invariant c.args.way.now.page c.requires.placed)
+leave-requires g c = source_on_way c.self.view_is c.self.invariant c.args.way.now.page c.requires.placed
 
 pub settle-requires : goal.settle-requires
-settle-requires g c = (omega arith, target_still c.self.view_is c.self.invariant c.args.way.now.page c.requires.placed c.leave.new.self c.leave.ensures.state)
+settle-requires g c = target_still c.self.view_is c.self.invariant c.args.way.now.page c.requires.placed c.leave.new.self c.leave.ensures.state
 
 pub fill_target-requires : goal.fill_target-requires
 fill_target-requires g c =

@@ -29,23 +29,14 @@ use Rattle.zone_tables.proofs.zone.ZoneTables.begin_move.Goals.{After-note}
 pub to_source-requires : goal.to_source-requires
 to_source-requires g c =
     let sound = is_sound c.self.view_is c.self.invariant in
-    let from = c.requires.pair.from in (
-      omega arith,
-      (
-        ap is_holding_state (held_by c.self.inside.frames.states c.args.self.now sound.frames c.args.pair.page c.args.pair.source from.here),
-        ap (λ o. unwrap_or o false) (sound.movable.each c.args.pair.page c.args.pair.source from.here) ∙ from.movable,
-      ),
-    )
+    let from = c.requires.pair.from in record { page = ap is_holding_state (held_by c.self.inside.frames.states c.args.self.now sound.frames c.args.pair.page c.args.pair.source from.here); movable = ap (λ o. unwrap_or o false) (sound.movable.each c.args.pair.page c.args.pair.source from.here) ∙ from.movable }
 
 pub to_target-requires : goal.to_target-requires
 to_target-requires g c =
     let sound = is_sound c.self.view_is c.self.invariant in
     let to = c.requires.pair.to in
-    let low = to.low in (
-      omega arith,
-      still_free c.self.inside.frames c.to_source.new.self c.args.pair.target c.args.pair.source (Source c.isolate-serial.result) (λ e. absurd (omega arith)) c.to_source.ensures.state
-          (free_seen c.self.inside.frames.states c.args.self.now sound.frames c.args.pair.target (target_within c.args.self.now c.args.pair sound.valid c.requires.pair) ∙ to.free),
-    )
+    let low = to.low in still_free c.self.inside.frames c.to_source.new.self c.args.pair.target c.args.pair.source (Source c.isolate-serial.result) (λ e. absurd (omega arith)) c.to_source.ensures.state
+          (free_seen c.self.inside.frames.states c.args.self.now sound.frames c.args.pair.target (target_within c.args.self.now c.args.pair sound.valid c.requires.pair) ∙ to.free)
 
 pub isolate-serial-requires-clause-within : goal.isolate-serial-requires-clause-within
 isolate-serial-requires-clause-within g c =

@@ -26,10 +26,10 @@ pub go_back-requires : goal.go_back-requires
 go_back-requires g c = some_on_the_way c.self.view_is c.self.invariant c.args.way.now.page c.requires.placed
 
 pub leave-requires : goal.leave-requires
-leave-requires g c = (omega arith, target_on_way c.self.view_is c.self.invariant c.args.way.now.page c.requires.placed)
+leave-requires g c = target_on_way c.self.view_is c.self.invariant c.args.way.now.page c.requires.placed
 
 pub settle-requires : goal.settle-requires
-settle-requires g c = (omega arith, source_still c.self.view_is c.self.invariant c.args.way.now.page c.requires.placed c.leave.new.self c.leave.ensures.state)
+settle-requires g c = source_still c.self.view_is c.self.invariant c.args.way.now.page c.requires.placed c.leave.new.self c.leave.ensures.state
 
 pub place-requires : goal.place-requires
 place-requires g c = ap is_some (placement_seen c.self.inside c.args.self.now c.self.view_is c.args.way.now.page ∙ c.requires.placed)

@@ -9,7 +9,7 @@ use Rattle.zone_tables.proofs.zone.ZoneTables.hand_out.Goals.{After-note}
 
 pub hold-requires : goal.hold-requires
 hold-requires g c =
-    (omega arith, blocks.run_seen c.self.inside.frames.states c.args.self.now (is_sound c.self.view_is c.self.invariant).frames c.args.order c.args.first ∙ c.requires.run)
+    blocks.run_seen c.self.inside.frames.states c.args.self.now (is_sound c.self.view_is c.self.invariant).frames c.args.order c.args.first ∙ c.requires.run
 
 pub take-requires-clause-clear : goal.take-requires-clause-clear
 take-requires-clause-clear g c =

@@ -28,10 +28,10 @@ pub arrive-requires : goal.arrive-requires
 arrive-requires g c = away.some_moving c.self.view_is c.self.invariant _ c.requires.may_move c.requires.accepted c.isolate-serial.new.self c.isolate-serial.ensures.noted
 
 pub empty-requires : goal.empty-requires
-empty-requires g c = (omega arith, away.source_holds c.self.view_is c.self.invariant _ c.requires.may_move c.requires.accepted)
+empty-requires g c = away.source_holds c.self.view_is c.self.invariant _ c.requires.may_move c.requires.accepted
 
 pub fill-requires : goal.fill-requires
-fill-requires g c = (omega arith, away.target_free_then c.self.view_is c.self.invariant _ c.requires.may_move c.requires.accepted c.empty.new.self c.empty.ensures.state)
+fill-requires g c = away.target_free_then c.self.view_is c.self.invariant _ c.requires.may_move c.requires.accepted c.empty.new.self c.empty.ensures.state
 
 pub to_migration-requires-clause-within : goal.to_migration-requires-clause-within
 to_migration-requires-clause-within g c = away.source_listed c.self.view_is c.self.invariant _ c.requires.may_move c.requires.accepted

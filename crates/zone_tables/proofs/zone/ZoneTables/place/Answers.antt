@@ -34,7 +34,7 @@ can c =
 
 pub fill-requires : goal.fill-requires
 fill-requires g c =
-    (omega arith, free_seen c.self.inside.frames.states c.args.self.now (is_sound c.self.view_is c.self.invariant).frames c.args.frame c.requires.within ∙ c.requires.free)
+    free_seen c.self.inside.frames.states c.args.self.now (is_sound c.self.view_is c.self.invariant).frames c.args.frame c.requires.within ∙ c.requires.free
 
 pub add-requires-clause-within : goal.add-requires-clause-within
 add-requires-clause-within g c =

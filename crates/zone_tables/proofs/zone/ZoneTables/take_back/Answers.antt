@@ -11,13 +11,7 @@ use Rattle.zone_tables.proofs.zone.ZoneTables.take_back.Goals.{After-note}
 pub release-requires : goal.release-requires
 release-requires g c =
     let sound = is_sound c.self.view_is c.self.invariant in
-    let held = order_held _ c.args.order c.requires.held in (
-      omega arith,
-      (
-        blocks.give_block c.self.inside c.args.self.now sound c.self.view_is c.args.first c.args.order held,
-        blocks.give_huge c.self.inside c.args.self.now sound c.self.view_is c.args.first c.args.order held,
-      ),
-    )
+    let held = order_held _ c.args.order c.requires.held in record { block = blocks.give_block c.self.inside c.args.self.now sound c.self.view_is c.args.first c.args.order held; huge = blocks.give_huge c.self.inside c.args.self.now sound c.self.view_is c.args.first c.args.order held }
 
 pub give-requires-clause-here : goal.give-requires-clause-here
 give-requires-clause-here g c =

@@ -11,7 +11,7 @@ use Rattle.zone_tables.proofs.zone.ZoneTables.unmap_last.Goals.{After-note}
 
 pub empty-requires : goal.empty-requires
 empty-requires g c =
-    (omega arith, ap is_holding_state (held_by c.self.inside.frames.states c.args.self.now (is_sound c.self.view_is c.self.invariant).frames c.args.page c.args.frame c.requires.here))
+    ap is_holding_state (held_by c.self.inside.frames.states c.args.self.now (is_sound c.self.view_is c.self.invariant).frames c.args.page c.args.frame c.requires.here)
 
 pub remove-requires : goal.remove-requires
 remove-requires g c = record { used = use_seen c.self.inside c.self.view_is c.args.page (not_none _ (At c.args.frame) c.requires.here) }
