@@ -4,7 +4,7 @@ use Rattle.std.specs.Prelude.{Option, Some, None, IsSome, Result, Ok, Err, IfOk,
 use Rattle.std.specs.FinMap as map
 use Rattle.std.specs.List.{list_any}
 use Rattle.std.specs.Option.{option_or}
-use Rattle.std.proofs.lemmas.Bool.{eq-eqb, ltb-true, not-false, or_left, or_right}
+use Rattle.std.proofs.lemmas.Bool.{and_parts, eq-eqb, ltb-true, not-false, or_left, or_right}
 use Rattle.std.proofs.lemmas.Bool.Decides.{eqb_tells}
 use Rattle.std.proofs.lemmas.List.{length-set, length-map, map-append}
 use Rattle.std.proofs.lemmas.Option.{slice_get_within}
@@ -201,7 +201,7 @@ frame_left_at z address frame accepted =
     let room = passed (not (has_room z)) JournalFull _ within.1 in
     let vacant = passed (is_some (page_at z.records address)) Occupied _ room.1 in
     let free = passed (not (is_free z frame)) NoFrame _ vacant.1 in
-    some_lowest z frame (not-false _ free.0) (ltb-true _ _ (not-false _ within.0))
+    some_lowest z frame (not-false _ free.0) (ltb-true _ _ (and_parts _ _ (not-false _ within.0)).1)
 
 -- a call leaves the moving pages and the fingers as they are
 pub record LeavesMoves (zone after : ZoneState) : Type 0 where
