@@ -138,7 +138,7 @@ fn work_beside_rounds<
     keeper: &mut Client,
     crowd: &mut [Client],
     plan: Plan,
-) -> Option<(Spread, u32)> {
+) -> Option<(Spread, u64)> {
     let flag = AtomicBool::new(false);
     let ended = &flag;
     let (times, moved) = join(
@@ -148,7 +148,7 @@ fn work_beside_rounds<
             ended.store(true, Ordering::SeqCst);
             times
         },
-        move || -> Option<u32> { run_rounds(rt, alloc, shared, seats, keeper, plan.room, ended) },
+        move || -> Option<u64> { run_rounds(rt, alloc, shared, seats, keeper, plan.room, ended) },
     );
     Some((times?, moved?))
 }

@@ -33,7 +33,7 @@ impl<Z: Names> Opening<Z> {
     }
 
     /// The scanners of a round meet, and it moves so many pages.
-    fn assert_meets<R: Runtime>(&mut self, rt: &R, copiers: usize, moved: u32) {
+    fn assert_meets<R: Runtime>(&mut self, rt: &R, copiers: usize, moved: u64) {
         let round = self.shared.round(rt, &mut self.seats, copiers, 3, &NoGate);
         assert!(rt; counts_of(&round) == (moved, moved, 0) && round.stopped == Stop::Met);
     }

@@ -151,7 +151,7 @@ fn a_round_moves_what_the_journal_has_room_for(rt: HostRuntime) {
         let count = (places.saturating_sub(pages) / 2).min(pages);
         let scene = Scene {
             pages,
-            counts: (count, count, 0),
+            counts: (u64::from(count), u64::from(count), 0),
             ..TWO_PAGES
         };
         tries(&rt, 1, Some(places), Trial::Plays(&scene));
