@@ -36,7 +36,7 @@ to_target-requires g c =
     let sound = is_sound c.self.view_is c.self.invariant in
     let to = c.requires.pair.to in
     let low = to.low in still_free c.self.inside.frames c.to_source.new.self c.args.pair.target c.args.pair.source (Source c.isolate-serial.result) (λ e. absurd (omega arith)) c.to_source.ensures.state
-          (free_seen c.self.inside.frames.states c.args.self.now sound.frames c.args.pair.target (target_within c.args.self.now c.args.pair sound.valid c.requires.pair) ∙ to.free)
+    (free_seen c.self.inside.frames.states c.args.self.now sound.frames c.args.pair.target (target_within c.args.self.now c.args.pair sound.valid c.requires.pair) ∙ to.free)
 
 pub isolate-serial-requires-clause-within : goal.isolate-serial-requires-clause-within
 isolate-serial-requires-clause-within g c =
