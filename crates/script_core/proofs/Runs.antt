@@ -1,7 +1,7 @@
 -- Each command keeps the world of a run orderly.
 use Rattle.std.proofs.Common.{◌≡◌, ℕ, ◌*◌, ◌<◌, ◌≤◌, Bool, true, false, refl, sym, subst, arith, Option, Some, None}
 use Rattle.std.specs.Prelude.{nat_eq, if◌then◌else◌}
-use Rattle.state_core.specs.Opening.{opened}
+use Rattle.state_core.specs.Opening.{opened, size_of_blocks}
 use Rattle.state_core.proofs.Opened.{opened_valid}
 use Rattle.zone_core.specs.Seats.{fresh_end_seat, fresh_scan_seat}
 use Rattle.machine_core.specs.World.{IsOrderly, WorldState, world_opened}
@@ -69,4 +69,4 @@ module _ (places : ℕ) where
 
 pub opened_orderly : (zone blocks places : ℕ) → (0 < blocks) × (blocks ≤ 8) → (0 < places) × (places ≤ 65536) → IsOrderly (world_opened zone blocks places)
 opened_orderly zone blocks places b p =
-    (carried_closed (opened zone blocks places) fresh_scan_seat fresh_end_seat (opened_valid 8 zone blocks places (b.0, omega (arith, b.1)) (omega (arith, p.1))) refl (λ serial. refl) (256 * blocks) refl).orderly
+    (carried_closed (opened zone blocks places) fresh_scan_seat fresh_end_seat (opened_valid 8 zone (size_of_blocks blocks) places ((b.0, omega (arith, b.1)), omega arith, omega arith, omega arith, omega arith, omega arith) (omega (arith, p.1))) refl (λ serial. refl) (256 * blocks) refl).orderly
