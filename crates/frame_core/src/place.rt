@@ -1,4 +1,4 @@
-ghost use Rattle.std.specs.Prelude.{◌≡◌, ℕ, ◌*◌, ◌/◌, ◌<◌, ◌↔◌, IsSome, IfSome};
+ghost use Rattle.std.specs.Prelude.{◌≡◌, ℕ, ◌+◌, ◌*◌, ◌/◌, ◌%◌, ◌<◌, ◌↔◌, IsSome, IfSome};
 
 use std::marker::Model;
 
@@ -217,20 +217,23 @@ const VPAGES: u32 = 4096;
 
 const MOST_VPAGES: u32 = 16777216;
 
-/// A virtual page's number in its space: 0 to 4095 in a zone that a script opens, and 0 to 16,777,215 in any.
+/// A virtual page's number in its space: 0 to 4095 in a zone that a script opens, and 0 to 16,777,215 in any. It is kept in three bytes, the
+/// highest first, so that an address takes four.
 #[derive(Clone, Copy, Debug, Default, PartialEq, Eq, PartialOrd, Ord, Hash)]
 pub struct VPage {
-    vpage: u32,
+    high: u8,
+    middle: u8,
+    low: u8,
 }
 
 impl Model for VPage {
     ghost Value = { ℕ };
 
-    ghost view = { λ n. n.vpage };
+    ghost view = { λ n. 65536 * n.high + 256 * n.middle + n.low };
 
-    ghost invariant = { λ n. n.vpage < 16777216 };
+    ghost invariant = { λ n. (n.high < 256) × (n.middle < 256) × (n.low < 256) };
 
-    ghost inverse = { λ n. record { vpage = n } };
+    ghost inverse = { λ n. record { high = n / 65536; middle = (n / 256) % 256; low = n % 256 } };
 }
 
 impl VPage {
@@ -240,7 +243,7 @@ impl VPage {
         ensures value { IfSome result (λ n. n ≡ number) }
     {
         if number < VPAGES {
-            Some(VPage { vpage: number })
+            VPage::in_any_zone(number)
         } else {
             None
         }
@@ -252,7 +255,11 @@ impl VPage {
         ensures value { IfSome result (λ n. n ≡ number) }
     {
         if number < MOST_VPAGES {
-            Some(VPage { vpage: number })
+            Some(VPage {
+                high: (number / 65536) as u8,
+                middle: (number / 256 % 256) as u8,
+                low: (number % 256) as u8,
+            })
         } else {
             None
         }
@@ -263,7 +270,7 @@ impl VPage {
         ensures value { result ≡ self }
         ensures range { result < 16777216 }
     {
-        self.vpage
+        65536 * u32::from(self.high) + 256 * u32::from(self.middle) + u32::from(self.low)
     }
 }
 
