@@ -15,5 +15,6 @@ pub mod Order
 pub mod Page
 pub mod PageFlags
 pub mod Serials
+pub mod Tagged
 pub mod Truth
 pub mod Words

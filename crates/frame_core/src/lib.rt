@@ -34,6 +34,7 @@ mod place;
 mod record;
 mod seen;
 mod state;
+mod tagged;
 mod words;
 
 pub use access::{Access, AccessKind};
@@ -51,6 +52,7 @@ pub use page::Page as PageOf;
 pub use place::{Address, BlockNo, FrameNo, SpaceNo, VPage, ZoneNo, block_of, first_frame};
 pub use record::{Cause, Record};
 pub use state::{FrameState, Serial};
+pub use tagged::Tagged;
 pub use words::Words as WordsOf;
 
 /// A word's number in a page of eight words, 0 to 7.
