@@ -42,7 +42,7 @@ unfolding count_from
 either_from p q first n apart = either_below (λ k. p (first + k)) (λ k. q (first + k)) n (λ k. apart (first + k))
 
 -- the page of an open frame may be taken from it
-open_holds : (state : Option FrameState) (movable : Bool) → (is_free_state state || is_source_state state movable) ≡ true → is_source_state state movable ≡ is_holding_state state
+open_holds : (state : Option (FrameState ℕ)) (movable : Bool) → (is_free_state state || is_source_state state movable) ≡ true → is_source_state state movable ≡ is_holding_state state
 open_holds (Some Free) movable is = refl
 open_holds (Some (Holds page)) movable is = is
 open_holds (Some Huge) movable is = refl

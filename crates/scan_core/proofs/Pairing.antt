@@ -12,7 +12,7 @@ use Rattle.scan_core.specs.Pairs.{IsSource, IsTarget, IsPair, is_marked, is_sour
 use Rattle.frame_core.proofs.Bounds.{highest_some, highest_above, no_highest}
 use Rattle.scan_core.proofs.Masking.{clash}
 
-module _ (states : List FrameState) (movable marked : List Bool) (fingers : Fingers) where
+module _ (states : List (FrameState ℕ)) (movable marked : List Bool) (fingers : Fingers) where
   source_stops : (frame : ℕ) → IsSource states movable marked fingers frame → (nat_le fingers.migrate frame && is_source states movable marked frame) ≡ true
   source_stops frame is =
       let low = le-leb fingers.migrate frame is.low in

@@ -28,13 +28,13 @@ and_within : (a b c : Bool) → (c ≡ true → b ≡ true) → (a && c) ≡ ((a
 and_within a b c gives = grind (arith, gives)
 
 -- a free frame stands within the list
-pub free_within : (states : List FrameState) (frame : ℕ) → free_at states frame ≡ true → frame < length states
+pub free_within : (states : List (FrameState ℕ)) (frame : ℕ) → free_at states frame ≡ true → frame < length states
 free_within states frame free = elim (leb_tells (length states) frame) [
   | inl past ↦ absurd (clash (free_at states frame) free (not_free_past states frame past.1))
   | inr under ↦ under.1
 ]
 
-module _ (states : List FrameState) (order : ℕ) where
+module _ (states : List (FrameState ℕ)) (order : ℕ) where
   run_ends_within : (first : ℕ) → all_from (free_at states) first (2 ^ order) ≡ true → nat_le (first + 2 ^ order) (length states) ≡ true
   run_ends_within first all =
       let some : 0 < 2 ^ order = pow_pos order in
@@ -47,7 +47,7 @@ module _ (states : List FrameState) (order : ℕ) where
   pub first_run_is : lowest (is_run_of (free_at states) order) (length states) ≡ first_run states order
   first_run_is = lowest_same (is_run_of (free_at states) order) (is_run states order) (length states) (λ k h. run_of_is_run k)
 
-pub if_some_within : (states : List FrameState) (o : Option ℕ) → IfSome o (λ frame. free_at states frame ≡ true) → IfSome o (λ frame. frame < length states)
+pub if_some_within : (states : List (FrameState ℕ)) (o : Option ℕ) → IfSome o (λ frame. free_at states frame ≡ true) → IfSome o (λ frame. frame < length states)
 if_some_within states None free = free
 if_some_within states (Some frame) free = free_within states frame free
 

@@ -28,34 +28,34 @@ use Rattle.scan_core.proofs.RunCounts.{Adds, counted_less, counted_most, counted
 use Rattle.scan_core.proofs.Seeing.{length_seen, same_items, seen_get, seen_put, seen_held, seen_released, seen_none_held, seen_state, with_run_get, skipped, taken}
 use Rattle.scan_core.proofs.Spanning.{both}
 
-free_kept : (h : Bool) (o : Option FrameState) → is_free_state (seen_state h o) ≡ true → o ≡ Some Free
+free_kept : (h : Bool) (o : Option (FrameState ℕ)) → is_free_state (seen_state h o) ≡ true → o ≡ Some Free
 free_kept true None e = cc
 free_kept true (Some x) e = cc
 free_kept false (Some Free) e = refl
 free_kept false _ e = cc
 
-huge_held : (h : Bool) (o : Option FrameState) → is_huge_state o ≡ false → is_huge_state (seen_state h o) ≡ true → h ≡ true
+huge_held : (h : Bool) (o : Option (FrameState ℕ)) → is_huge_state o ≡ false → is_huge_state (seen_state h o) ≡ true → h ≡ true
 huge_held true o never e = refl
 huge_held false o never e = absurd (clash (is_huge_state o) e never)
 
-free_not_stuck : (o : Option FrameState) (movable : Bool) → is_free_state o ≡ true → is_stuck_state o movable ≡ false
+free_not_stuck : (o : Option (FrameState ℕ)) (movable : Bool) → is_free_state o ≡ true → is_stuck_state o movable ≡ false
 free_not_stuck None m e = refl
 free_not_stuck (Some Free) m e = refl
 free_not_stuck _ m e = cc
 
-huge_stuck : (o : Option FrameState) (movable : Bool) → is_huge_state o ≡ true → is_stuck_state o movable ≡ true
+huge_stuck : (o : Option (FrameState ℕ)) (movable : Bool) → is_huge_state o ≡ true → is_stuck_state o movable ≡ true
 huge_stuck o m e = ap (λ b. b || (is_holding_state o && not m)) e
 
-huge_not_free : (o : Option FrameState) → is_huge_state o ≡ true → is_free_state o ≡ false
+huge_not_free : (o : Option (FrameState ℕ)) → is_huge_state o ≡ true → is_free_state o ≡ false
 huge_not_free (Some Free) e = cc
 huge_not_free _ e = refl
 
-pub free_not_source : (o : Option FrameState) (movable : Bool) → is_free_state o ≡ true → is_source_state o movable ≡ false
+pub free_not_source : (o : Option (FrameState ℕ)) (movable : Bool) → is_free_state o ≡ true → is_source_state o movable ≡ false
 free_not_source None m e = refl
 free_not_source (Some Free) m e = refl
 free_not_source _ m e = cc
 
-huge_not_source : (o : Option FrameState) (movable : Bool) → is_huge_state o ≡ true → is_source_state o movable ≡ false
+huge_not_source : (o : Option (FrameState ℕ)) (movable : Bool) → is_huge_state o ≡ true → is_source_state o movable ≡ false
 huge_not_source (Some (Holds page)) m e = cc
 huge_not_source None m e = refl
 huge_not_source _ m e = refl
@@ -68,7 +68,7 @@ set_same xs i x within is = same_items xs (slice_set xs i x) (λ n. elim (eqb_te
 ])
 
 -- a test of each frame, after the state and the flag of one frame were written
-written : (f : Option FrameState → Bool → Bool) (states : List FrameState) (movable : List Bool) (frame : ℕ) (state : FrameState) (flag : Bool) → frame < length states → frame < length movable → (n : ℕ) → f (slice_get (slice_set states frame state) n) (true_at (slice_set movable frame flag) n) ≡ (if nat_eq n frame then f (Some state) flag else f (slice_get states n) (true_at movable n))
+written : (f : Option (FrameState ℕ) → Bool → Bool) (states : List (FrameState ℕ)) (movable : List Bool) (frame : ℕ) (state : FrameState ℕ) (flag : Bool) → frame < length states → frame < length movable → (n : ℕ) → f (slice_get (slice_set states frame state) n) (true_at (slice_set movable frame flag) n) ≡ (if nat_eq n frame then f (Some state) flag else f (slice_get states n) (true_at movable n))
 written f states movable frame state flag within there n = elim (eqb_tells n frame) [
   | inl at ↦ ((λ i. f (slice_get_set_same states frame n state at.1 within i) (unwrap_or (slice_get_set_same movable frame n flag at.1 there i) false))
       ∙ sym (taken (nat_eq n frame) (f (Some state) flag) (f (slice_get states n) (true_at movable n)) (eq-eqb n frame at.1)))
@@ -77,7 +77,7 @@ written f states movable frame state flag within there n = elim (eqb_tells n fra
 ]
 
 -- a test of each frame, after the states of a run were written
-run_written : (f : Option FrameState → Bool → Bool) (states : List FrameState) (movable : List Bool) (first count : ℕ) (state : FrameState) → first + count ≤ length states → (n : ℕ) → f (slice_get (with_run states first count state) n) (true_at movable n) ≡ (if in_run first count n then f (Some state) (true_at movable n) else f (slice_get states n) (true_at movable n))
+run_written : (f : Option (FrameState ℕ) → Bool → Bool) (states : List (FrameState ℕ)) (movable : List Bool) (first count : ℕ) (state : FrameState ℕ) → first + count ≤ length states → (n : ℕ) → f (slice_get (with_run states first count state) n) (true_at movable n) ≡ (if in_run first count n then f (Some state) (true_at movable n) else f (slice_get states n) (true_at movable n))
 run_written f states movable first count state within n =
     ap (λ o. f o (true_at movable n)) (with_run_get states first count state n within) ∙ cases (in_run first count n)
   where
@@ -111,7 +111,7 @@ module _ (z : Inside) (sound : IsSound z) where
     by_test false is = refl
 
   -- a frame whose state passes a test that no frame outside passes is in the list
-  pub known_within : (f : Option FrameState → Bool) (frame : ℕ) → f None ≡ false → f (slice_get (seen z.held.members z.kept.items) frame) ≡ true → frame < length z.kept.items
+  pub known_within : (f : Option (FrameState ℕ) → Bool) (frame : ℕ) → f None ≡ false → f (slice_get (seen z.held.members z.kept.items) frame) ≡ true → frame < length z.kept.items
   known_within f frame none is = elim (leb_tells (length (seen z.held.members z.kept.items)) frame) [
     | inl past ↦ absurd (clash _ is (ap f (slice_get_past (seen z.held.members z.kept.items) frame past.1) ∙ none))
     | inr under ↦ omega (arith, seen_length, under.1)
@@ -125,7 +125,7 @@ module _ (z : Inside) (sound : IsSound z) where
   frame_block frame within = omega (arith, sound.stuck_blocks, sound.whole, within)
 
   -- one frame, which isn't of a block that is handed out, is used for something else
-  pub sound_put : (kept : FixedVec FrameState) (movable : FixedVec Bool) (free sources : Numbers) (stuck : List ℕ) (frame index : ℕ) (state : FrameState) (flag was : Bool) → huge_at (seen z.held.members z.kept.items) frame ≡ false → is_huge_state (Some state) ≡ false → frame < length z.kept.items → index ≡ frame → kept.items ≡ slice_set z.kept.items index state → movable.items ≡ slice_set z.movable.items index flag → ((n : ℕ) → set.contains free.members n ≡ (if nat_eq n frame then is_free_state (Some state) else set.contains z.free.members n)) → free.bound ≡ z.free.bound → ((n : ℕ) → set.contains sources.members n ≡ (if nat_eq n frame then is_source_state (Some state) flag else set.contains z.candidates.sources.members n)) → sources.bound ≡ z.candidates.sources.bound → stuck_at (seen z.held.members z.kept.items) z.movable.items frame ≡ was → stuck ≡ recounted was (is_stuck_state (Some state) flag) z.candidates.stuck (frame / 512) → IsSound (record z { kept = kept; movable = movable; free = free; candidates = record { sources = sources; stuck = stuck } }) × (seen z.held.members kept.items ≡ slice_set (seen z.held.members z.kept.items) frame state)
+  pub sound_put : (kept : FixedVec (FrameState ℕ)) (movable : FixedVec Bool) (free sources : Numbers) (stuck : List ℕ) (frame index : ℕ) (state : FrameState ℕ) (flag was : Bool) → huge_at (seen z.held.members z.kept.items) frame ≡ false → is_huge_state (Some state) ≡ false → frame < length z.kept.items → index ≡ frame → kept.items ≡ slice_set z.kept.items index state → movable.items ≡ slice_set z.movable.items index flag → ((n : ℕ) → set.contains free.members n ≡ (if nat_eq n frame then is_free_state (Some state) else set.contains z.free.members n)) → free.bound ≡ z.free.bound → ((n : ℕ) → set.contains sources.members n ≡ (if nat_eq n frame then is_source_state (Some state) flag else set.contains z.candidates.sources.members n)) → sources.bound ≡ z.candidates.sources.bound → stuck_at (seen z.held.members z.kept.items) z.movable.items frame ≡ was → stuck ≡ recounted was (is_stuck_state (Some state) flag) z.candidates.stuck (frame / 512) → IsSound (record z { kept = kept; movable = movable; free = free; candidates = record { sources = sources; stuck = stuck } }) × (seen z.held.members kept.items ≡ slice_set (seen z.held.members z.kept.items) frame state)
   sound_put kept movable free sources stuck frame index state flag was known not_huge within at items flags free_put free_same sources_put sources_same was_is recounts =
       let states = seen z.held.members z.kept.items in
       let list : kept.items ≡ slice_set z.kept.items frame state = items ∙ ap (λ k. slice_set z.kept.items k state) at in
@@ -134,7 +134,7 @@ module _ (z : Inside) (sound : IsSound z) where
       let len : length kept.items ≡ length z.kept.items = ap length list ∙ length-set z.kept.items frame state in
       let flag_len : length movable.items ≡ length z.movable.items = ap length flag_list ∙ length-set z.movable.items frame flag in
       let there : frame < length states = omega (arith, seen_length, within) in
-      let test = λ (f : Option FrameState → Bool → Bool) (n : ℕ).
+      let test = λ (f : Option (FrameState ℕ) → Bool → Bool) (n : ℕ).
       (λ i. f (slice_get (view i) n) (true_at (flag_list i) n)) ∙ written f states z.movable.items frame state flag there (frame_flag frame within) n in
       let counts : CountsEach stuck (stuck_at (seen z.held.members kept.items) movable.items) =
       subst (λ (xs : List ℕ). CountsEach xs (stuck_at (seen z.held.members kept.items) movable.items)) (sym recounts)
@@ -145,11 +145,11 @@ module _ (z : Inside) (sound : IsSound z) where
           some = omega (arith, len, sound.some);
           few = omega (arith, len, sound.few);
           movable = flag_len ∙ sound.movable ∙ sym len;
-          never_huge = λ n. ap (λ (xs : List FrameState). huge_at xs n) list ∙ elim (eqb_tells n frame) [
+          never_huge = λ n. ap (λ (xs : List (FrameState ℕ)). huge_at xs n) list ∙ elim (eqb_tells n frame) [
             | inl here ↦ (ap is_huge_state (slice_get_set_same z.kept.items frame n state here.1 within) ∙ not_huge)
             | inr away ↦ (ap is_huge_state (slice_get_set_other z.kept.items frame n state away.1) ∙ sound.never_huge n)
           ];
-          held = λ n e. ap (λ (xs : List FrameState). slice_get xs n) list ∙ elim (eqb_tells n frame) [
+          held = λ n e. ap (λ (xs : List (FrameState ℕ)). slice_get xs n) list ∙ elim (eqb_tells n frame) [
             | inl here ↦ absurd (clash (set.contains z.held.members n) e (ap (set.contains z.held.members) here.1 ∙ not_held frame known))
             | inr away ↦ (slice_get_set_other z.kept.items frame n state away.1 ∙ sound.held n e)
           ];
@@ -170,8 +170,8 @@ module _ (z : Inside) (sound : IsSound z) where
       let states = seen z.held.members z.kept.items in
       let view = seen_held (set.contains z.held.members) (set.contains held.members) z.kept.items first count within held_each in
       let there : first + count ≤ length states = omega (arith, seen_length, within) in
-      let test = λ (f : Option FrameState → Bool → Bool) (n : ℕ).
-      ap (λ (xs : List FrameState). f (slice_get xs n) (true_at z.movable.items n)) view ∙ run_written f states z.movable.items first count Huge there n in
+      let test = λ (f : Option (FrameState ℕ) → Bool → Bool) (n : ℕ).
+      ap (λ (xs : List (FrameState ℕ)). f (slice_get xs n) (true_at z.movable.items n)) view ∙ run_written f states z.movable.items first count Huge there n in
       let adds : Adds (stuck_at states z.movable.items) (stuck_at (seen held.members z.kept.items) z.movable.items) first count = record {
         none = λ n inside. free_not_stuck (slice_get states n) (true_at z.movable.items n) (all n inside);
         each = λ n. test is_stuck_state n ∙ then_true (in_run first count n) (stuck_at states z.movable.items n);
@@ -199,7 +199,7 @@ module _ (z : Inside) (sound : IsSound z) where
         view,
       )
     where
-      held_or : (c h : Bool) (o : Option FrameState) → (c || h) ≡ true → (c ≡ true → o ≡ Some Free) → (h ≡ true → o ≡ Some Free) → o ≡ Some Free
+      held_or : (c h : Bool) (o : Option (FrameState ℕ)) → (c || h) ≡ true → (c ≡ true → o ≡ Some Free) → (h ≡ true → o ≡ Some Free) → o ≡ Some Free
       held_or true h o e inside outside = inside refl
       held_or false h o e inside outside = outside e
 
@@ -212,8 +212,8 @@ module _ (z : Inside) (sound : IsSound z) where
       let states = seen z.held.members z.kept.items in
       let view = seen_released (set.contains z.held.members) (set.contains held.members) z.kept.items first count within held_each (λ n inside. sound.held n (is_held n (all n inside))) in
       let there : first + count ≤ length states = omega (arith, seen_length, within) in
-      let test = λ (f : Option FrameState → Bool → Bool) (n : ℕ).
-      ap (λ (xs : List FrameState). f (slice_get xs n) (true_at z.movable.items n)) view ∙ run_written f states z.movable.items first count Free there n in
+      let test = λ (f : Option (FrameState ℕ) → Bool → Bool) (n : ℕ).
+      ap (λ (xs : List (FrameState ℕ)). f (slice_get xs n) (true_at z.movable.items n)) view ∙ run_written f states z.movable.items first count Free there n in
       let adds : Adds (stuck_at (seen held.members z.kept.items) z.movable.items) (stuck_at states z.movable.items) first count = record {
         none = λ n inside. test is_stuck_state n ∙ ap (λ b. if b then false else stuck_at states z.movable.items n) inside;
         each = λ n. back_true (in_run first count n) (stuck_at states z.movable.items n) (λ inside. huge_stuck (slice_get states n) (true_at z.movable.items n) (all n inside))
@@ -242,49 +242,49 @@ module _ (z : Inside) (sound : IsSound z) where
       )
 
 -- what one test of a state says about the others
-free_not_huge : (o : Option FrameState) → is_free_state o ≡ true → is_huge_state o ≡ false
+free_not_huge : (o : Option (FrameState ℕ)) → is_free_state o ≡ true → is_huge_state o ≡ false
 free_not_huge (Some Huge) e = cc
 free_not_huge _ e = refl
 
-page_only : (o : Option FrameState) → is_holding_state o ≡ true → (is_huge_state o ≡ false) × (is_free_state o ≡ false)
+page_only : (o : Option (FrameState ℕ)) → is_holding_state o ≡ true → (is_huge_state o ≡ false) × (is_free_state o ≡ false)
 page_only (Some Free) e = cc
 page_only (Some Huge) e = cc
 page_only _ e = (refl, refl)
 
-stuck_if_page : (o : Option FrameState) (movable : Bool) → is_holding_state o ≡ true → is_stuck_state o movable ≡ not movable
+stuck_if_page : (o : Option (FrameState ℕ)) (movable : Bool) → is_holding_state o ≡ true → is_stuck_state o movable ≡ not movable
 stuck_if_page (Some (Holds page)) m e = refl
 stuck_if_page _ m e = cc
 
-way_only : (o : Option FrameState) (movable : Bool) → is_way_state o ≡ true → (is_huge_state o ≡ false) × (is_free_state o ≡ false) × (is_stuck_state o movable ≡ false)
+way_only : (o : Option (FrameState ℕ)) (movable : Bool) → is_way_state o ≡ true → (is_huge_state o ≡ false) × (is_free_state o ≡ false) × (is_stuck_state o movable ≡ false)
 way_only (Some Free) m e = cc
 way_only (Some (Holds page)) m e = cc
 way_only (Some Huge) m e = cc
 way_only _ m e = (refl, refl, refl)
 
-some_state : (f : Option FrameState → Bool) (o : Option FrameState) → f None ≡ false → f o ≡ true → (x : FrameState) × (o ≡ Some x)
+some_state : (f : Option (FrameState ℕ) → Bool) (o : Option (FrameState ℕ)) → f None ≡ false → f o ≡ true → (x : FrameState ℕ) × (o ≡ Some x)
 some_state f None none is = absurd (clash (f None) is none)
 some_state f (Some x) none is = (x, refl)
 
-way_not_source : (o : Option FrameState) (movable : Bool) → is_way_state o ≡ true → is_source_state o movable ≡ false
+way_not_source : (o : Option (FrameState ℕ)) (movable : Bool) → is_way_state o ≡ true → is_source_state o movable ≡ false
 way_not_source (Some (Holds page)) m e = cc
 way_not_source None m e = refl
 way_not_source _ m e = refl
 
-page_of : (o : Option FrameState) → is_holding_state o ≡ true → (page : ℕ) × (o ≡ Some (Holds page))
+page_of : (o : Option (FrameState ℕ)) → is_holding_state o ≡ true → (page : ℕ) × (o ≡ Some (Holds page))
 page_of (Some (Holds page)) e = (page, refl)
 page_of _ e = cc
 
 module _ {now : Frames} (z : Inside) (sound : IsSound z) (view : frames_of z ≡ now) (frame : ℕ) where
-  abbrev was : Option FrameState
+  abbrev was : Option (FrameState ℕ)
   was = slice_get (seen z.held.members z.kept.items) frame
 
   abbrev flag : Bool
   flag = true_at z.movable.items frame
 
-  pub seen_test : (f : Option FrameState → Bool) → f (slice_get now.states frame) ≡ true → f was ≡ true
+  pub seen_test : (f : Option (FrameState ℕ) → Bool) → f (slice_get now.states frame) ≡ true → f was ≡ true
   seen_test f is = ap (λ (frames : Frames). f (slice_get frames.states frame)) view ∙ is
 
-  pub is_within : (f : Option FrameState → Bool) → f None ≡ false → f (slice_get now.states frame) ≡ true → frame < length z.kept.items
+  pub is_within : (f : Option (FrameState ℕ) → Bool) → f None ≡ false → f (slice_get now.states frame) ≡ true → frame < length z.kept.items
   is_within f none is = known_within z sound f frame none (seen_test f is)
 
   -- a frame of the zone is one that the sets have room for
@@ -357,11 +357,11 @@ module _ {now : Frames} (z : Inside) (sound : IsSound z) (view : frames_of z ≡
   free_removed free now n = ap (λ (s : Numbers). set.contains s.members n) now ∙ member_remove z.free.members frame n ∙ remove_if (nat_eq n frame) (set.contains z.free.members n) false refl
 
   -- the fields are sound after a frame was given a state, and the states are seen with it
-  abbrev pub IsPut : FixedVec FrameState → FixedVec Bool → Numbers → Numbers → List ℕ → FrameState → Type 0
+  abbrev pub IsPut : FixedVec (FrameState ℕ) → FixedVec Bool → Numbers → Numbers → List ℕ → FrameState ℕ → Type 0
   IsPut kept movable free sources stuck state = IsSound (record z { kept = kept; movable = movable; free = free; candidates = record { sources = sources; stuck = stuck } }) × (seen z.held.members kept.items ≡ slice_set now.states frame state)
 
   module _ (index : ℕ) (at : index ≡ frame) where
-    put : (kept : FixedVec FrameState) (movable : FixedVec Bool) (free sources : Numbers) (stuck : List ℕ) (state : FrameState) (said was_stuck : Bool) → huge_at (seen z.held.members z.kept.items) frame ≡ false → is_huge_state (Some state) ≡ false → frame < length z.kept.items → kept.items ≡ slice_set z.kept.items index state → movable.items ≡ slice_set z.movable.items index said → ((n : ℕ) → set.contains free.members n ≡ (if nat_eq n frame then is_free_state (Some state) else set.contains z.free.members n)) → free.bound ≡ z.free.bound → ((n : ℕ) → set.contains sources.members n ≡ (if nat_eq n frame then is_source_state (Some state) said else set.contains z.candidates.sources.members n)) → sources.bound ≡ z.candidates.sources.bound → stuck_at (seen z.held.members z.kept.items) z.movable.items frame ≡ was_stuck → stuck ≡ recounted was_stuck (is_stuck_state (Some state) said) z.candidates.stuck (frame / 512) → IsPut kept movable free sources stuck state
+    put : (kept : FixedVec (FrameState ℕ)) (movable : FixedVec Bool) (free sources : Numbers) (stuck : List ℕ) (state : FrameState ℕ) (said was_stuck : Bool) → huge_at (seen z.held.members z.kept.items) frame ≡ false → is_huge_state (Some state) ≡ false → frame < length z.kept.items → kept.items ≡ slice_set z.kept.items index state → movable.items ≡ slice_set z.movable.items index said → ((n : ℕ) → set.contains free.members n ≡ (if nat_eq n frame then is_free_state (Some state) else set.contains z.free.members n)) → free.bound ≡ z.free.bound → ((n : ℕ) → set.contains sources.members n ≡ (if nat_eq n frame then is_source_state (Some state) said else set.contains z.candidates.sources.members n)) → sources.bound ≡ z.candidates.sources.bound → stuck_at (seen z.held.members z.kept.items) z.movable.items frame ≡ was_stuck → stuck ≡ recounted was_stuck (is_stuck_state (Some state) said) z.candidates.stuck (frame / 512) → IsPut kept movable free sources stuck state
     put kept movable free sources stuck state said was_stuck known not_huge within items flags free_put free_same sources_put sources_same was_is recounts =
         let done = sound_put z sound kept movable free sources stuck frame index state said was_stuck known not_huge within at items flags free_put free_same sources_put sources_same was_is recounts in
         (done.0, done.1 ∙ ap (λ (frames : Frames). slice_set frames.states frame state) view)
@@ -370,40 +370,40 @@ module _ {now : Frames} (z : Inside) (sound : IsSound z) (view : frames_of z ≡
     flag_stays within = set_same z.movable.items frame flag (frame_flag z sound frame within) (flag_read within) ∙ ap (λ k. slice_set z.movable.items k flag) (sym at)
 
     -- a page is put into a free frame
-    pub sound_filled : (kept : FixedVec FrameState) (movable : FixedVec Bool) (free sources : Numbers) (stuck : List ℕ) (page : ℕ) (said : Bool) → free_at now.states frame ≡ true → kept.items ≡ slice_set z.kept.items index (Holds page) → movable.items ≡ slice_set z.movable.items index said → free ≡ record z.free { members = set.remove z.free.members frame } → ((n : ℕ) → set.contains sources.members n ≡ (if nat_eq n frame then said else set.contains z.candidates.sources.members n)) → sources.bound ≡ z.candidates.sources.bound → stuck ≡ recounted false (not said) z.candidates.stuck (frame / 512) → IsPut kept movable free sources stuck (Holds page)
+    pub sound_filled : (kept : FixedVec (FrameState ℕ)) (movable : FixedVec Bool) (free sources : Numbers) (stuck : List ℕ) (page : ℕ) (said : Bool) → free_at now.states frame ≡ true → kept.items ≡ slice_set z.kept.items index (Holds page) → movable.items ≡ slice_set z.movable.items index said → free ≡ record z.free { members = set.remove z.free.members frame } → ((n : ℕ) → set.contains sources.members n ≡ (if nat_eq n frame then said else set.contains z.candidates.sources.members n)) → sources.bound ≡ z.candidates.sources.bound → stuck ≡ recounted false (not said) z.candidates.stuck (frame / 512) → IsPut kept movable free sources stuck (Holds page)
     sound_filled kept movable free sources stuck page said is_free items flags removed sources_put sources_same recounts =
         put kept movable free sources stuck (Holds page) said false (free_not_huge was (seen_test is_free_state is_free)) refl (is_within is_free_state refl is_free) items flags (free_removed free removed) (ap (λ (s : Numbers). s.bound) removed) sources_put sources_same (free_isnt_stuck is_free) recounts
 
     -- a page's move ends in one of its two frames
-    pub sound_settled : (kept : FixedVec FrameState) (movable : FixedVec Bool) (sources : Numbers) (stuck : List ℕ) (page : ℕ) (said : Bool) → way_at now.states frame ≡ true → kept.items ≡ slice_set z.kept.items index (Holds page) → movable.items ≡ slice_set z.movable.items index said → ((n : ℕ) → set.contains sources.members n ≡ (if nat_eq n frame then said else set.contains z.candidates.sources.members n)) → sources.bound ≡ z.candidates.sources.bound → stuck ≡ recounted false (not said) z.candidates.stuck (frame / 512) → IsPut kept movable z.free sources stuck (Holds page)
+    pub sound_settled : (kept : FixedVec (FrameState ℕ)) (movable : FixedVec Bool) (sources : Numbers) (stuck : List ℕ) (page : ℕ) (said : Bool) → way_at now.states frame ≡ true → kept.items ≡ slice_set z.kept.items index (Holds page) → movable.items ≡ slice_set z.movable.items index said → ((n : ℕ) → set.contains sources.members n ≡ (if nat_eq n frame then said else set.contains z.candidates.sources.members n)) → sources.bound ≡ z.candidates.sources.bound → stuck ≡ recounted false (not said) z.candidates.stuck (frame / 512) → IsPut kept movable z.free sources stuck (Holds page)
     sound_settled kept movable sources stuck page said way items flags sources_put sources_same recounts =
         put kept movable z.free sources stuck (Holds page) said false (way_only was flag (seen_test is_way_state way)).0 refl (is_within is_way_state refl way) items flags (λ n. keep_if n frame (set.contains z.free.members) false (way_isnt_free way)) refl sources_put sources_same (way_isnt_stuck way) recounts
 
     -- the page of a frame goes out of use, and the frame is free
-    pub sound_emptied : (kept : FixedVec FrameState) (free sources : Numbers) (stuck : List ℕ) (read : Bool) → holds_at now.states frame ≡ true → kept.items ≡ slice_set z.kept.items index Free → free ≡ record z.free { members = set.insert z.free.members frame } → read ≡ flag → ((n : ℕ) → set.contains sources.members n ≡ (if nat_eq n frame then false else set.contains z.candidates.sources.members n)) → sources.bound ≡ z.candidates.sources.bound → stuck ≡ recounted (not read) false z.candidates.stuck (frame / 512) → IsPut kept z.movable free sources stuck Free
+    pub sound_emptied : (kept : FixedVec (FrameState ℕ)) (free sources : Numbers) (stuck : List ℕ) (read : Bool) → holds_at now.states frame ≡ true → kept.items ≡ slice_set z.kept.items index Free → free ≡ record z.free { members = set.insert z.free.members frame } → read ≡ flag → ((n : ℕ) → set.contains sources.members n ≡ (if nat_eq n frame then false else set.contains z.candidates.sources.members n)) → sources.bound ≡ z.candidates.sources.bound → stuck ≡ recounted (not read) false z.candidates.stuck (frame / 512) → IsPut kept z.movable free sources stuck Free
     sound_emptied kept free sources stuck read page items inserted is_flag sources_put sources_same recounts =
         put kept z.movable free sources stuck Free flag (not read) (page_only was (seen_test is_holding_state page)).0 refl (is_within is_holding_state refl page) items (flag_stays (is_within is_holding_state refl page)) (free_inserted free inserted) (ap (λ (s : Numbers). s.bound) inserted) sources_put sources_same (page_is_stuck page ∙ ap not (sym is_flag)) recounts
 
     -- a frame with a movable page becomes a source
-    pub sound_to_source : (kept : FixedVec FrameState) (sources : Numbers) (serial : ℕ) → holds_at now.states frame ≡ true → true_at now.movable frame ≡ true → kept.items ≡ slice_set z.kept.items index (Source serial) → sources ≡ record z.candidates.sources { members = set.remove z.candidates.sources.members frame } → IsPut kept z.movable z.free sources z.candidates.stuck (Source serial)
-    sound_to_source kept sources serial page can_move items removed =
+    pub sound_to_source : (kept : FixedVec (FrameState ℕ)) (sources : Numbers) (page_number : ℕ) → holds_at now.states frame ≡ true → true_at now.movable frame ≡ true → kept.items ≡ slice_set z.kept.items index (Source page_number) → sources ≡ record z.candidates.sources { members = set.remove z.candidates.sources.members frame } → IsPut kept z.movable z.free sources z.candidates.stuck (Source page_number)
+    sound_to_source kept sources page_number page can_move items removed =
         let within = is_within is_holding_state refl page in
         let is_movable = ap (λ (frames : Frames). true_at frames.movable frame) view ∙ can_move in
-        put kept z.movable z.free sources z.candidates.stuck (Source serial) flag false (page_only was (seen_test is_holding_state page)).0 refl within items (flag_stays within)
+        put kept z.movable z.free sources z.candidates.stuck (Source page_number) flag false (page_only was (seen_test is_holding_state page)).0 refl within items (flag_stays within)
         (λ n. keep_if n frame (set.contains z.free.members) false (page_isnt_free page)) refl
         (λ n. ap (λ (s : Numbers). set.contains s.members n) removed ∙ member_remove z.candidates.sources.members frame n ∙ remove_if (nat_eq n frame) (set.contains z.candidates.sources.members n) false refl)
         (ap (λ (s : Numbers). s.bound) removed) (page_is_stuck page ∙ ap not is_movable) refl
 
     -- a free frame becomes a target
-    pub sound_to_target : (kept : FixedVec FrameState) (free : Numbers) (serial : ℕ) → free_at now.states frame ≡ true → kept.items ≡ slice_set z.kept.items index (Target serial) → free ≡ record z.free { members = set.remove z.free.members frame } → IsPut kept z.movable free z.candidates.sources z.candidates.stuck (Target serial)
-    sound_to_target kept free serial is_free items removed =
+    pub sound_to_target : (kept : FixedVec (FrameState ℕ)) (free : Numbers) (page_number : ℕ) → free_at now.states frame ≡ true → kept.items ≡ slice_set z.kept.items index (Target page_number) → free ≡ record z.free { members = set.remove z.free.members frame } → IsPut kept z.movable free z.candidates.sources z.candidates.stuck (Target page_number)
+    sound_to_target kept free page_number is_free items removed =
         let within = is_within is_free_state refl is_free in
-        put kept z.movable free z.candidates.sources z.candidates.stuck (Target serial) flag false (free_not_huge was (seen_test is_free_state is_free)) refl within items (flag_stays within)
+        put kept z.movable free z.candidates.sources z.candidates.stuck (Target page_number) flag false (free_not_huge was (seen_test is_free_state is_free)) refl within items (flag_stays within)
         (free_removed free removed) (ap (λ (s : Numbers). s.bound) removed)
         (λ n. keep_if n frame (set.contains z.candidates.sources.members) false (free_isnt_source is_free)) refl (free_isnt_stuck is_free) refl
 
     -- the other frame of a page whose move ends is free
-    pub sound_left : (kept : FixedVec FrameState) (free : Numbers) → way_at now.states frame ≡ true → kept.items ≡ slice_set z.kept.items index Free → free ≡ record z.free { members = set.insert z.free.members frame } → IsPut kept z.movable free z.candidates.sources z.candidates.stuck Free
+    pub sound_left : (kept : FixedVec (FrameState ℕ)) (free : Numbers) → way_at now.states frame ≡ true → kept.items ≡ slice_set z.kept.items index Free → free ≡ record z.free { members = set.insert z.free.members frame } → IsPut kept z.movable free z.candidates.sources z.candidates.stuck Free
     sound_left kept free way items inserted =
         let within = is_within is_way_state refl way in
         put kept z.movable free z.candidates.sources z.candidates.stuck Free flag false (way_only was flag (seen_test is_way_state way)).0 refl within items (flag_stays within)
@@ -478,13 +478,13 @@ sound_free z blocks some few kept movable held held_room free free_room sources 
     let stuck_count : length z.candidates.stuck ≡ blocks = ap length stuck ∙ length-replicate blocks 0 in
     let none = λ (n : ℕ). ap (λ s. set.contains s n) held ∙ set.contains-empty nat_cmp n in
     let view = seen_none_held (set.contains z.held.members) z.kept.items none in
-    let each = λ (f : Option FrameState → Bool) (n : ℕ). ap (λ (xs : List FrameState). f (slice_get xs n)) (view ∙ kept) in (
+    let each = λ (f : Option (FrameState ℕ) → Bool) (n : ℕ). ap (λ (xs : List (FrameState ℕ)). f (slice_get xs n)) (view ∙ kept) in (
       record {
         whole = omega arith;
         some = omega arith;
         few = omega arith;
         movable = omega arith;
-        never_huge = λ n. ap (λ (xs : List FrameState). huge_at xs n) kept ∙ no_free is_huge_state blocks n refl refl;
+        never_huge = λ n. ap (λ (xs : List (FrameState ℕ)). huge_at xs n) kept ∙ no_free is_huge_state blocks n refl refl;
         held = λ n e. absurd (clash (set.contains z.held.members n) e (none n));
         held_room = omega (arith, count, held_room);
         free = λ n. free n ∙ sym (each is_free_state n ∙ all_free blocks n);
@@ -499,14 +499,14 @@ sound_free z blocks some few kept movable held held_room free free_room sources 
       view ∙ kept,
     )
   where
-    no_free : (f : Option FrameState → Bool) (blocks n : ℕ) → f (Some Free) ≡ false → f None ≡ false → f (slice_get (replicate (512 * blocks) Free) n) ≡ false
+    no_free : (f : Option (FrameState ℕ) → Bool) (blocks n : ℕ) → f (Some Free) ≡ false → f None ≡ false → f (slice_get (replicate (512 * blocks) Free) n) ≡ false
     no_free f blocks n free none = elim (leb_tells (512 * blocks) n) [
-      | inl past ↦ (ap f (slice_get_past (replicate (512 * blocks) Free) n (omega (arith, past.1, length-replicate (512 * blocks) Free))) ∙ none)
+      | inl past ↦ (ap f (slice_get_past (replicate (512 * blocks) Free) n (omega (arith, past.1, length-replicate {A = FrameState ℕ} (512 * blocks) Free))) ∙ none)
       | inr under ↦ (ap f (slice_get_replicate (512 * blocks) n Free under.1) ∙ free)
     ]
 
     all_free : (blocks n : ℕ) → is_free_state (slice_get (replicate (512 * blocks) Free) n) ≡ nat_lt n (512 * blocks)
     all_free blocks n = elim (leb_tells (512 * blocks) n) [
-      | inl past ↦ (ap is_free_state (slice_get_past (replicate (512 * blocks) Free) n (omega (arith, past.1, length-replicate (512 * blocks) Free))) ∙ sym (le-ltb n (512 * blocks) past.1))
+      | inl past ↦ (ap is_free_state (slice_get_past (replicate (512 * blocks) Free) n (omega (arith, past.1, length-replicate {A = FrameState ℕ} (512 * blocks) Free))) ∙ sym (le-ltb n (512 * blocks) past.1))
       | inr under ↦ (ap is_free_state (slice_get_replicate (512 * blocks) n Free under.1) ∙ sym (lt-ltb n (512 * blocks) under.1))
     ]

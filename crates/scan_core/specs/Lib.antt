@@ -3,6 +3,7 @@ pub mod FrameCounts
 pub mod FrameSet
 pub mod FrameSetInside
 pub mod Frames
+pub mod KeptState
 pub mod NumberSet
 pub mod Pairs
 pub mod Runs

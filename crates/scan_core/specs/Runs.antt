@@ -7,18 +7,18 @@ use Rattle.scan_core.specs.Frames.{free_at}
 use Rattle.scan_core.specs.NumberSet.{all_from}
 
 -- whether a block of this order may begin at a frame: it is aligned, and all of it is in the list
-abbrev pub has_block : List FrameState → ℕ → ℕ → Bool
+abbrev pub has_block : List (FrameState ℕ) → ℕ → ℕ → Bool
 has_block states order first = is_aligned order first && nat_le (first + 2 ^ order) (length states)
 
 -- whether a block of this order may begin at a frame, and all of its frames are free
-abbrev pub is_run : List FrameState → ℕ → ℕ → Bool
+abbrev pub is_run : List (FrameState ℕ) → ℕ → ℕ → Bool
 is_run states order first = has_block states order first && all_from (free_at states) first (2 ^ order)
 
 -- the first frame of the lowest free block of an order, if there is one
-abbrev pub first_run : List FrameState → ℕ → Option ℕ
+abbrev pub first_run : List (FrameState ℕ) → ℕ → Option ℕ
 first_run states order = lowest (is_run states order) (length states)
 
 -- the states after each of n frames, from `first` upwards, was given this state
-unfoldable pub with_run : List FrameState → ℕ → ℕ → FrameState → List FrameState
+unfoldable pub with_run : List (FrameState ℕ) → ℕ → ℕ → FrameState ℕ → List (FrameState ℕ)
 with_run states first zero state = states
 with_run states first (suc n) state = slice_set (with_run states first n state) (first + n) state

@@ -9,8 +9,9 @@ ghost use Rattle.scan_core.specs.Runs.{first_run, has_block, is_run, with_run};
 use crate::candidates::Candidates;
 use crate::fingers::{Fingers, Step};
 use crate::frame_set::FrameSet;
-use crate::{lists, scanners};
-use frame_core::{FixedVec, FrameNo, FrameState, Order, PageNo, Serial};
+use crate::kept_state::KeptState;
+use crate::scanners;
+use frame_core::{FixedVec, FrameNo, FrameState, Order, PageNo};
 use number_set::NumberSet;
 use std::alloc::{AllocError, Global};
 use std::marker::Model;
@@ -19,7 +20,7 @@ use std::marker::Model;
 #[derive(Drop)]
 pub struct Frames {
     /// The state of each frame. A frame of a block that is handed out stands here as free, and is a member of `held`.
-    kept: FixedVec<FrameState>,
+    kept: FixedVec<KeptState>,
     movable: FixedVec<bool>,
     held: NumberSet,
     free: FrameSet,
@@ -48,7 +49,8 @@ impl Frames {
         ensures frames { IfOk result (λ frames. length frames.states ≡ 512 * blocks) }
     {
         let count = 512 * blocks;
-        let kept = FixedVec::filled(alloc, FrameState::Free, count as usize)?;
+        let free = KeptState::of(FrameState::Free);
+        let kept = FixedVec::filled(alloc, free, count as usize)?;
         let movable = FixedVec::filled(alloc, false, count as usize)?;
         let held = NumberSet::open(alloc, count)?;
         let free = FrameSet::full(alloc, blocks)?;
@@ -84,15 +86,15 @@ impl Frames {
     }
 
     /// What a frame is used for. The frame has to be one of the zone's, here and in `is_free` and `movable`.
-    pub fn state(&self, frame: FrameNo) -> FrameState
+    pub fn state(&self, frame: FrameNo) -> FrameState<PageNo>
         requires { frame < length self.now.states }
         ensures { slice_get self.now.states frame ≡ Some result }
     {
         let kept = self.kept[frame.get() as usize];
-        if lists::is_free(&kept) && self.held.contains(frame.get()) {
+        if kept.is_free() && self.held.contains(frame.get()) {
             return FrameState::Huge;
         }
-        kept
+        kept.state()
     }
 
     /// Whether a frame is free.
@@ -114,7 +116,7 @@ impl Frames {
         self.free.remove(frame);
         self.candidates.add(frame, movable);
         self.movable[index] = movable;
-        self.kept[index] = FrameState::Holds(page);
+        self.kept[index] = KeptState::of(FrameState::Holds(page));
     }
 
     /// Takes the page of a frame out of use: the frame is free.
@@ -127,30 +129,30 @@ impl Frames {
         let index = frame.get() as usize;
         self.free.insert(frame);
         self.candidates.remove(frame, self.movable[index]);
-        self.kept[index] = FrameState::Free;
+        self.kept[index] = KeptState::of(FrameState::Free);
     }
 
     /// Makes a frame with a movable page the source of that page's move.
     #[inline(always)]
-    pub fn to_source(&mut self, frame: FrameNo, serial: Serial)
+    pub fn to_source(&mut self, frame: FrameNo, page: PageNo)
         requires page { holds_at self.old.states frame ≡ true }
         requires movable { true_at self.old.movable frame ≡ true }
-        ensures state { self.new ≡ record self.old { states = slice_set self.old.states frame (Source serial) } }
+        ensures state { self.new ≡ record self.old { states = slice_set self.old.states frame (Source page) } }
         ensures frames { length self.new.states ≡ length self.old.states }
     {
         self.candidates.sources.remove(frame.get());
-        self.kept[frame.get() as usize] = FrameState::Source(serial);
+        self.kept[frame.get() as usize] = KeptState::of(FrameState::Source(page));
     }
 
     /// Makes a free frame the target of a page's move.
     #[inline(always)]
-    pub fn to_target(&mut self, frame: FrameNo, serial: Serial)
+    pub fn to_target(&mut self, frame: FrameNo, page: PageNo)
         requires { free_at self.old.states frame ≡ true }
-        ensures state { self.new ≡ record self.old { states = slice_set self.old.states frame (Target serial) } }
+        ensures state { self.new ≡ record self.old { states = slice_set self.old.states frame (Target page) } }
         ensures frames { length self.new.states ≡ length self.old.states }
     {
         self.free.remove(frame);
-        self.kept[frame.get() as usize] = FrameState::Target(serial);
+        self.kept[frame.get() as usize] = KeptState::of(FrameState::Target(page));
     }
 
     /// Ends a page's move in one of its two frames. `can_move` says whether the page may be taken from it.
@@ -163,7 +165,7 @@ impl Frames {
         let index = frame.get() as usize;
         self.candidates.add(frame, can_move);
         self.movable[index] = can_move;
-        self.kept[index] = FrameState::Holds(page);
+        self.kept[index] = KeptState::of(FrameState::Holds(page));
     }
 
     /// Frees the other frame of a page whose move ends.
@@ -174,7 +176,7 @@ impl Frames {
         ensures frames { length self.new.states ≡ length self.old.states }
     {
         self.free.insert(other);
-        self.kept[other.get() as usize] = FrameState::Free;
+        self.kept[other.get() as usize] = KeptState::of(FrameState::Free);
     }
 
     /// How many frames are free.

@@ -10,6 +10,7 @@ mod fingers;
 mod frame_counts;
 mod frame_set;
 mod frames;
+mod kept_state;
 mod lists;
 mod pair;
 mod scanners;

@@ -1,4 +1,5 @@
 use Rattle.std.proofs.Common.{refl, sym, ◌∙◌, not, length, length-set, ap, arith}
+use Rattle.std.specs.Prelude.{slice_set}
 use Rattle.frame_core.specs.FixedVec.{with_item}
 use Rattle.frame_core.specs.declared.state.FrameState.TheVariants.{Free}
 use Rattle.scan_core.specs.Frames.{is_holding_state}
@@ -34,11 +35,11 @@ index_mut-requires c =
 
 pub invariant_of-self : goal.invariant_of-self
 invariant_of-self c =
-    (step.sound_emptied c.self.inside c.self.invariant c.self.view_is c.args.frame c.get-index.result c.get-index.ensures.value (with_item c.self.inside.kept c.get-index.result Free) c.insert.new.self c.remove.new.self.sources c.remove.new.self.stuck c.index.result.now c.requires refl c.insert.ensures (step.flag_is c.self.inside c.self.invariant c.self.view_is c.args.frame c.get-index.result c.index.result.now c.get-index.ensures.value (step.is_within c.self.inside c.self.invariant c.self.view_is c.args.frame is_holding_state refl c.requires) c.index.ensures) c.remove.ensures.sources c.remove.ensures.room c.remove.ensures.stuck).0
+    (step.sound_emptied c.self.inside c.self.invariant c.self.view_is c.args.frame c.get-index.result c.get-index.ensures.value (with_item c.self.inside.kept c.get-index.result c.of.result) c.insert.new.self c.remove.new.self.sources c.remove.new.self.stuck c.index.result.now c.requires (ap (slice_set c.self.inside.kept.items c.get-index.result) c.of.ensures) c.insert.ensures (step.flag_is c.self.inside c.self.invariant c.self.view_is c.args.frame c.get-index.result c.index.result.now c.get-index.ensures.value (step.is_within c.self.inside c.self.invariant c.self.view_is c.args.frame is_holding_state refl c.requires) c.index.ensures) c.remove.ensures.sources c.remove.ensures.room c.remove.ensures.stuck).0
 
 pub returns : goal.returns
 returns c =
-    let states = (step.sound_emptied c.self.inside c.self.invariant c.self.view_is c.args.frame c.get-index.result c.get-index.ensures.value (with_item c.self.inside.kept c.get-index.result Free) c.insert.new.self c.remove.new.self.sources c.remove.new.self.stuck c.index.result.now c.requires refl c.insert.ensures (step.flag_is c.self.inside c.self.invariant c.self.view_is c.args.frame c.get-index.result c.index.result.now c.get-index.ensures.value (step.is_within c.self.inside c.self.invariant c.self.view_is c.args.frame is_holding_state refl c.requires) c.index.ensures) c.remove.ensures.sources c.remove.ensures.room c.remove.ensures.stuck).1 in
+    let states = (step.sound_emptied c.self.inside c.self.invariant c.self.view_is c.args.frame c.get-index.result c.get-index.ensures.value (with_item c.self.inside.kept c.get-index.result c.of.result) c.insert.new.self c.remove.new.self.sources c.remove.new.self.stuck c.index.result.now c.requires (ap (slice_set c.self.inside.kept.items c.get-index.result) c.of.ensures) c.insert.ensures (step.flag_is c.self.inside c.self.invariant c.self.view_is c.args.frame c.get-index.result c.index.result.now c.get-index.ensures.value (step.is_within c.self.inside c.self.invariant c.self.view_is c.args.frame is_holding_state refl c.requires) c.index.ensures) c.remove.ensures.sources c.remove.ensures.room c.remove.ensures.stuck).1 in
     record {
       state = λ i. record { states = states i; movable = (c.self.view_is i).movable };
       frames = ap length states ∙ length-set c.args.self.now.states c.args.frame Free;

@@ -33,11 +33,11 @@ index_mut-requires-2 c =
 
 pub invariant_of-self : goal.invariant_of-self
 invariant_of-self c =
-    (step.sound_filled c.self.inside c.self.invariant c.self.view_is c.args.frame c.get-index.result c.get-index.ensures.value (with_item c.self.inside.kept c.get-index.result (Holds c.args.page)) (with_item c.self.inside.movable c.get-index.result c.args.movable) c.remove.new.self c.add.new.self.sources c.add.new.self.stuck c.args.page c.args.movable c.requires refl refl c.remove.ensures c.add.ensures.sources c.add.ensures.room c.add.ensures.stuck).0
+    (step.sound_filled c.self.inside c.self.invariant c.self.view_is c.args.frame c.get-index.result c.get-index.ensures.value (with_item c.self.inside.kept c.get-index.result c.of.result) (with_item c.self.inside.movable c.get-index.result c.args.movable) c.remove.new.self c.add.new.self.sources c.add.new.self.stuck c.args.page c.args.movable c.requires (ap (slice_set c.self.inside.kept.items c.get-index.result) c.of.ensures) refl c.remove.ensures c.add.ensures.sources c.add.ensures.room c.add.ensures.stuck).0
 
 pub returns : goal.returns
 returns c =
-    let states = (step.sound_filled c.self.inside c.self.invariant c.self.view_is c.args.frame c.get-index.result c.get-index.ensures.value (with_item c.self.inside.kept c.get-index.result (Holds c.args.page)) (with_item c.self.inside.movable c.get-index.result c.args.movable) c.remove.new.self c.add.new.self.sources c.add.new.self.stuck c.args.page c.args.movable c.requires refl refl c.remove.ensures c.add.ensures.sources c.add.ensures.room c.add.ensures.stuck).1 in
+    let states = (step.sound_filled c.self.inside c.self.invariant c.self.view_is c.args.frame c.get-index.result c.get-index.ensures.value (with_item c.self.inside.kept c.get-index.result c.of.result) (with_item c.self.inside.movable c.get-index.result c.args.movable) c.remove.new.self c.add.new.self.sources c.add.new.self.stuck c.args.page c.args.movable c.requires (ap (slice_set c.self.inside.kept.items c.get-index.result) c.of.ensures) refl c.remove.ensures c.add.ensures.sources c.add.ensures.room c.add.ensures.stuck).1 in
     record {
       page = λ i. record { states = states i; movable = slice_set (c.self.view_is i).movable (c.get-index.ensures.value i) c.args.movable };
       frames = ap length states ∙ length-set c.args.self.now.states c.args.frame (Holds c.args.page);

@@ -7,7 +7,7 @@ use Rattle.scan_core.specs.Runs.{first_run, is_run}
 use Rattle.scan_core.proofs.Sounding.{first_run_by_set}
 use Rattle.scan_core.proofs.frames.Frames.first_run.Goals as goal
 
-run_found : (states : List FrameState) (order : ℕ) (o : Option ℕ) → o ≡ first_run states order → IfSome o (λ first. is_run states order first ≡ true)
+run_found : (states : List (FrameState ℕ)) (order : ℕ) (o : Option ℕ) → o ≡ first_run states order → IfSome o (λ first. is_run states order first ≡ true)
 run_found states order None is = tt
 run_found states order (Some first) is = (lowest_some (is_run states order) (length states) first (sym is)).1
 

@@ -1,4 +1,5 @@
 use Rattle.std.proofs.Common.{refl, ◌∙◌, length, length-set, ap, arith}
+use Rattle.std.specs.Prelude.{slice_set}
 use Rattle.frame_core.specs.FixedVec.{with_item}
 use Rattle.frame_core.specs.declared.state.FrameState.TheVariants.{Free}
 use Rattle.scan_core.specs.Frames.{is_way_state}
@@ -18,11 +19,11 @@ index_mut-requires c =
 
 pub invariant_of-self : goal.invariant_of-self
 invariant_of-self c =
-    (step.sound_left c.self.inside c.self.invariant c.self.view_is c.args.other c.get.result c.get.ensures.value (with_item c.self.inside.kept c.get.result Free) c.insert.new.self c.requires refl c.insert.ensures).0
+    (step.sound_left c.self.inside c.self.invariant c.self.view_is c.args.other c.get.result c.get.ensures.value (with_item c.self.inside.kept c.get.result c.of.result) c.insert.new.self c.requires (ap (slice_set c.self.inside.kept.items c.get.result) c.of.ensures) c.insert.ensures).0
 
 pub returns : goal.returns
 returns c =
-    let states = (step.sound_left c.self.inside c.self.invariant c.self.view_is c.args.other c.get.result c.get.ensures.value (with_item c.self.inside.kept c.get.result Free) c.insert.new.self c.requires refl c.insert.ensures).1 in
+    let states = (step.sound_left c.self.inside c.self.invariant c.self.view_is c.args.other c.get.result c.get.ensures.value (with_item c.self.inside.kept c.get.result c.of.result) c.insert.new.self c.requires (ap (slice_set c.self.inside.kept.items c.get.result) c.of.ensures) c.insert.ensures).1 in
     record {
       state = λ i. record { states = states i; movable = (c.self.view_is i).movable };
       frames = ap length states ∙ length-set c.args.self.now.states c.args.other Free;

@@ -1,5 +1,5 @@
 use Rattle.std.proofs.Common.{◌≡◌, ◌∙◌, false, length, refl, sym, ap, arith}
-use Rattle.std.specs.Prelude.{slice_get}
+use Rattle.std.specs.Prelude.{Some, slice_get}
 use Rattle.std.specs.FinSet as set
 use Rattle.std.proofs.lemmas.Option.{slice_get_read}
 use Rattle.scan_core.specs.Frames.{Frames, is_free_state}
@@ -9,8 +9,8 @@ use Rattle.scan_core.proofs.Spanning.{same_by}
 use Rattle.scan_core.proofs.frames.Frames.state.Goals as goal
 use Rattle.scan_core.proofs.frames.Frames.state.Goals.{else-is_free-via-then-is_free+else-contains, else-is_free-via-else-is_free}
 
-pub index-requires : goal.index-requires
-index-requires c = omega (arith, c.requires, frames_kept c.self.inside c.self.invariant c.self.view_is, c.get.ensures.value)
+pub index-kept-requires : goal.index-kept-requires
+index-kept-requires c = omega (arith, c.requires, frames_kept c.self.inside c.self.invariant c.self.view_is, c.get.ensures.value)
 
 pub contains-requires : goal.contains-requires
 contains-requires c =
@@ -28,10 +28,10 @@ returns-then-contains c =
 pub returns : goal.returns
 returns c =
     let z = c.self.inside in
-    let read = ap (slice_get z.kept.items) (sym c.get.ensures.value) ∙ slice_get_read z.kept.items (length z.kept.items) c.get.result c.index.result.now refl (omega (arith, c.requires, frames_kept c.self.inside c.self.invariant c.self.view_is, c.get.ensures.value)) c.index.ensures in
+    let read = ap (slice_get z.kept.items) (sym c.get.ensures.value) ∙ slice_get_read z.kept.items (length z.kept.items) c.get.result c.index-kept.result.now refl (omega (arith, c.requires, frames_kept c.self.inside c.self.invariant c.self.view_is, c.get.ensures.value)) c.index-kept.ensures in
     let unheld : set.contains z.held.members c.args.frame ≡ false = elim c.else-is_free.branch [
       | else-is_free-via-then-is_free+else-contains w ↦ ap (set.contains z.held.members) (sym w.get-then-is_free.ensures.value) ∙ sym w.contains.ensures ∙ w.if-contains.false
       | else-is_free-via-else-is_free w ↦ same_by (set.contains z.held.members c.args.frame) false (λ e. sym w.if-is_free.false ∙ c.is_free.ensures ∙ ap is_free_state (sym read ∙ c.self.invariant.held c.args.frame e)) (λ e. cc)
     ] in
     ap (λ (frames : Frames). slice_get frames.states c.args.frame) (sym c.self.view_is)
-    ∙ seen_get (set.contains z.held.members) z.kept.items c.args.frame ∙ (λ i. seen_state (unheld i) (read i))
+    ∙ seen_get (set.contains z.held.members) z.kept.items c.args.frame ∙ (λ i. seen_state (unheld i) (read i)) ∙ ap Some (sym c.state.ensures)

@@ -1,5 +1,6 @@
 use Rattle.std.proofs.Common.{refl, ◌∙◌, length, length-set, ap, arith}
 use Rattle.std.specs.FinSet as set
+use Rattle.std.specs.Prelude.{slice_set}
 use Rattle.frame_core.specs.FixedVec.{with_item}
 use Rattle.frame_core.specs.declared.state.FrameState.TheVariants.{Source}
 use Rattle.scan_core.specs.Frames.{is_holding_state}
@@ -16,12 +17,12 @@ index_mut-requires c =
 
 pub invariant_of-self : goal.invariant_of-self
 invariant_of-self c =
-    (step.sound_to_source c.self.inside c.self.invariant c.self.view_is c.args.frame c.get-2.result c.get-2.ensures.value (with_item c.self.inside.kept c.get-2.result (Source c.args.serial)) c.remove.new.self c.args.serial c.requires.page c.requires.movable refl (c.remove.ensures ∙ ap (λ k. record c.self.inside.candidates.sources { members = set.remove c.self.inside.candidates.sources.members k }) c.get.ensures.value)).0
+    (step.sound_to_source c.self.inside c.self.invariant c.self.view_is c.args.frame c.get-2.result c.get-2.ensures.value (with_item c.self.inside.kept c.get-2.result c.of.result) c.remove.new.self c.args.page c.requires.page c.requires.movable (ap (slice_set c.self.inside.kept.items c.get-2.result) c.of.ensures) (c.remove.ensures ∙ ap (λ k. record c.self.inside.candidates.sources { members = set.remove c.self.inside.candidates.sources.members k }) c.get.ensures.value)).0
 
 pub returns : goal.returns
 returns c =
-    let states = (step.sound_to_source c.self.inside c.self.invariant c.self.view_is c.args.frame c.get-2.result c.get-2.ensures.value (with_item c.self.inside.kept c.get-2.result (Source c.args.serial)) c.remove.new.self c.args.serial c.requires.page c.requires.movable refl (c.remove.ensures ∙ ap (λ k. record c.self.inside.candidates.sources { members = set.remove c.self.inside.candidates.sources.members k }) c.get.ensures.value)).1 in
+    let states = (step.sound_to_source c.self.inside c.self.invariant c.self.view_is c.args.frame c.get-2.result c.get-2.ensures.value (with_item c.self.inside.kept c.get-2.result c.of.result) c.remove.new.self c.args.page c.requires.page c.requires.movable (ap (slice_set c.self.inside.kept.items c.get-2.result) c.of.ensures) (c.remove.ensures ∙ ap (λ k. record c.self.inside.candidates.sources { members = set.remove c.self.inside.candidates.sources.members k }) c.get.ensures.value)).1 in
     record {
       state = λ i. record { states = states i; movable = (c.self.view_is i).movable };
-      frames = ap length states ∙ length-set c.args.self.now.states c.args.frame (Source c.args.serial);
+      frames = ap length states ∙ length-set c.args.self.now.states c.args.frame (Source c.args.page);
     }

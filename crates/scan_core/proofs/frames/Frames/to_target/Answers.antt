@@ -1,4 +1,5 @@
 use Rattle.std.proofs.Common.{refl, ◌∙◌, length, length-set, ap, arith}
+use Rattle.std.specs.Prelude.{slice_set}
 use Rattle.frame_core.specs.FixedVec.{with_item}
 use Rattle.frame_core.specs.declared.state.FrameState.TheVariants.{Target}
 use Rattle.scan_core.specs.Frames.{is_free_state}
@@ -18,12 +19,12 @@ index_mut-requires c =
 
 pub invariant_of-self : goal.invariant_of-self
 invariant_of-self c =
-    (step.sound_to_target c.self.inside c.self.invariant c.self.view_is c.args.frame c.get.result c.get.ensures.value (with_item c.self.inside.kept c.get.result (Target c.args.serial)) c.remove.new.self c.args.serial c.requires refl c.remove.ensures).0
+    (step.sound_to_target c.self.inside c.self.invariant c.self.view_is c.args.frame c.get.result c.get.ensures.value (with_item c.self.inside.kept c.get.result c.of.result) c.remove.new.self c.args.page c.requires (ap (slice_set c.self.inside.kept.items c.get.result) c.of.ensures) c.remove.ensures).0
 
 pub returns : goal.returns
 returns c =
-    let states = (step.sound_to_target c.self.inside c.self.invariant c.self.view_is c.args.frame c.get.result c.get.ensures.value (with_item c.self.inside.kept c.get.result (Target c.args.serial)) c.remove.new.self c.args.serial c.requires refl c.remove.ensures).1 in
+    let states = (step.sound_to_target c.self.inside c.self.invariant c.self.view_is c.args.frame c.get.result c.get.ensures.value (with_item c.self.inside.kept c.get.result c.of.result) c.remove.new.self c.args.page c.requires (ap (slice_set c.self.inside.kept.items c.get.result) c.of.ensures) c.remove.ensures).1 in
     record {
       state = λ i. record { states = states i; movable = (c.self.view_is i).movable };
-      frames = ap length states ∙ length-set c.args.self.now.states c.args.frame (Target c.args.serial);
+      frames = ap length states ∙ length-set c.args.self.now.states c.args.frame (Target c.args.page);
     }
