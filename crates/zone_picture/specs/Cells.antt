@@ -8,16 +8,16 @@ use Rattle.zone_picture.specs.declared.cell.Cell.{Cell}
 use Rattle.zone_picture.specs.declared.cell.Cell.TheVariants as cell
 
 -- what a frame in this state is drawn as, where the page that it holds may be moved or not
-abbrev pub cell_of : FrameState → Bool → Cell
+abbrev pub cell_of : FrameState ℕ → Bool → Cell
 cell_of Free movable = cell.Free
 cell_of (Holds page) true = cell.Page
 cell_of (Holds page) false = cell.Fixed
-cell_of (Source serial) movable = cell.Source
-cell_of (Target serial) movable = cell.Target
+cell_of (Source page) movable = cell.Source
+cell_of (Target page) movable = cell.Target
 cell_of Huge movable = cell.HandedOut
 
 -- the same of a frame that may be none of the zone
-abbrev pub cell_by : Option FrameState → Bool → Cell
+abbrev pub cell_by : Option (FrameState ℕ) → Bool → Cell
 cell_by (Some state) movable = cell_of state movable
 cell_by _ movable = cell.Free
 

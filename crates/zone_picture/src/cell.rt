@@ -1,7 +1,7 @@
 ghost use Rattle.std.specs.Prelude.{◌≡◌};
 ghost use Rattle.zone_picture.specs.Cells.{cell_of};
 
-use frame_core::FrameState;
+use frame_core::{FrameState, PageNo};
 
 /// What a frame is used for, as it is drawn.
 #[derive(Clone, Copy, PartialEq, Eq)]
@@ -21,7 +21,7 @@ pub enum Cell {
 
 impl Cell {
     /// What a frame in this state is drawn as, where the page that it holds may be moved or not.
-    pub fn of(state: FrameState, movable: bool) -> Self
+    pub fn of(state: FrameState<PageNo>, movable: bool) -> Self
         ensures { result ≡ cell_of state movable }
     {
         match state {

@@ -36,7 +36,7 @@ use Rattle.fewest_core.proofs.Evacuation.{can_settle, placement_after, target_fr
 use Rattle.fewest_core.proofs.Moves.{target_not_source, free_unused, others_same, page_there}
 use Rattle.zone_tables.specs.declared.note.PageNote.{PageNote}
 use Rattle.zone_tables.specs.declared.zone.ZoneTables.TheInside.{Inside}
-use Rattle.zone_tables.specs.Fits.{entry_for, EntriesFit, MovesFit, NoteFits, NotesFit, SourcesFit}
+use Rattle.zone_tables.specs.Fits.{entry_for, EntriesFit, MovesFit, NoteFits, NotesFit}
 use Rattle.zone_tables.specs.HandedOut.{order_of}
 use Rattle.zone_tables.specs.History.{told}
 use Rattle.zone_tables.specs.Moves.{Moves}
@@ -46,7 +46,7 @@ use Rattle.zone_tables.specs.Tabulated.{tabulated}
 use Rattle.zone_tables.specs.Contents.{contents_at}
 use Rattle.zone_tables.proofs.Facts.{held_by, is_sound}
 use Rattle.zone_tables.proofs.HeldWords.{contents_kept, held_contents}
-use Rattle.zone_tables.proofs.ListedAddresses.{fresh_serial, names_of, none_listed, page_rests}
+use Rattle.zone_tables.proofs.ListedAddresses.{names_of, none_listed, page_rests}
 use Rattle.zone_tables.proofs.MoveEnds.{kept_movable, moved_frames, moved_words, still_free}
 use Rattle.zone_tables.proofs.NotedPages.{placements_put, unmovable_kept}
 use Rattle.zone_tables.proofs.Placement.{FramesPlaced, GetsPlace, LeavesOthers, MovablePlaced, WordsPlaced, frames_fit, movable_fit, notes_fit, words_fit}
@@ -65,9 +65,6 @@ module _ {W : ℕ} {z : Inside W} {v : ZoneState} (view : state_of z ≡ v) (inv
   sound : IsSound z v
   sound = is_sound view invariant
 
-  abbrev serial : ℕ
-  serial = isolated v.records
-
   source_in : m.source < frame_count v
   source_in = frame_within v sound.valid m.page (At m.source) is.here
 
@@ -76,9 +73,6 @@ module _ {W : ℕ} {z : Inside W} {v : ZoneState} (view : state_of z ≡ v) (inv
 
   unused : is_used v m.target ≡ false
   unused = free_unused v m.target is.vacant
-
-  pub source_page : m.source < length z.moves.pages
-  source_page = omega (arith, source_in, sound.sources.count)
 
   pub source_row : m.source < length z.words
   source_row = omega (arith, source_in, sound.words.count)
@@ -99,7 +93,7 @@ module _ {W : ℕ} {z : Inside W} {v : ZoneState} (view : state_of z ≡ v) (inv
   room_for_two = omega (arith, has_two v accepted, ap (λ (u : ZoneState). u.room) view)
 
   -- one page more is isolated than moves have ended
-  pub some_moving : (moves : Moves) → moves ≡ record z.moves { pages = slice_set z.moves.pages m.source m.page; isolated = z.moves.isolated + 1 } → moves.moved + moves.back < moves.isolated
+  pub some_moving : (moves : Moves) → moves ≡ record z.moves { isolated = z.moves.isolated + 1 } → moves.moved + moves.back < moves.isolated
   some_moving moves now =
       let fewer : z.moves.moved + z.moves.back ≤ z.moves.isolated = omega (arith, is_balanced v.records sound.valid.journal.well_ended, sound.moves.isolated, sound.moves.moved, sound.moves.back) in
       omega (arith, fewer, ap (λ (ms : Moves). ms.moved) now, ap (λ (ms : Moves). ms.back) now, ap (λ (ms : Moves). ms.isolated) now)
@@ -110,10 +104,7 @@ module _ {W : ℕ} {z : Inside W} {v : ZoneState} (view : state_of z ≡ v) (inv
   pub target_free_then : (emptied : Frames) → emptied ≡ record z.frames { states = slice_set z.frames.states m.source Free } → free_at emptied.states m.target ≡ true
   target_free_then emptied now = still_free z.frames emptied m.target m.source Free (λ e. apart (sym e)) now (free_seen z.frames.states v sound.frames m.target is.within ∙ target_free v m sound.valid is)
 
-  pub fresh : (a : Address) (source : ℕ) → InRange a → entry_at z.tables.entries a ≢ Migration serial source
-  fresh a source = fresh_serial z.tables.entries v sound.entries sound.valid a source
-
-  pub resting : (a : Address) (other : ℕ) → InRange a → entry_at z.tables.entries a ≢ Migration other m.source
+  pub resting : (a : Address) → InRange a → entry_at z.tables.entries a ≢ Migration m.source
   resting = page_rests z.tables.entries v sound.entries sound.valid m.page m.source is.here
 
   -- each address that is listed under the source names the page
@@ -128,9 +119,9 @@ module _ {W : ℕ} {z : Inside W} {v : ZoneState} (view : state_of z ≡ v) (inv
   not_present : (a : Address) → is_listed (entry_at z.tables.entries a) m.source ≡ false → entry_at z.tables.entries a ≢ Present m.source
   not_present a none is_present = both_ways _ none (ap (λ (x : Entry). is_listed x m.source) is_present ∙ eq-eqb m.source m.source refl)
 
-  module _ (changed : EntryTable) (now : Replaces z.tables.entries changed (Present m.source) (Migration serial m.source)) where
+  module _ (changed : EntryTable) (now : Replaces z.tables.entries changed (Present m.source) (Migration m.source)) where
     -- while the page moves, each address that is listed under its source names the migration, and none is listed under its target
-    pub source_left : (a : Address) → InRange a → is_listed (entry_at changed a) m.source ≡ true → entry_at changed a ≡ Migration serial m.source
+    pub source_left : (a : Address) → InRange a → is_listed (entry_at changed a) m.source ≡ true → entry_at changed a ≡ Migration m.source
     source_left a range listed = elim (cases_Bool (is_listed (entry_at z.tables.entries a) m.source)) [
       | inl was ↦ now.there a (present a range was)
       | inr none ↦ absurd (both_ways _ (ap (λ (x : Entry). is_listed x m.source) (now.elsewhere a (not_present a none)) ∙ none) listed)
@@ -142,8 +133,8 @@ module _ {W : ℕ} {z : Inside W} {v : ZoneState} (view : state_of z ≡ v) (inv
       | inr none ↦ ap (λ (x : Entry). is_listed x m.target) (now.elsewhere a (not_present a none)) ∙ none_listed z.tables.entries v sound.entries sound.valid m.target unused a range
     ]
 
-    pub entries_moved : (last : EntryTable) → Replaces changed last (Migration serial m.source) (Present m.target) → ReplacesInRange z.tables.entries last (Present m.source) (Present m.target)
-    entries_moved last then = replaced_twice z.tables.entries changed last (Present m.source) (Migration serial m.source) (Present m.target) (λ a range. fresh a m.source range) now then
+    pub entries_moved : (last : EntryTable) → Replaces changed last (Migration m.source) (Present m.target) → ReplacesInRange z.tables.entries last (Present m.source) (Present m.target)
+    entries_moved last then = replaced_twice z.tables.entries changed last (Present m.source) (Migration m.source) (Present m.target) resting now then
 
 -- the fields of a zone before and after a page went
 pub record Leaving {W : ℕ} (z changed : Inside W) (v : ZoneState) (m : Move) (note : PageNote) : Type 0 where
@@ -157,7 +148,7 @@ pub record Leaving {W : ℕ} (z changed : Inside W) (v : ZoneState) (m : Move) (
   pub tables : ReplacesInRange z.tables.entries changed.tables.entries (Present m.source) (Present m.target)
   pub words : changed.words ≡ with_words z.words m.target (words_of z.words m.source)
   pub notes : changed.notes ≡ slice_set z.notes m.page (record note { placement = Some (At m.target) })
-  pub moves : changed.moves ≡ record z.moves { pages = slice_set z.moves.pages m.source m.page; isolated = z.moves.isolated + 1; moved = z.moves.moved + 1 }
+  pub moves : changed.moves ≡ record z.moves { isolated = z.moves.isolated + 1; moved = z.moves.moved + 1 }
   pub history : changed.history ≡ record (told (told z.history (Isolate (isolated v.records) m.page)) (Moved (isolated v.records))) { round = None }
   -- what stayed as it was
   pub frames_same : changed.tables.frames ≡ z.tables.frames
@@ -240,23 +231,6 @@ module _ {W : ℕ} {z changed : Inside W} {v : ZoneState} {m : Move} {note : Pag
     back = known.sound.moves.back;
   })
 
-  -- another page that is moving left another frame
-  other_source : (q s source target : ℕ) → q ≢ m.page → map.get v.placement q ≡ Some (Moving s source target) → source ≢ m.source
-  other_source q s source target ne at same = ne (known.sound.valid.pages.apart q m.page m.source
-      (ap (λ (o : Option Placement). takes_up o m.source) at ∙ or_left _ _ (eq-eqb m.source source (sym same)))
-      (ap (λ (o : Option Placement). takes_up o m.source) known.may_move.here ∙ eq-eqb m.source m.source refl))
-
-  sources_fit : SourcesFit changed.moves.pages (frame_count v) after.placement
-  sources_fit = subst (λ (moves : Moves). SourcesFit moves.pages (frame_count v) after.placement) (sym known.moves) (record {
-    count = length-set z.moves.pages m.source m.page ∙ known.sound.sources.count;
-    each = λ q s source target e. elim (eqb_tells q m.page) [
-      | inl same ↦ (let bad : Some (At m.target) ≡ Some (Moving s source target) = sym gets.now ∙ ap (map.get after.placement) (sym same.1) ∙ e in cc)
-      | inr other ↦
-          (let was : map.get v.placement q ≡ Some (Moving s source target) = sym (gets.others q other.1) ∙ e in
-          slice_get_set_other z.moves.pages m.source source m.page (other_source q s source target other.1 was) ∙ known.sound.sources.each q s source target was)
-    ];
-  })
-
   -- the page's place while it moved is forgotten
   forgotten : after.placement ≡ map.insert v.placement m.page (At m.target)
   forgotten = placement_after v m known.sound.valid known.may_move
@@ -286,7 +260,6 @@ module _ {W : ℕ} {z changed : Inside W} {v : ZoneState} {m : Move} {note : Pag
         words = words_fit v after m.page old new gets z.words changed.words sound.words words_placed leaves;
         notes = subst (λ (ns : List PageNote). NotesFit ns after) (sym known.notes) (notes_fit v after m.page old new gets z.notes left_note note_within sound.notes (λ used. note_fits) leaves);
         moves = moves_fit;
-        sources = sources_fit;
       }
 
   placement_new : tabulated (placement_of changed.notes) (length changed.notes) ≡ map.insert (state_of z).placement m.page (At m.target)

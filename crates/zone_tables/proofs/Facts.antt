@@ -19,7 +19,7 @@ pub is_sound : {W : ℕ} {z : Inside W} {v : ZoneState} → state_of z ≡ v →
 is_sound {W} {z} view sound = subst (IsSound z) view sound
 
 -- the frame of a page that isn't moving holds the page
-pub held_by : (frames : List FrameState) (v : ZoneState) → FramesFit frames v → (page frame : ℕ) → map.get v.placement page ≡ Some (At frame) → slice_get frames frame ≡ Some (Holds page)
+pub held_by : (frames : List (FrameState ℕ)) (v : ZoneState) → FramesFit frames v → (page frame : ℕ) → map.get v.placement page ≡ Some (At frame) → slice_get frames frame ≡ Some (Holds page)
 held_by frames v fit page frame e = fit.of_page page frame (Holds page) (ap (λ (o : Option Placement). state_by page o frame) e ∙ chosen frame _ _)
 
 -- the state with one more record, and nothing else changed

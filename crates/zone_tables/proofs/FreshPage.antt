@@ -39,7 +39,7 @@ use Rattle.zone_tables.proofs.SearchesAndCounts.{get_placements}
 use Rattle.state_core.proofs.Placed.{CanPlace, untrue, clash, placed_valid, at_page, at_other, named_here, named_there, maps_one, maps_others, pins_none, pins_others}
 use Rattle.zone_tables.proofs.Entries.{entries_changed, placement_same}
 use Rattle.zone_tables.proofs.NotedPages.{unmovable_kept, placements_put, unmovable_put}
-use Rattle.zone_tables.proofs.Placement.{GetsPlace, LeavesOthers, frames_fit, movable_fit, words_fit, notes_fit, sources_fit}
+use Rattle.zone_tables.proofs.Placement.{GetsPlace, LeavesOthers, frames_fit, movable_fit, words_fit, notes_fit}
 use Rattle.zone_tables.proofs.Facts.{Becomes, becomes}
 use Rattle.scan_core.specs.Frames.{Frames}
 
@@ -74,7 +74,7 @@ module _ (v : ZoneState) (client : ℕ) (address : Address) (unmovable : Bool) (
   away : (g : ℕ) → nat_eq g frame ≡ false → g ≢ frame
   away g e is = untrue _ e (eq-eqb g frame is)
 
-  pub frames_placed : (frames : List FrameState) → FramesFit frames v → FramesFit (slice_set frames frame (Holds page)) next
+  pub frames_placed : (frames : List (FrameState ℕ)) → FramesFit frames v → FramesFit (slice_set frames frame (Holds page)) next
   frames_placed frames fit = frames_fit v next page None (Some (At frame)) gets frames (slice_set frames frame (Holds page)) fit (record {
     count = length-set frames frame (Holds page);
     taken = λ g state e. elim (eqb_tells g frame) [
@@ -192,7 +192,6 @@ module _ {W : ℕ} (z : Inside W) (v : ZoneState) (client : ℕ) (address : Addr
         words = words_placed v client address unmovable page frame can W (ap (λ (u : ZoneState). u.page_size) known.view) z.words sound.words;
         notes = notes_placed v client address unmovable page frame can z.notes sound.notes;
         moves = record { isolated = sound.moves.isolated; moved = sound.moves.moved; back = sound.moves.back };
-        sources = sources_fit v (placed v client address unmovable page frame) page None (Some (At frame)) (gets v client address unmovable page frame can) z.moves.pages z.moves.pages sound.sources (record { count = refl; here = λ s a b e. cc; kept = λ g off. refl });
         movable = movable_placed v client address unmovable page frame can z.frames.movable sound.movable;
       }
 

@@ -11,17 +11,16 @@ use Rattle.state_core.specs.declared.placement.Placement.TheVariants.{At, Moving
 use Rattle.zone_tables.specs.Fits.{state_by, WordsFit}
 use Rattle.state_core.specs.ZoneState.{ZoneState, frame_count}
 use Rattle.state_core.proofs.Placed.{untrue}
-use Rattle.zone_tables.proofs.Placement.{SourcesPlaced}
 use Rattle.zone_tables.proofs.Relocation.{FramesSettled, MovableSettled, WordsSettled}
 
 -- two frames changed their states
-pub record TwoSet (frames changed : List FrameState) (a b : ℕ) (x y : FrameState) : Type 0 where
+pub record TwoSet (frames changed : List (FrameState ℕ)) (a b : ℕ) (x y : FrameState ℕ) : Type 0 where
   pub count : length changed ≡ length frames
   pub first : slice_get changed a ≡ Some x
   pub second : slice_get changed b ≡ Some y
   pub others : (g : ℕ) → g ≢ a → g ≢ b → slice_get changed g ≡ slice_get frames g
 
-pub two_set : (frames : List FrameState) (a b : ℕ) (x y : FrameState) → a ≢ b → a < length frames → b < length frames → TwoSet frames (slice_set (slice_set frames a x) b y) a b x y
+pub two_set : (frames : List (FrameState ℕ)) (a b : ℕ) (x y : FrameState ℕ) → a ≢ b → a < length frames → b < length frames → TwoSet frames (slice_set (slice_set frames a x) b y) a b x y
 two_set frames a b x y apart a_in b_in = record {
   count = length-set (slice_set frames a x) b y ∙ length-set frames a x;
   first = slice_get_set_other (slice_set frames a x) b a y apart ∙ slice_get_set_same frames a a x refl a_in;
@@ -29,20 +28,20 @@ two_set frames a b x y apart a_in b_in = record {
   others = λ g ne_a ne_b. slice_get_set_other (slice_set frames a x) b g y ne_b ∙ slice_get_set_other frames a g x ne_a;
 }
 
-module _ (frames : List FrameState) (page source target serial : ℕ) (apart : source ≢ target) (source_in : source < length frames) (target_in : target < length frames) where
-  abbrev changed : List FrameState
-  changed = slice_set (slice_set frames source (Source serial)) target (Target serial)
+module _ (frames : List (FrameState ℕ)) (page source target serial : ℕ) (apart : source ≢ target) (source_in : source < length frames) (target_in : target < length frames) where
+  abbrev changed : List (FrameState ℕ)
+  changed = slice_set (slice_set frames source (Source page)) target (Target page)
 
-  two : TwoSet frames changed source target (Source serial) (Target serial)
-  two = two_set frames source target (Source serial) (Target serial) apart source_in target_in
+  two : TwoSet frames changed source target (Source page) (Target page)
+  two = two_set frames source target (Source page) (Target page) apart source_in target_in
 
-  by_test : (g : ℕ) (state : FrameState) → ((nat_eq g source ≡ true) × (g ≡ source)) ⊎ ((nat_eq g source ≡ false) × (g ≢ source)) → ((nat_eq g target ≡ true) × (g ≡ target)) ⊎ ((nat_eq g target ≡ false) × (g ≢ target)) → state_by page (Some (Moving serial source target)) g ≡ Some state → slice_get changed g ≡ Some state
+  by_test : (g : ℕ) (state : FrameState ℕ) → ((nat_eq g source ≡ true) × (g ≡ source)) ⊎ ((nat_eq g source ≡ false) × (g ≢ source)) → ((nat_eq g target ≡ true) × (g ≡ target)) ⊎ ((nat_eq g target ≡ false) × (g ≢ target)) → state_by page (Some (Moving serial source target)) g ≡ Some state → slice_get changed g ≡ Some state
   by_test g state (inl s) t e =
-      ap (slice_get changed) s.1 ∙ two.first ∙ sym (ap (λ b. if b then Some (Source serial) else if nat_eq g target then Some (Target serial) else None) s.0) ∙ e
+      ap (slice_get changed) s.1 ∙ two.first ∙ sym (ap (λ b. if b then Some (Source page) else if nat_eq g target then Some (Target page) else None) s.0) ∙ e
   by_test g state (inr s) (inl t) e =
-      ap (slice_get changed) t.1 ∙ two.second ∙ sym (λ i. if s.0 i then Some (Source serial) else if t.0 i then Some (Target serial) else None) ∙ e
+      ap (slice_get changed) t.1 ∙ two.second ∙ sym (λ i. if s.0 i then Some (Source page) else if t.0 i then Some (Target page) else None) ∙ e
   by_test g state (inr s) (inr t) e =
-      let bad : None ≡ Some state = sym (λ i. if s.0 i then Some (Source serial) else if t.0 i then Some (Target serial) else None) ∙ e in cc
+      let bad : None ≡ Some state = sym (λ i. if s.0 i then Some (Source page) else if t.0 i then Some (Target page) else None) ∙ e in cc
 
   pub isolated_frames : FramesSettled frames changed page (At source) (Moving serial source target)
   isolated_frames = record {
@@ -64,13 +63,6 @@ isolated_words rows v fit serial source target source_in target_in = record {
       | inr t ↦ (let bad : false ≡ true = sym (λ i. s.0 i || t.0 i) ∙ has in absurd (cc))
     ]
   ]);
-}
-
-pub isolated_sources : (pages : List ℕ) (page serial source target : ℕ) → source < length pages → SourcesPlaced pages (slice_set pages source page) page (Some (Moving serial source target))
-isolated_sources pages page serial source target within = record {
-  count = length-set pages source page;
-  here = λ s from to e. (let at : source ≡ from = cc in slice_get_set_same pages source from page (sym at) within);
-  kept = λ g gone. slice_get_set_other pages source g page (λ is. untrue _ gone (ap (λ b. b || nat_eq g target) (eq-eqb g source is)));
 }
 
 pub isolated_movable : (movable : List Bool) (can : Bool) (serial source target : ℕ) → MovableSettled movable movable can (Moving serial source target)

@@ -105,27 +105,18 @@ module _ (entries : EntryTable) (v : ZoneState) (fit : EntriesFit entries v) (la
       (let a : Address = record { space = i; vpage = j } in
       let inside = (law.agrees.named a page (page_is (page_at v.records a) page e)).0 in (inside.space, inside.vpage))))
 
-  -- no entry has the serial that is given next
-  pub fresh_serial : (a : Address) (source : ℕ) → InRange a → entry_at entries a ≢ Migration (isolated v.records) source
-  fresh_serial a source range e =
-      let way = migration_is (placement_at v a) (isolated v.records) source (sym (fit.each a range) ∙ e) in
-      let page = page_named v a (Moving (isolated v.records) source way.0) way.1 in
-      let known = (law.agrees.under_way page.0 (isolated v.records)).0 (ap (λ (o : Option Placement). is_under o (isolated v.records)) page.2 ∙ eq-eqb (isolated v.records) (isolated v.records) refl) in
-      let below = out_below v.records law.journal.well_ended (isolated v.records) known.0 in
-      absurd (omega (arith, below))
-
   -- no address names a page that left a frame which no page takes up, or which holds a page
-  pub none_left : (frame : ℕ) → is_used v frame ≡ false → (a : Address) (serial : ℕ) → InRange a → entry_at entries a ≢ Migration serial frame
-  none_left frame unused a serial range e =
+  pub none_left : (frame : ℕ) → is_used v frame ≡ false → (a : Address) → InRange a → entry_at entries a ≢ Migration frame
+  none_left frame unused a range e =
       untrue _ (none_listed frame unused a range) (ap (λ (x : Entry). is_listed x frame) e ∙ eq-eqb frame frame refl)
 
-  pub page_rests : (page frame : ℕ) → map.get v.placement page ≡ Some (At frame) → (a : Address) (serial : ℕ) → InRange a → entry_at entries a ≢ Migration serial frame
-  page_rests page frame at a serial range e =
+  pub page_rests : (page frame : ℕ) → map.get v.placement page ≡ Some (At frame) → (a : Address) → InRange a → entry_at entries a ≢ Migration frame
+  page_rests page frame at a range e =
       let by = names_of a range frame (ap (λ (x : Entry). is_listed x frame) e ∙ eq-eqb frame frame refl) in
       let same : by.page ≡ page = law.pages.apart by.page page frame by.takes (ap (λ (p : Option Placement). takes_up p frame) at ∙ eq-eqb frame frame refl) in
       let two : Some by.placement ≡ Some (At frame) = sym by.at ∙ ap (map.get v.placement) same ∙ at in
       let is : by.placement ≡ At frame = cc in
-      let bad : Present frame ≡ Migration serial frame = sym (ap (λ (p : Placement). entry_for (Some p)) is) ∙ sym by.entry ∙ e in
+      let bad : Present frame ≡ Migration frame = sym (ap (λ (p : Placement). entry_for (Some p)) is) ∙ sym by.entry ∙ e in
       cc
 
   -- the addresses listed under the source of a moving page name that page, and none is listed under its target
@@ -135,7 +126,7 @@ module _ (entries : EntryTable) (v : ZoneState) (fit : EntriesFit entries v) (la
         let same : by.page ≡ page = law.pages.apart by.page page frame by.takes (ap (λ (p : Option Placement). takes_up p frame) at ∙ takes) in
         let two : Some by.placement ≡ Some (Moving serial source target) = sym by.at ∙ ap (map.get v.placement) same ∙ at in cc
 
-    pub all_left : (a : Address) → InRange a → is_listed (entry_at entries a) source ≡ true → entry_at entries a ≡ Migration serial source
+    pub all_left : (a : Address) → InRange a → is_listed (entry_at entries a) source ≡ true → entry_at entries a ≡ Migration source
     all_left a range e =
         let by = names_of a range source e in
         by.entry ∙ ap (λ (p : Placement). entry_for (Some p)) (same_page source (or_left _ _ (eq-eqb source source refl)) a by)

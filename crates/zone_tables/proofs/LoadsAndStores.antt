@@ -53,7 +53,6 @@ loaded_sound z v sound history client address frame word at spare = record {
   words = record { count = sound.words.count; sized = sound.words.sized; each = sound.words.each };
   notes = record { count = sound.notes.count; each = λ page note e used. (let fit = sound.notes.each page note e used in record { dirty = fit.dirty; pins = fit.pins; maps = fit.maps }) };
   moves = record { isolated = sound.moves.isolated; moved = sound.moves.moved; back = sound.moves.back };
-  sources = sound.sources;
   movable = record { count = sound.movable.count; each = sound.movable.each };
 }
 
@@ -219,7 +218,6 @@ store_sound z v client address page frame word value note history known =
       words = stored_words z.words v sound.valid sound.words client address page frame word value known.named known.at known.small;
       notes = stored_notes z.words v sound.valid sound.words client address page frame word value known.named known.at known.small z.notes note sound.notes known.note_is;
       moves = record { isolated = sound.moves.isolated; moved = sound.moves.moved; back = sound.moves.back };
-      sources = sound.sources;
       movable = record { count = sound.movable.count; each = sound.movable.each };
     }
 

@@ -47,7 +47,6 @@ module _ {W : ℕ} (z : Inside W) (v : ZoneState) (sound : IsSound z v) (view : 
     words = record { count = sound.words.count; sized = sound.words.sized; each = sound.words.each };
     notes = record { count = sound.notes.count; each = λ page note e used. (let fit = sound.notes.each page note e used in record { dirty = fit.dirty; pins = fit.pins; maps = fit.maps }) };
     moves = record { isolated = sound.moves.isolated; moved = sound.moves.moved; back = sound.moves.back };
-    sources = sound.sources;
     movable = record { count = sound.movable.count; each = sound.movable.each };
   }
 
@@ -64,7 +63,6 @@ module _ {W : ℕ} (z : Inside W) (v : ZoneState) (sound : IsSound z v) (view : 
     words = record { count = sound.words.count; sized = sound.words.sized; each = sound.words.each };
     notes = record { count = sound.notes.count; each = λ page note e used. (let fit = sound.notes.each page note e used in record { dirty = fit.dirty; pins = fit.pins; maps = fit.maps }) };
     moves = record { isolated = sound.moves.isolated; moved = sound.moves.moved; back = sound.moves.back };
-    sources = sound.sources;
     movable = record { count = sound.movable.count; each = sound.movable.each };
   }
 

@@ -35,20 +35,20 @@ use Rattle.zone_tables.proofs.Relocation.{FramesSettled, MovableSettled, WordsSe
 use Rattle.zone_tables.proofs.Isolation.{TwoSet, two_set}
 
 -- one of the two frames of a moving page holds it now, and the other is free
-module _ (frames : List FrameState) (page kept left : ℕ) (apart : kept ≢ left) (kept_in : kept < length frames) (left_in : left < length frames) where
-  abbrev changed : List FrameState
+module _ (frames : List (FrameState ℕ)) (page kept left : ℕ) (apart : kept ≢ left) (kept_in : kept < length frames) (left_in : left < length frames) where
+  abbrev changed : List (FrameState ℕ)
   changed = slice_set (slice_set frames left Free) kept (Holds page)
 
   pub two : TwoSet frames changed left kept Free (Holds page)
   two = two_set frames left kept Free (Holds page) (λ e. apart (sym e)) left_in kept_in
 
-  pub state_kept : (g : ℕ) (state : FrameState) → state_by page (Some (At kept)) g ≡ Some state → slice_get changed g ≡ Some state
+  pub state_kept : (g : ℕ) (state : FrameState ℕ) → state_by page (Some (At kept)) g ≡ Some state → slice_get changed g ≡ Some state
   state_kept g state e = elim (eqb_tells g kept) [
     | inl same ↦ ap (slice_get changed) same.1 ∙ two.second ∙ sym (ap (λ b. if b then Some (Holds page) else None) same.0) ∙ e
     | inr other ↦ (let bad : None ≡ Some state = sym (ap (λ b. if b then Some (Holds page) else None) other.0) ∙ e in cc)
   ]
 
-pub moved_frames : (frames : List FrameState) (page serial source target : ℕ) → source ≢ target → source < length frames → target < length frames → FramesSettled frames (slice_set (slice_set frames source Free) target (Holds page)) page (Moving serial source target) (At target)
+pub moved_frames : (frames : List (FrameState ℕ)) (page serial source target : ℕ) → source ≢ target → source < length frames → target < length frames → FramesSettled frames (slice_set (slice_set frames source Free) target (Holds page)) page (Moving serial source target) (At target)
 moved_frames frames page serial source target apart source_in target_in =
     let set = two frames page target source (λ e. apart (sym e)) target_in source_in in
     record {
@@ -58,7 +58,7 @@ moved_frames frames page serial source target apart source_in target_in =
       kept = λ g off gone. set.others g (eqb-false g source (or_parts _ _ off).0) (eqb-false g target gone);
     }
 
-pub back_frames : (frames : List FrameState) (page serial source target : ℕ) → source ≢ target → source < length frames → target < length frames → FramesSettled frames (slice_set (slice_set frames target Free) source (Holds page)) page (Moving serial source target) (At source)
+pub back_frames : (frames : List (FrameState ℕ)) (page serial source target : ℕ) → source ≢ target → source < length frames → target < length frames → FramesSettled frames (slice_set (slice_set frames target Free) source (Holds page)) page (Moving serial source target) (At source)
 back_frames frames page serial source target apart source_in target_in =
     let set = two frames page source target apart source_in target_in in
     record {
@@ -133,10 +133,10 @@ module _ {W : ℕ} {z : Inside W} {v : ZoneState} (view : state_of z ≡ v) (inv
 
   -- the source and the target of a moving page are noted as such, and one still is after the other was freed
   pub source_on_way : way_at z.frames.states source ≡ true
-  source_on_way = ap is_way_state (sound.frames.of_page page source (Source serial) (ap (λ o. state_by page o source) at ∙ chosen source _ _))
+  source_on_way = ap is_way_state (sound.frames.of_page page source (Source page) (ap (λ o. state_by page o source) at ∙ chosen source _ _))
 
   pub target_on_way : way_at z.frames.states target ≡ true
-  target_on_way = ap is_way_state (sound.frames.of_page page target (Target serial) (ap (λ o. state_by page o target) at ∙ ap (λ b. if b then Some (Source serial) else if nat_eq target target then Some (Target serial) else None) (ne_eqb target source (λ e. two_frames (sym e))) ∙ chosen target _ _))
+  target_on_way = ap is_way_state (sound.frames.of_page page target (Target page) (ap (λ o. state_by page o target) at ∙ ap (λ b. if b then Some (Source page) else if nat_eq target target then Some (Target page) else None) (ne_eqb target source (λ e. two_frames (sym e))) ∙ chosen target _ _))
 
   pub source_still : (freed : Frames) → freed ≡ record z.frames { states = slice_set z.frames.states target Free } → way_at freed.states source ≡ true
   source_still freed is = still_on_way z.frames freed source target two_frames is source_on_way
@@ -145,7 +145,7 @@ module _ {W : ℕ} {z : Inside W} {v : ZoneState} (view : state_of z ≡ v) (inv
   target_still freed is = still_on_way z.frames freed target source (λ e. two_frames (sym e)) is target_on_way
 
   -- each address that is listed under the source names the page, and none is listed under the target
-  pub source_left : (a : Address) → InRange a → is_listed (entry_at z.tables.entries a) source ≡ true → entry_at z.tables.entries a ≡ Migration serial source
+  pub source_left : (a : Address) → InRange a → is_listed (entry_at z.tables.entries a) source ≡ true → entry_at z.tables.entries a ≡ Migration source
   source_left = all_left z.tables.entries v sound.entries sound.valid page serial source target at
 
   pub target_left : target ≢ source → (a : Address) → InRange a → is_listed (entry_at z.tables.entries a) target ≡ false
@@ -177,7 +177,7 @@ module _ {W : ℕ} {z : Inside W} {v : ZoneState} (view : state_of z ≡ v) (inv
   }
 
 -- two frames change their states, one after the other
-pub two_puts : (f a b : Frames) (i j : ℕ) (x y : FrameState) → a ≡ record f { states = slice_set f.states i x } → b ≡ record a { states = slice_set a.states j y } → b ≡ record f { states = slice_set (slice_set f.states i x) j y }
+pub two_puts : (f a b : Frames) (i j : ℕ) (x y : FrameState ℕ) → a ≡ record f { states = slice_set f.states i x } → b ≡ record a { states = slice_set a.states j y } → b ≡ record f { states = slice_set (slice_set f.states i x) j y }
 two_puts f a b i j x y first second = second ∙ ap (λ (fs : Frames). record fs { states = slice_set fs.states j y }) first
 
 -- a page's move ends in one of its frames, and the other is free
@@ -185,5 +185,5 @@ pub left_settled : (f a b : Frames) (kept left page : ℕ) (can : Bool) → a �
 left_settled f a b kept left page can first second = second ∙ ap (λ (fs : Frames). record { states = slice_set fs.states kept (Holds page); movable = slice_set fs.movable kept can }) first
 
 -- a free frame is still free after another one changed its state
-pub still_free : (f a : Frames) (frame other : ℕ) (state : FrameState) → frame ≢ other → a ≡ record f { states = slice_set f.states other state } → free_at f.states frame ≡ true → free_at a.states frame ≡ true
+pub still_free : (f a : Frames) (frame other : ℕ) (state : FrameState ℕ) → frame ≢ other → a ≡ record f { states = slice_set f.states other state } → free_at f.states frame ≡ true → free_at a.states frame ≡ true
 still_free f a frame other state apart now free = ap (λ (fs : Frames). free_at fs.states frame) now ∙ ap is_free_state (slice_get_set_other f.states other frame state apart) ∙ free

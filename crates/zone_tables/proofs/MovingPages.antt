@@ -19,7 +19,7 @@ use Rattle.table_core.specs.Tables.{EntryTable, entry_at}
 use Rattle.zone_tables.proofs.Tables.{migration_is, placement_seen}
 use Rattle.zone_tables.proofs.ListedAddresses.{page_is}
 use Rattle.zone_tables.specs.Fits.{EntriesFit, entry_for}
-use Rattle.zone_tables.specs.MovingPages.{IsLeftByNone, IsLowestName}
+use Rattle.zone_tables.specs.MovingPages.{Leaves, IsLeftByNone, IsLowestName}
 use Rattle.zone_tables.specs.Notes.{placement_of}
 use Rattle.zone_tables.specs.Sound.{state_of, IsSound}
 use Rattle.zone_tables.specs.declared.zone.ZoneTables.TheInside.{Inside}
@@ -33,27 +33,27 @@ has_name v valid page placement at none =
     ∙ pairs_none (λ i j. false) 256 16777216 (λ i j. refl) in
     let some = (valid.agrees.in_use page (not_none (map.get v.placement page) placement at)).0 in omega (arith, few, some)
 
-module _ (v : ZoneState) (valid : IsValidZone v) (entries : EntryTable) (fit : EntriesFit entries v) (page serial source target : ℕ) (at : map.get v.placement page ≡ Some (Moving serial source target)) where
+module _ (v : ZoneState) (valid : IsValidZone v) (entries : EntryTable) (fit : EntriesFit entries v) (page source : ℕ) (leaves : Leaves (map.get v.placement page) source) where
   -- the addresses of a moving page have the entry of its move, and no other address has
-  pub entered : (a : Address) → page_at v.records a ≡ Some page → InRange a × (entry_at entries a ≡ Migration serial source)
+  pub entered : (a : Address) → page_at v.records a ≡ Some page → InRange a × (entry_at entries a ≡ Migration source)
   entered a is =
       let range = named_in_range v valid a page is in
-      (range, fit.each a range ∙ ap entry_for (ap (option_and_then (map.get v.placement)) is ∙ at))
+      (range, fit.each a range ∙ ap entry_for (ap (option_and_then (map.get v.placement)) is ∙ leaves.1.1))
 
-  pub of_entry : (a : Address) → InRange a → entry_at entries a ≡ Migration serial source → page_at v.records a ≡ Some page
+  pub of_entry : (a : Address) → InRange a → entry_at entries a ≡ Migration source → page_at v.records a ≡ Some page
   of_entry a range is =
-      let way = migration_is (placement_at v a) serial source (sym (fit.each a range) ∙ is) in
-      let named = page_named v a (Moving serial source way.0) way.1 in
-      let takes = λ (p t : ℕ) (e : map.get v.placement p ≡ Some (Moving serial source t)). ap (λ (o : Option Placement). takes_up o source) e ∙ takes_own (Moving serial source t) in
-      named.1 ∙ ap Some (valid.pages.apart named.0 page source (takes named.0 way.0 named.2) (takes page target at))
+      let way = migration_is (placement_at v a) source (sym (fit.each a range) ∙ is) in
+      let named = page_named v a (Moving way.0 source way.1.0) way.1.1 in
+      let takes = λ (p s t : ℕ) (e : map.get v.placement p ≡ Some (Moving s source t)). ap (λ (o : Option Placement). takes_up o source) e ∙ takes_own (Moving s source t) in
+      named.1 ∙ ap Some (valid.pages.apart named.0 page source (takes named.0 way.0 way.1.0 named.2) (takes page leaves.0 leaves.1.0 leaves.1.1))
 
-  module _ (found : List Address) (just : AreJust found (λ a. entry_at entries a ≡ Migration serial source)) where
+  module _ (found : List Address) (just : AreJust found (λ a. entry_at entries a ≡ Migration source)) where
     not_empty : (list : List Address) → slice_get list 0 ≡ None → (a : Address) → IsIn list a → ⊥
     not_empty [] e a inside = inside
     not_empty (b ∷ rest) e a inside = cc
 
     pub some_found : slice_get found 0 ≡ None → ⊥
-    some_found none = has_name v valid page (Moving serial source target) at (λ a is. not_empty found none a ((just.each a).1 (entered a is)))
+    some_found none = has_name v valid page (Moving leaves.0 source leaves.1.0) leaves.1.1 (λ a is. not_empty found none a ((just.each a).1 (entered a is)))
 
     -- the first address of a rising list is the lowest
     first_is_lowest : (list : List Address) (a other : Address) → slice_get list 0 ≡ Some a → IsRising list → IsIn list other → order_of a ≤ order_of other
@@ -73,21 +73,10 @@ module _ (v : ZoneState) (valid : IsValidZone v) (entries : EntryTable) (fit : E
           lowest = λ other is. first_is_lowest found a other first just.rising ((just.each other).1 (entered other is));
         }
 
-module _ {W : ℕ} (z : Inside W) (v : ZoneState) (sound : IsSound z v) (view : state_of z ≡ v) (source page : ℕ) (last : slice_get z.moves.pages source ≡ Some page)
-    (found : Option Placement) (noted : found ≡ placement_of z.notes page) where
-  -- the page that was isolated last from a frame has this placement
-  pub placed : map.get v.placement page ≡ found
-  placed = sym (noted ∙ placement_seen z v view page)
-
-  -- a page that is moving out of a frame is the one that was isolated last from it
-  pub left_by : (p serial target : ℕ) → map.get v.placement p ≡ Some (Moving serial source target) → found ≡ Some (Moving serial source target)
-  left_by p serial target e =
-      let is = sound.sources.each p serial source target e in
-      let same : page ≡ p = cc in
-      sym placed ∙ ap (map.get v.placement) same ∙ e
-
-  pub left_by_none : ((serial target : ℕ) → found ≡ Some (Moving serial source target) → ⊥) → IsLeftByNone v source
-  left_by_none other p serial target e = other serial target (left_by p serial target e)
-
-  pub still_leaves : (serial left target : ℕ) → found ≡ Some (Moving serial left target) → left ≡ source → map.get v.placement page ≡ Some (Moving serial source target)
-  still_leaves serial left target is same = placed ∙ is ∙ ap (λ (f : ℕ). Some (Moving serial f target)) same
+-- the page that is moving out of a frame is the only one
+pub only_page : (v : ZoneState) → IsValidZone v → (source page : ℕ) → Leaves (map.get v.placement page) source → (found : Option ℕ) →
+    IfSome found (λ q. Leaves (map.get v.placement q) source) → (found ≡ None → IsLeftByNone v source) → found ≡ Some page
+only_page v valid source page leaves None some none = absurd (none refl page leaves.0 leaves.1.0 leaves.1.1)
+only_page v valid source page leaves (Some q) some none = ap Some (valid.pages.apart q page source (takes q some) (takes page leaves)) where
+  takes : (p : ℕ) → Leaves (map.get v.placement p) source → takes_up (map.get v.placement p) source ≡ true
+  takes p left = ap (λ (o : Option Placement). takes_up o source) left.1.1 ∙ takes_own (Moving left.0 source left.1.0)

@@ -80,14 +80,13 @@ module _ {W : ℕ} {z : Inside W} {v : ZoneState} {page : ℕ} {entry : Record} 
         tables = known.frames_same ∙ sound.tables;
         size = known.size_same ∙ sound.size;
         marks = sound.marks;
-        frames = subst (λ (states : List FrameState). FramesFit states (noted v entry)) (sym known.states)
+        frames = subst (λ (states : List (FrameState ℕ)). FramesFit states (noted v entry)) (sym known.states)
             (record { count = sound.frames.count; of_page = sound.frames.of_page; of_block = sound.frames.of_block; of_none = sound.frames.of_none });
         movable = known.movable;
         entries = known.entries;
         words = record { count = sound.words.count; sized = sound.words.sized; each = λ q placement w at small. sound.words.each q placement w at small ∙ ap Some (sym (known.only.last q w)) };
         notes = notes_fit v (noted v entry) page _ _ (stays v (noted v entry) page sound.valid known.valid refl refl refl refl) z.notes changed within sound.notes (λ used. known.fits) leaves;
         moves = known.moves;
-        sources = sound.sources;
       }
 
   pub noting_view : state_of (after_noting z page changed frames tables history) ≡ noted v entry

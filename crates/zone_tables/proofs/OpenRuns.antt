@@ -37,24 +37,24 @@ module _ {W : ℕ} (z : Inside W) (v : ZoneState) (sound : IsSound z v) (frame :
     fixed_is : (fixed : Bool) → (is_held v frame || is_immovable v frame) ≡ fixed → is_shut v frame ≡ fixed
     fixed_is fixed e = (λ i. unmarked i || (is_held v frame || is_immovable v frame)) ∙ e
 
-    shut_by : (state : FrameState) → slice_get z.frames.states frame ≡ Some state → is_shut v frame ≡ not (is_open_at z.frames frame)
+    shut_by : (state : FrameState ℕ) → slice_get z.frames.states frame ≡ Some state → is_shut v frame ≡ not (is_open_at z.frames frame)
     shut_by Free at = fixed_is false (fixed_free z v sound frame within at) ∙ sym (λ i. not (is_free_state (at i) || (is_holding_state (at i) && true_at z.frames.movable frame)))
     shut_by (Holds page) at =
         let here = holds_seen z.frames.states v sound.frames frame page (Holds page) within at refl in
         let noted : true_at z.frames.movable frame ≡ can_move v page = ap (λ (o : Option Bool). unwrap_or o false) (sound.movable.each page frame here) in
         fixed_is (not (can_move v page)) (fixed_at z v sound frame within page here) ∙ sym (λ i. not (is_free_state (at i) || (is_holding_state (at i) && noted i)))
-    shut_by (Source serial) at = fixed_is true (fixed_other z v sound frame within (Source serial) at (inl (serial, refl))) ∙ sym (λ i. not (is_free_state (at i) || (is_holding_state (at i) && true_at z.frames.movable frame)))
-    shut_by (Target serial) at = fixed_is true (fixed_other z v sound frame within (Target serial) at (inr (inl (serial, refl)))) ∙ sym (λ i. not (is_free_state (at i) || (is_holding_state (at i) && true_at z.frames.movable frame)))
+    shut_by (Source page) at = fixed_is true (fixed_other z v sound frame within (Source page) at (inl (page, refl))) ∙ sym (λ i. not (is_free_state (at i) || (is_holding_state (at i) && true_at z.frames.movable frame)))
+    shut_by (Target page) at = fixed_is true (fixed_other z v sound frame within (Target page) at (inr (inl (page, refl)))) ∙ sym (λ i. not (is_free_state (at i) || (is_holding_state (at i) && true_at z.frames.movable frame)))
     shut_by Huge at = fixed_is true (fixed_other z v sound frame within Huge at (inr (inr refl))) ∙ sym (λ i. not (is_free_state (at i) || (is_holding_state (at i) && true_at z.frames.movable frame)))
 
-    state_there : (state : FrameState) × (slice_get z.frames.states frame ≡ Some state)
+    state_there : (state : FrameState ℕ) × (slice_get z.frames.states frame ≡ Some state)
     state_there = (_, slice_get-get_or z.frames.states frame Free (omega (arith, within, sound.frames.count)))
 
     pub shut_is : is_shut v frame ≡ not (is_open_at z.frames frame)
     shut_is = shut_by state_there.0 state_there.1
 
     -- one that isn't shut is used where it holds a page
-    used_by : (state : FrameState) → slice_get z.frames.states frame ≡ Some state → is_shut v frame ≡ false → is_used v frame ≡ holds_at z.frames.states frame
+    used_by : (state : FrameState ℕ) → slice_get z.frames.states frame ≡ Some state → is_shut v frame ≡ false → is_used v frame ≡ holds_at z.frames.states frame
     used_by Free at unshut =
         let free = and_parts _ (not (is_held v frame)) (sym (free_seen z.frames.states v sound.frames frame within) ∙ ap is_free_state at) in
         not-true _ free.0 ∙ sym (ap is_holding_state at)

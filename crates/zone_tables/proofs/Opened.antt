@@ -48,7 +48,7 @@ pub record IsFresh {W : ℕ} (z : Inside W) (number : ℕ) (size : ZoneSize) (pl
   pub cleared : z.cleared ≡ replicate (512 * size.blocks) false
   pub marked : z.marked.items ≡ replicate size.blocks false
   pub fingers : z.fingers ≡ record { migrate = 0; free = 0 }
-  pub moves : z.moves ≡ record { pages = replicate (512 * size.blocks) 0; isolated = 0; moved = 0; back = 0 }
+  pub moves : z.moves ≡ record { isolated = 0; moved = 0; back = 0 }
   pub history : z.history ≡ record { records = []; room = places; round = None }
 
 pub opened_view : {W : ℕ} (z : Inside W) (number : ℕ) (size : ZoneSize) (places : ℕ) → IsFresh z number size places → state_of z ≡ opened_sized W number size places
@@ -110,10 +110,6 @@ opened_sound {W} z number size places fresh = record {
     each = λ page note e used. absurd (clash note.placement (sym (ap (option_and_then (λ (n : PageNote). n.placement)) e) ∙ ap (λ (ns : List PageNote). placement_of ns page) fresh.notes ∙ no_placement (512 * size.blocks) page) used);
   };
   moves = record { isolated = ap (λ (m : Moves). m.isolated) fresh.moves; moved = ap (λ (m : Moves). m.moved) fresh.moves; back = ap (λ (m : Moves). m.back) fresh.moves };
-  sources = record {
-    count = ap (λ (m : Moves). length m.pages) fresh.moves ∙ length-replicate (512 * size.blocks) 0;
-    each = λ page serial source target e. (let bad : None ≡ Some (Moving serial source target) = sym (map.get-empty nat_cmp page) ∙ e in cc);
-  };
   movable = record {
     count = ap (λ (fs : Frames). length fs.movable) fresh.frames ∙ length-replicate (512 * size.blocks) false;
     each = λ page frame e. (let bad : None ≡ Some (At frame) = sym (map.get-empty nat_cmp page) ∙ e in cc);

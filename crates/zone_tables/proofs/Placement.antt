@@ -21,7 +21,7 @@ use Rattle.state_core.specs.Pairs.{can_move}
 use Rattle.state_core.specs.ZoneState.{ZoneState, words_frame, frame_count, takes_up, covers, is_held, is_free}
 use Rattle.zone_tables.specs.declared.note.PageNote.{PageNote}
 use Rattle.zone_tables.specs.Notes.{movable_at}
-use Rattle.zone_tables.specs.Fits.{state_by, FramesFit, MovableFit, WordsFit, NoteFits, NotesFit, SourcesFit}
+use Rattle.zone_tables.specs.Fits.{state_by, FramesFit, MovableFit, WordsFit, NoteFits, NotesFit}
 use Rattle.std.proofs.lemmas.Option.{cond_some}
 
 -- the states before and after a page got another place
@@ -36,9 +36,9 @@ pub record GetsPlace (v w : ZoneState) (page : ℕ) (old new : Option Placement)
   pub handed_out : w.handed_out ≡ v.handed_out
 
 -- how the states of frames change when a page gets another place
-pub record FramesPlaced (frames changed : List FrameState) (page : ℕ) (old new : Option Placement) : Type 0 where
+pub record FramesPlaced (frames changed : List (FrameState ℕ)) (page : ℕ) (old new : Option Placement) : Type 0 where
   pub count : length changed ≡ length frames
-  pub taken : (frame : ℕ) (state : FrameState) → state_by page new frame ≡ Some state → slice_get changed frame ≡ Some state
+  pub taken : (frame : ℕ) (state : FrameState ℕ) → state_by page new frame ≡ Some state → slice_get changed frame ≡ Some state
   pub left : (frame : ℕ) → takes_up old frame ≡ true → takes_up new frame ≡ false → slice_get changed frame ≡ Some Free
   pub kept : (frame : ℕ) → takes_up old frame ≡ false → takes_up new frame ≡ false → slice_get changed frame ≡ slice_get frames frame
 
@@ -47,12 +47,6 @@ pub record MovablePlaced (movable changed : List Bool) (can : Bool) (new : Optio
   pub count : length changed ≡ length movable
   pub here : (frame : ℕ) → new ≡ Some (At frame) → slice_get changed frame ≡ Some can
   pub kept : (frame : ℕ) → takes_up new frame ≡ false → slice_get changed frame ≡ slice_get movable frame
-
--- the page is noted under its source, where it is moving
-pub record SourcesPlaced (pages changed : List ℕ) (page : ℕ) (new : Option Placement) : Type 0 where
-  pub count : length changed ≡ length pages
-  pub here : (serial source target : ℕ) → new ≡ Some (Moving serial source target) → slice_get changed source ≡ Some page
-  pub kept : (frame : ℕ) → takes_up new frame ≡ false → slice_get changed frame ≡ slice_get pages frame
 
 -- the frame of the page has the words of the page
 pub record WordsPlaced (rows changed : List (List ℕ)) (w : ZoneState) (page : ℕ) (new : Option Placement) : Type 0 where
@@ -73,10 +67,10 @@ either true b x y z e = refl
 either false b x y z e = (cond_some b y z e).0
 
 -- a frame that a page puts in a state is one that it takes up
-pub state_taken : (page : ℕ) (o : Option Placement) (frame : ℕ) (state : FrameState) → state_by page o frame ≡ Some state → takes_up o frame ≡ true
+pub state_taken : (page : ℕ) (o : Option Placement) (frame : ℕ) (state : FrameState ℕ) → state_by page o frame ≡ Some state → takes_up o frame ≡ true
 state_taken page None frame state e = cc
 state_taken page (Some (At f)) frame state e = (cond_some (nat_eq frame f) (Holds page) state e).0
-state_taken page (Some (Moving serial source target)) frame state e = either (nat_eq frame source) (nat_eq frame target) (Source serial) (Target serial) state e
+state_taken page (Some (Moving serial source target)) frame state e = either (nat_eq frame source) (nat_eq frame target) (Source page) (Target page) state e
 
 in_use : (o : Option Placement) (frame : ℕ) → takes_up o frame ≡ true → IsSome o
 in_use None frame e = cc
@@ -115,7 +109,7 @@ module _ (v w : ZoneState) (page : ℕ) (old new : Option Placement) (gets : Get
   free_same : (g : ℕ) → takes_up old g ≡ false → takes_up new g ≡ false → is_free w g ≡ is_free v g
   free_same g off gone = λ i. not (some_below (λ p. used_same g off gone p i) (frames_same i)) && not (held_same g i)
 
-  pub frames_fit : (frames changed : List FrameState) → FramesFit frames v → FramesPlaced frames changed page old new → FramesFit changed w
+  pub frames_fit : (frames changed : List (FrameState ℕ)) → FramesFit frames v → FramesPlaced frames changed page old new → FramesFit changed w
   frames_fit frames changed fit change = record {
     count = change.count ∙ fit.count ∙ sym frames_same;
     of_page = λ q g state e. elim (eqb_tells q page) [
@@ -146,17 +140,6 @@ module _ (v w : ZoneState) (page : ℕ) (old new : Option Placement) (gets : Get
       | inr other ↦
           (let was : map.get v.placement q ≡ Some (At g) = sym (gets.others q other.1) ∙ e in
           change.kept g (not_new q g other.1 (takes _ _ g was ∙ eq-eqb g g refl)) ∙ fit.each q g was ∙ ap Some (sym (still q other.1)))
-    ];
-  }
-
-  pub sources_fit : (pages changed : List ℕ) → SourcesFit pages (frame_count v) v.placement → SourcesPlaced pages changed page new → SourcesFit changed (frame_count w) w.placement
-  sources_fit pages changed fit change = record {
-    count = change.count ∙ fit.count ∙ sym frames_same;
-    each = λ q serial source target e. elim (eqb_tells q page) [
-      | inl same ↦ change.here serial source target (sym gets.now ∙ ap (map.get w.placement) (sym same.1) ∙ e) ∙ ap Some (sym same.1)
-      | inr other ↦
-          (let was : map.get v.placement q ≡ Some (Moving serial source target) = sym (gets.others q other.1) ∙ e in
-          change.kept source (not_new q source other.1 (takes _ _ source was ∙ takes_own (Moving serial source target))) ∙ fit.each q serial source target was)
     ];
   }
 

@@ -24,7 +24,6 @@ use Rattle.state_core.specs.ZoneState.{words_frame, ZoneState, frame_count, take
 use Rattle.std.specs.FinSet as set
 use Rattle.state_core.specs.Pairs.{can_move}
 use Rattle.zone_tables.specs.Notes.{placement_of, is_unmovable_of, says_unmovable}
-use Rattle.state_core.specs.Valid.{is_under}
 use Rattle.state_core.specs.Carrying.{relocated}
 use Rattle.state_core.specs.Swept.{SweptIfQuiet}
 use Rattle.zone_tables.specs.HandedOut.{order_of}
@@ -37,11 +36,11 @@ use Rattle.zone_tables.proofs.HeldWords.{held_contents}
 use Rattle.zone_tables.proofs.SearchesAndCounts.{get_placements}
 use Rattle.state_core.proofs.Placed.{clash}
 use Rattle.zone_tables.proofs.NotedPages.{unmovable_kept, placements_put}
-use Rattle.zone_tables.proofs.Placement.{GetsPlace, LeavesOthers, FramesPlaced, MovablePlaced, WordsPlaced, SourcesPlaced, frames_fit, movable_fit, words_fit, notes_fit, sources_fit}
+use Rattle.zone_tables.proofs.Placement.{GetsPlace, LeavesOthers, FramesPlaced, MovablePlaced, WordsPlaced, frames_fit, movable_fit, words_fit, notes_fit}
 use Rattle.state_core.proofs.Settled.{CanSettle, IsRecorded, IsStill, at_page, at_other, not_old, valid_settled}
 
 -- how the states of frames change with the place of a page in use, and what is noted of whether it may be taken
-abbrev pub FramesSettled : List FrameState → List FrameState → ℕ → Placement → Placement → Type 0
+abbrev pub FramesSettled : List (FrameState ℕ) → List (FrameState ℕ) → ℕ → Placement → Placement → Type 0
 FramesSettled frames changed page old new = FramesPlaced frames changed page (Some old) (Some new)
 
 abbrev pub MovableSettled : List Bool → List Bool → Bool → Placement → Type 0
@@ -78,12 +77,10 @@ module _ (v : ZoneState) (page : ℕ) (old new : Placement) (can : CanSettle v p
   other_entry q (At f) ne at (Moving serial source target) is e = cc
   other_entry q (Moving serial source target) ne at (At g) is e = cc
   other_entry q (Moving a source target) ne at (Moving b from to) is e =
-      let same : a ≡ b = cc in
-      let mine = (can.valid.agrees.under_way page b).0 (ap (λ (o : Option Placement). is_under o b) (can.at ∙ ap Some (sym is)) ∙ eq-eqb b b refl) in
-      let theirs = (can.valid.agrees.under_way q b).0 (ap (λ (o : Option Placement). is_under o b) at ∙ eq-eqb a b same) in
-      let one : Some q ≡ Some page = sym theirs.1 ∙ mine.1 in
-      let is_page : q ≡ page = cc in
-      ne is_page
+      let same : source ≡ from = cc in
+      let theirs = ap (λ (o : Option Placement). takes_up o source) at ∙ takes_own (Moving a source target) in
+      let mine = ap (λ (o : Option Placement). takes_up o source) (can.at ∙ ap Some (sym is)) ∙ ap (λ b. b || nat_eq source to) (eq-eqb source from same) in
+      ne (can.valid.pages.apart q page source theirs mine)
 
   entry_of : (entries : EntryTable) → EntriesFit entries v → (a : Address) → InRange a → (q : Option ℕ) → page_at v.records a ≡ q → entry_at entries a ≡ entry_for (option_and_then (map.get v.placement) q)
   entry_of entries fit a range q e = fit.each a range ∙ ap (λ (o : Option ℕ). entry_for (option_and_then (map.get v.placement) o)) e
@@ -121,7 +118,6 @@ pub record Settling {W : ℕ} (z changed : Inside W) (v : ZoneState) (page : ℕ
   pub words : WordsSettled v.page_size z.words changed.words old new
   pub notes : changed.notes ≡ slice_set z.notes page (record note { placement = Some new })
   pub moves : MovesFit changed.moves (entry ∷ v.records)
-  pub sources : SourcesPlaced z.moves.pages changed.moves.pages page (Some new)
   pub movable : MovableSettled z.frames.movable changed.frames.movable (can_move v page) new
   pub fingers_are : changed.fingers ≡ record { migrate = migrate_new; free = free_new }
   pub fingers : (migrate_new ≤ free_new) × (free_new ≤ frame_count v)
@@ -201,7 +197,6 @@ module _ {W : ℕ} {z changed : Inside W} {v : ZoneState} {page : ℕ} {old new 
         notes = subst (λ (ns : List PageNote). NotesFit ns after) (sym known.notes)
             (notes_fit v after page (Some old) (Some new) gets z.notes settled_note (slice_get_within z.notes page note known.note_is) sound.notes (λ used. note_fits) leaves);
         moves = known.moves;
-        sources = sources_fit v after page (Some old) (Some new) gets z.moves.pages changed.moves.pages sound.sources known.sources;
       }
 
   note_within : page < length z.notes

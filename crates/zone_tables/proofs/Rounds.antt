@@ -32,7 +32,6 @@ begun_sound z v sound start here as_calm = record {
     each = λ page note at used. (let fit = sound.notes.each page note at used in record { dirty = fit.dirty; pins = fit.pins; maps = fit.maps });
   };
   moves = sound.moves;
-  sources = sound.sources;
   movable = record { count = sound.movable.count; each = sound.movable.each };
 }
 

@@ -54,7 +54,7 @@ module _ {W : ℕ} {z : Inside W} {v : ZoneState} (view : state_of z ≡ v) (inv
   fit : FramesFit z.frames.states v
   fit = sound.frames
 
-  abbrev states : List FrameState
+  abbrev states : List (FrameState ℕ)
   states = z.frames.states
 
   abbrev movable : List Bool
@@ -66,27 +66,27 @@ module _ {W : ℕ} {z : Inside W} {v : ZoneState} (view : state_of z ≡ v) (inv
   held_page : (frame page : ℕ) → frame < frame_count v → slice_get states frame ≡ Some (Holds page) → map.get v.placement page ≡ Some (At frame)
   held_page frame page h at = holds_seen states v fit frame page (Holds page) h at refl
 
-  by_state : (frame : ℕ) → frame < frame_count v → (o : Option FrameState) → slice_get states frame ≡ o → (is_holding_state o && true_at movable frame) ≡ can_move_if_some v (holder v frame)
+  by_state : (frame : ℕ) → frame < frame_count v → (o : Option (FrameState ℕ)) → slice_get states frame ≡ o → (is_holding_state o && true_at movable frame) ≡ can_move_if_some v (holder v frame)
   by_state frame h None at = let here = slice_get-get_or states frame Free (omega (arith, h, fit.count)) in cc
   by_state frame h (Some Free) at = sym (ap (can_move_if_some v) (none_seen states v fit frame Free at (λ page is. cc)))
-  by_state frame h (Some (Source serial)) at = sym (ap (can_move_if_some v) (none_seen states v fit frame (Source serial) at (λ page is. cc)))
-  by_state frame h (Some (Target serial)) at = sym (ap (can_move_if_some v) (none_seen states v fit frame (Target serial) at (λ page is. cc)))
+  by_state frame h (Some (Source moving)) at = sym (ap (can_move_if_some v) (none_seen states v fit frame (Source moving) at (λ page is. cc)))
+  by_state frame h (Some (Target moving)) at = sym (ap (can_move_if_some v) (none_seen states v fit frame (Target moving) at (λ page is. cc)))
   by_state frame h (Some Huge) at = sym (ap (can_move_if_some v) (none_seen states v fit frame Huge at (λ page is. cc)))
   by_state frame h (Some (Holds page)) at =
       let here = held_page frame page h at in
       ap (λ (o : Option Bool). unwrap_or o false) (sound.movable.each page frame here) ∙ sym (ap (can_move_if_some v) (holder_at v law page frame here))
 
-  unheld : (frame : ℕ) (state : FrameState) → frame < frame_count v → slice_get states frame ≡ Some state → (state ≡ Huge → ⊥) → ((page : ℕ) → state ≡ Holds page → ⊥) → (is_held v frame || stays_if_some v (holder v frame)) ≡ false
+  unheld : (frame : ℕ) (state : FrameState ℕ) → frame < frame_count v → slice_get states frame ≡ Some state → (state ≡ Huge → ⊥) → ((page : ℕ) → state ≡ Holds page → ⊥) → (is_held v frame || stays_if_some v (holder v frame)) ≡ false
   unheld frame state h at not_huge not_page =
       let clear = no_huge_seen states v fit frame state h at not_huge in
       let none = none_seen states v fit frame state at not_page in
       λ i. clear i || stays_if_some v (none i)
 
-  stuck_by_state : (frame : ℕ) → frame < frame_count v → (o : Option FrameState) → slice_get states frame ≡ o → (is_huge_state o || (is_holding_state o && not (true_at movable frame))) ≡ (is_held v frame || stays_if_some v (holder v frame))
+  stuck_by_state : (frame : ℕ) → frame < frame_count v → (o : Option (FrameState ℕ)) → slice_get states frame ≡ o → (is_huge_state o || (is_holding_state o && not (true_at movable frame))) ≡ (is_held v frame || stays_if_some v (holder v frame))
   stuck_by_state frame h None at = let here = slice_get-get_or states frame Free (omega (arith, h, fit.count)) in cc
   stuck_by_state frame h (Some Free) at = sym (unheld frame Free h at (λ is. cc) (λ page is. cc))
-  stuck_by_state frame h (Some (Source serial)) at = sym (unheld frame (Source serial) h at (λ is. cc) (λ page is. cc))
-  stuck_by_state frame h (Some (Target serial)) at = sym (unheld frame (Target serial) h at (λ is. cc) (λ page is. cc))
+  stuck_by_state frame h (Some (Source moving)) at = sym (unheld frame (Source moving) h at (λ is. cc) (λ page is. cc))
+  stuck_by_state frame h (Some (Target moving)) at = sym (unheld frame (Target moving) h at (λ is. cc) (λ page is. cc))
   stuck_by_state frame h (Some Huge) at = sym (ap (λ b. b || stays_if_some v (holder v frame)) (huge_seen states v fit frame Huge h at refl))
   stuck_by_state frame h (Some (Holds page)) at =
       let here = held_page frame page h at in

@@ -34,18 +34,18 @@ pub get_placements : (notes : List PageNote) (page : ℕ) → get (tabulated (pl
 get_placements notes page = get_tabulated_all (placement_of notes) (length notes) page (placement_past notes)
 
 -- a moving page puts a frame of its own in a state, and this state isn't Free
-puts : (page serial : ℕ) (a b : Bool) → (a || b) ≡ true → (state : FrameState) × ((if a then Some (Source serial) else if b then Some (Target serial) else None) ≡ Some state) × (is_free_state (Some state) ≡ false)
-puts page serial true b e = (Source serial, refl, refl)
-puts page serial false true e = (Target serial, refl, refl)
-puts page serial false false e = cc
+puts : (page : ℕ) (a b : Bool) → (a || b) ≡ true → (state : FrameState ℕ) × ((if a then Some (Source page) else if b then Some (Target page) else None) ≡ Some state) × (is_free_state (Some state) ≡ false)
+puts page true b e = (Source page, refl, refl)
+puts page false true e = (Target page, refl, refl)
+puts page false false e = cc
 
-pub takes_state : (page : ℕ) (o : Option Placement) (frame : ℕ) → takes_up o frame ≡ true → (state : FrameState) × (state_by page o frame ≡ Some state) × (is_free_state (Some state) ≡ false)
+pub takes_state : (page : ℕ) (o : Option Placement) (frame : ℕ) → takes_up o frame ≡ true → (state : FrameState ℕ) × (state_by page o frame ≡ Some state) × (is_free_state (Some state) ≡ false)
 takes_state page None frame e = cc
 takes_state page (Some (At f)) frame e = (Holds page, ap (λ b. if b then Some (Holds page) else None) e, refl)
-takes_state page (Some (Moving serial source target)) frame e = puts page serial (nat_eq frame source) (nat_eq frame target) e
+takes_state page (Some (Moving serial source target)) frame e = puts page (nat_eq frame source) (nat_eq frame target) e
 
 -- a frame is free in the tables exactly where it is free in the state
-pub free_seen : (frames : List FrameState) (v : ZoneState) → FramesFit frames v → (frame : ℕ) → frame < frame_count v → free_at frames frame ≡ is_free v frame
+pub free_seen : (frames : List (FrameState ℕ)) (v : ZoneState) → FramesFit frames v → (frame : ℕ) → frame < frame_count v → free_at frames frame ≡ is_free v frame
 free_seen frames v fit frame within = by_held (is_held v frame) (is_used v frame) refl refl where
   by_held : (held used : Bool) → is_held v frame ≡ held → is_used v frame ≡ used → free_at frames frame ≡ (not (is_used v frame) && not (is_held v frame))
   by_held true used is at = ap is_free_state (fit.of_block frame within is) ∙ sym (and_right (not (is_used v frame)) _ (ap not is))
@@ -57,7 +57,7 @@ free_seen frames v fit frame within = by_held (is_held v frame) (is_used v frame
       let free : is_free v frame ≡ true = λ i. not (at i) && not (is i) in
       ap is_free_state (fit.of_none frame within free) ∙ sym free
 
-pub lowest_free_seen : (frames : List FrameState) (v : ZoneState) → FramesFit frames v → lowest (free_at frames) (length frames) ≡ lowest_free_frame v
+pub lowest_free_seen : (frames : List (FrameState ℕ)) (v : ZoneState) → FramesFit frames v → lowest (free_at frames) (length frames) ≡ lowest_free_frame v
 lowest_free_seen frames v fit =
     lowest_same (free_at frames) (is_free v) (length frames) (λ frame h. free_seen frames v fit frame (omega (arith, h, fit.count)))
     ∙ ap (lowest (is_free v)) fit.count
@@ -72,12 +72,12 @@ lowest_unused_seen z v view count =
     ∙ ap (lowest (λ page. is_none (get v.placement page))) count
 
 -- the counts of free frames and of whole pageblocks
-pub free_counted : (frames : List FrameState) (v : ZoneState) → FramesFit frames v → free_frames frames ≡ count_below (is_free v) (frame_count v)
+pub free_counted : (frames : List (FrameState ℕ)) (v : ZoneState) → FramesFit frames v → free_frames frames ≡ count_below (is_free v) (frame_count v)
 free_counted frames v fit =
     count_same (free_at frames) (is_free v) (length frames) (λ frame h. free_seen frames v fit frame (omega (arith, h, fit.count)))
     ∙ ap (count_below (is_free v)) fit.count
 
-pub whole_counted : (frames : List FrameState) (v : ZoneState) → FramesFit frames v → count_below (is_whole frames) (blocks_of frames) ≡ count_below (whole_block v) v.blocks
+pub whole_counted : (frames : List (FrameState ℕ)) (v : ZoneState) → FramesFit frames v → count_below (is_whole frames) (blocks_of frames) ≡ count_below (whole_block v) v.blocks
 whole_counted frames v fit =
     let blocks : blocks_of frames ≡ v.blocks = omega (arith, fit.count) in
     count_same (is_whole frames) (whole_block v) (blocks_of frames) (λ block h.

@@ -23,11 +23,11 @@ use Rattle.zone_tables.proofs.SearchesAndCounts.{free_seen}
 use Rattle.zone_tables.proofs.Tables.{frame_cases, holds_seen}
 
 -- a page that doesn't rest in the frame that it puts in a state is moving
-at_state : (b : Bool) (page : ℕ) (state : FrameState) → cond b (Some (Holds page)) None ≡ Some state → state ≡ Holds page
+at_state : (b : Bool) (page : ℕ) (state : FrameState ℕ) → cond b (Some (Holds page)) None ≡ Some state → state ≡ Holds page
 at_state true page state e = cc
 at_state false page state e = cc
 
-moves_in : (page : ℕ) (o : Option Placement) (frame : ℕ) (state : FrameState) → state_by page o frame ≡ Some state → (state ≡ Holds page → ⊥) → is_moving o ≡ true
+moves_in : (page : ℕ) (o : Option Placement) (frame : ℕ) (state : FrameState ℕ) → state_by page o frame ≡ Some state → (state ≡ Holds page → ⊥) → is_moving o ≡ true
 moves_in page None frame state e off = cc
 moves_in page (Some (At f)) frame state e off = absurd (off (at_state (nat_eq frame f) page state e))
 moves_in page (Some (Moving serial source target)) frame state e off = refl
@@ -70,7 +70,7 @@ module _ {W : ℕ} (z : Inside W) (v : ZoneState) (sound : IsSound z v) (frame :
       fixed_at page here ∙ ap not (sym same)
 
   -- a frame that is handed out, or that a page comes from or goes to
-  fixed_else : (state : FrameState) → slice_get z.frames.states frame ≡ Some state → ((page : ℕ) → state ≡ Holds page → ⊥) → state ≢ Free → is_fixed ≡ true
+  fixed_else : (state : FrameState ℕ) → slice_get z.frames.states frame ≡ Some state → ((page : ℕ) → state ≡ Holds page → ⊥) → state ≢ Free → is_fixed ≡ true
   fixed_else state at resting unfree = elim (frame_cases z.frames.states v sound.frames frame state within at) [
     | inl by ↦
         (let moving = moves_in by.page (map.get v.placement by.page) frame state by.puts (resting by.page) in
@@ -79,7 +79,7 @@ module _ {W : ℕ} (z : Inside W) (v : ZoneState) (sound : IsSound z v) (frame :
     | inr off ↦ elim off [ inl held ↦ or_left _ _ held.0 | inr free ↦ absurd (unfree free.1) ]
   ]
 
-  pub fixed_other : (state : FrameState) → slice_get z.frames.states frame ≡ Some state → ((serial : ℕ) × (state ≡ Source serial)) ⊎ (((serial : ℕ) × (state ≡ Target serial)) ⊎ (state ≡ Huge)) → is_fixed ≡ true
+  pub fixed_other : (state : FrameState ℕ) → slice_get z.frames.states frame ≡ Some state → ((page : ℕ) × (state ≡ Source page)) ⊎ (((page : ℕ) × (state ≡ Target page)) ⊎ (state ≡ Huge)) → is_fixed ≡ true
   fixed_other state at (inl source) = fixed_else state at (λ page e. (let bad : Source source.0 ≡ Holds page = sym source.1 ∙ e in cc)) (λ e. (let bad : Source source.0 ≡ Free = sym source.1 ∙ e in cc))
   fixed_other state at (inr (inl target)) = fixed_else state at (λ page e. (let bad : Target target.0 ≡ Holds page = sym target.1 ∙ e in cc)) (λ e. (let bad : Target target.0 ≡ Free = sym target.1 ∙ e in cc))
   fixed_other state at (inr (inr huge)) = fixed_else state at (λ page e. (let bad : Huge ≡ Holds page = sym huge ∙ e in cc)) (λ e. (let bad : Huge ≡ Free = sym huge ∙ e in cc))

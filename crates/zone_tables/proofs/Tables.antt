@@ -1,9 +1,10 @@
 -- What the tables of a sound zone say of its state.
-use Rattle.std.proofs.Common.{get_or, ◌≡◌, ℕ, zero, suc, ◌+◌, ◌<◌, Bool, true, false, not, List, [], ◌∷◌, length, ◌⊎◌, inl, inr, refl, sym, ap, ◌∙◌, arith}
+use Rattle.std.proofs.Common.{get_or, ◌≡◌, ℕ, zero, suc, ◌+◌, ◌<◌, Bool, true, false, not, List, [], ◌∷◌, length, ◌⊎◌, inl, inr, refl, sym, ap, subst, ◌≢◌, ◌∙◌, arith}
 use Rattle.std.specs.Prelude.{Option, Some, None, IsSome, IsTrue, is_some, slice_get, slice_set, nat_eq, map as each, ◌&&◌, if◌then◌else◌}
 use Rattle.std.specs.FinMap as map
 use Rattle.std.specs.FinSet as set
 use Rattle.std.proofs.lemmas.Bool.{eq-eqb, eqb-true, and_parts}
+use Rattle.std.proofs.lemmas.Bool.Decides.{eqb_tells}
 use Rattle.std.proofs.lemmas.Option.{cond_some, same_Some, slice_get-get_or, slice_get_within}
 use Rattle.frame_core.proofs.Lists.{slice_get_set_same}
 use Rattle.frame_core.specs.declared.place.Address.{Address}
@@ -19,6 +20,7 @@ use Rattle.zone_tables.specs.declared.note.PageNote.{PageNote}
 use Rattle.zone_tables.specs.declared.zone.ZoneTables.TheInside.{Inside}
 use Rattle.state_core.specs.declared.placement.Placement.{Placement}
 use Rattle.state_core.specs.declared.placement.Placement.TheVariants.{At, Moving}
+use Rattle.zone_tables.specs.MovingPages.{Leaves}
 use Rattle.zone_tables.specs.Fits.{state_by, entry_for, FramesFit, WordsFit, NoteFits}
 use Rattle.state_core.specs.ZoneState.{words_frame, ZoneState, frame_count, takes_up, is_used, is_held, is_free}
 use Rattle.zone_tables.specs.Notes.{placement_of, is_unmovable_of, says_unmovable, is_in_use, unused_note}
@@ -28,7 +30,7 @@ use Rattle.state_core.specs.Pairs.{holder, can_move}
 use Rattle.scan_core.specs.Frames.{true_at}
 use Rattle.std.specs.List.{range_with_len}
 use Rattle.zone_tables.specs.Sound.{state_of, IsSound}
-use Rattle.state_core.proofs.Facts.{frame_within}
+use Rattle.state_core.proofs.Facts.{chosen, frame_within}
 use Rattle.zone_tables.proofs.Facts.{held_by, is_sound}
 use Rattle.zone_tables.proofs.SearchesAndCounts.{placements_seen, takes_state}
 use Rattle.state_core.proofs.Placed.{untrue}
@@ -125,29 +127,39 @@ changed_read notes after page note changed read at is found =
     same_Some _ _ (sym found ∙ ap (λ (ns : List PageNote). slice_get ns page) is ∙ slice_get_set_same notes page page changed refl (slice_get_within notes page note at))
 
 -- a page gives a state only to its own frames
-state_cases : (page : ℕ) (o : Option Placement) (frame : ℕ) (state : FrameState) → state_by page o frame ≡ Some state →
-    ((o ≡ Some (At frame)) × (state ≡ Holds page)) ⊎ ((serial : ℕ) × ((state ≡ Source serial) ⊎ (state ≡ Target serial)))
+state_cases : (page : ℕ) (o : Option Placement) (frame : ℕ) (state : FrameState ℕ) → state_by page o frame ≡ Some state →
+    ((o ≡ Some (At frame)) × (state ≡ Holds page)) ⊎ ((Leaves o frame × (state ≡ Source page)) ⊎ (state ≡ Target page))
 state_cases page None frame state e = cc
 state_cases page (Some (At f)) frame state e = let is = cond_some (nat_eq frame f) (Holds page) state e in inl (stands_at (Some (At f)) frame is.0, sym is.1)
-state_cases page (Some (Moving serial source target)) frame state e = by_source (nat_eq frame source) e where
-  by_source : (a : Bool) → (if a then Some (Source serial) else if nat_eq frame target then Some (Target serial) else None) ≡ Some state →
-      ((Some (Moving serial source target) ≡ Some (At frame)) × (state ≡ Holds page)) ⊎ ((serial : ℕ) × ((state ≡ Source serial) ⊎ (state ≡ Target serial)))
-  by_source true e = inr (serial, inl (sym (same_Some _ _ e)))
-  by_source false e = inr (serial, inr (sym (cond_some (nat_eq frame target) (Target serial) state e).1))
+state_cases page (Some (Moving serial source target)) frame state e = by_source (eqb_tells frame source) where
+  by_source : ((nat_eq frame source ≡ true) × (frame ≡ source)) ⊎ ((nat_eq frame source ≡ false) × (frame ≢ source)) →
+      ((Some (Moving serial source target) ≡ Some (At frame)) × (state ≡ Holds page)) ⊎ ((Leaves (Some (Moving serial source target)) frame × (state ≡ Source page)) ⊎ (state ≡ Target page))
+  by_source (inl here) =
+      let chosen : Some (Source page) ≡ Some state = sym (ap (λ b. if b then Some (Source page) else if nat_eq frame target then Some (Target page) else None) here.0) ∙ e in
+      inr (inl ((serial, target, ap (λ (f : ℕ). Some (Moving serial f target)) (sym here.1)), sym (same_Some _ _ chosen)))
+  by_source (inr off) =
+      let other : (if nat_eq frame target then Some (Target page) else None) ≡ Some state = sym (ap (λ b. if b then Some (Source page) else if nat_eq frame target then Some (Target page) else None) off.0) ∙ e in
+      inr (inr (sym (cond_some (nat_eq frame target) (Target page) state other).1))
 
 holds_by : (page q : ℕ) (o : Option Placement) (frame : ℕ) → state_by page o frame ≡ Some (Holds q) →
     (o ≡ Some (At frame)) × (page ≡ q)
 holds_by page q o frame e = elim (state_cases page o frame (Holds q) e) [
   | inl at ↦ (at.0, let same : page ≡ q = (let is = at.1 in cc) in same)
-  | inr way ↦ absurd (elim way.1 [ inl is ↦ cc | inr is ↦ cc ])
+  | inr way ↦ absurd (elim way [ inl is ↦ (let bad = is.1 in cc) | inr is ↦ cc ])
+]
+
+source_by : (page q : ℕ) (o : Option Placement) (frame : ℕ) → state_by page o frame ≡ Some (Source q) → Leaves o frame × (page ≡ q)
+source_by page q o frame e = elim (state_cases page o frame (Source q) e) [
+  | inl at ↦ (let bad = at.1 in cc)
+  | inr way ↦ elim way [ inl is ↦ (is.0, let same : page ≡ q = (let one = is.1 in cc) in same) | inr is ↦ cc ]
 ]
 
 -- the state of a frame comes from its block, or from its page, or is Free
-pub record ByPage (v : ZoneState) (frame : ℕ) (state : FrameState) : Type 0 where
+pub record ByPage (v : ZoneState) (frame : ℕ) (state : FrameState ℕ) : Type 0 where
   pub page : ℕ
   pub puts : state_by page (map.get v.placement page) frame ≡ Some state
 
-pub frame_cases : (frames : List FrameState) (v : ZoneState) → FramesFit frames v → (frame : ℕ) (state : FrameState) →
+pub frame_cases : (frames : List (FrameState ℕ)) (v : ZoneState) → FramesFit frames v → (frame : ℕ) (state : FrameState ℕ) →
     frame < frame_count v → slice_get frames frame ≡ Some state →
     ByPage v frame state ⊎ (((is_held v frame ≡ true) × (state ≡ Huge)) ⊎ ((is_free v frame ≡ true) × (state ≡ Free)))
 frame_cases frames v fit frame state within at = by_held (is_held v frame) (is_used v frame) refl refl where
@@ -169,7 +181,7 @@ frame_cases frames v fit frame state within at = by_held (is_held v frame) (is_u
       inr (inr (free, same))
 
 -- the page that a frame's state names is in this frame
-pub holds_seen : (frames : List FrameState) (v : ZoneState) → FramesFit frames v → (frame page : ℕ) (state : FrameState) →
+pub holds_seen : (frames : List (FrameState ℕ)) (v : ZoneState) → FramesFit frames v → (frame page : ℕ) (state : FrameState ℕ) →
     frame < frame_count v → slice_get frames frame ≡ Some state → state ≡ Holds page →
     map.get v.placement page ≡ Some (At frame)
 holds_seen frames v fit frame page state within at holds =
@@ -183,8 +195,29 @@ holds_seen frames v fit frame page state within at holds =
       ])
     ]
 
+-- the page of a source is moving out of it
+pub source_seen : (frames : List (FrameState ℕ)) (v : ZoneState) → FramesFit frames v → (frame page : ℕ) (state : FrameState ℕ) →
+    frame < frame_count v → slice_get frames frame ≡ Some state → state ≡ Source page →
+    Leaves (map.get v.placement page) frame
+source_seen frames v fit frame page state within at source =
+    elim (frame_cases frames v fit frame state within at) [
+      | inl by ↦ (let is = source_by by.page page (map.get v.placement by.page) frame (by.puts ∙ ap Some source) in
+          subst (λ (p : ℕ). Leaves (map.get v.placement p) frame) is.1 is.0)
+      | inr off ↦ absurd (elim off [
+        | inl held ↦ (let bad : Huge ≡ Source page = sym held.1 ∙ source in cc)
+        | inr
+            free ↦ (let bad : Free ≡ Source page = sym free.1 ∙ source in cc)
+      ])
+    ]
+
+-- the frame that a moving page leaves is its source
+pub source_of_page : (frames : List (FrameState ℕ)) (v : ZoneState) → FramesFit frames v → (page serial source target : ℕ) →
+    map.get v.placement page ≡ Some (Moving serial source target) → slice_get frames source ≡ Some (Source page)
+source_of_page frames v fit page serial source target at =
+    fit.of_page page source (Source page) (ap (λ (o : Option Placement). state_by page o source) at ∙ chosen source _ _)
+
 -- a frame whose state names no page has no page in it
-pub none_seen : (frames : List FrameState) (v : ZoneState) → FramesFit frames v → (frame : ℕ) (state : FrameState) →
+pub none_seen : (frames : List (FrameState ℕ)) (v : ZoneState) → FramesFit frames v → (frame : ℕ) (state : FrameState ℕ) →
     slice_get frames frame ≡ Some state → ((page : ℕ) → state ≡ Holds page → ⊥) → holder v frame ≡ None
 none_seen frames v fit frame state at none =
     holder_none v frame (λ page is.
@@ -202,9 +235,9 @@ flags_seen z v page note noted = λ i. page_flags (noted.unmovable i) (noted.fit
 
 -- a frame is in a block that is handed out exactly where its state is Huge
 huge_by : (page : ℕ) (o : Option Placement) (frame : ℕ) → state_by page o frame ≡ Some Huge → ⊥
-huge_by page o frame e = elim (state_cases page o frame Huge e) [ inl at ↦ (let is = at.1 in cc) | inr way ↦ elim way.1 [ inl is ↦ cc | inr is ↦ cc ] ]
+huge_by page o frame e = elim (state_cases page o frame Huge e) [ inl at ↦ (let is = at.1 in cc) | inr way ↦ elim way [ inl is ↦ (let bad = is.1 in cc) | inr is ↦ cc ] ]
 
-pub huge_seen : (frames : List FrameState) (v : ZoneState) → FramesFit frames v → (frame : ℕ) (state : FrameState) →
+pub huge_seen : (frames : List (FrameState ℕ)) (v : ZoneState) → FramesFit frames v → (frame : ℕ) (state : FrameState ℕ) →
     frame < frame_count v → slice_get frames frame ≡ Some state → state ≡ Huge → is_held v frame ≡ true
 huge_seen frames v fit frame state within at huge =
     elim (frame_cases frames v fit frame state within at) [
@@ -212,7 +245,7 @@ huge_seen frames v fit frame state within at huge =
       | inr off ↦ elim off [ inl held ↦ held.0 | inr free ↦ (let bad : Free ≡ Huge = sym free.1 ∙ huge in cc) ]
     ]
 
-pub no_huge_seen : (frames : List FrameState) (v : ZoneState) → FramesFit frames v → (frame : ℕ) (state : FrameState) →
+pub no_huge_seen : (frames : List (FrameState ℕ)) (v : ZoneState) → FramesFit frames v → (frame : ℕ) (state : FrameState ℕ) →
     frame < frame_count v → slice_get frames frame ≡ Some state → (state ≡ Huge → ⊥) → is_held v frame ≡ false
 no_huge_seen frames v fit frame state within at ne =
     when_not (is_held v frame) (λ held.
@@ -220,14 +253,11 @@ no_huge_seen frames v fit frame state within at ne =
     ne same))
 
 -- a migration entry is that of a moving page
-pub migration_is : (o : Option Placement) (serial source : ℕ) → entry_for o ≡ Migration serial source →
-    (target : ℕ) × (o ≡ Some (Moving serial source target))
-migration_is None serial source e = cc
-migration_is (Some (At frame)) serial source e = cc
-migration_is (Some (Moving s from target)) serial source e =
-    let same : s ≡ serial = cc in
-    let left : from ≡ source = cc in
-    (target, λ i. Some (Moving (same i) (left i) target))
+pub migration_is : (o : Option Placement) (source : ℕ) → entry_for o ≡ Migration source → Leaves o source
+migration_is None source e = cc
+migration_is (Some (At frame)) source e = cc
+migration_is (Some (Moving serial from target)) source e =
+    let at : from ≡ source = cc in (serial, target, ap (λ (f : ℕ). Some (Moving serial f target)) at)
 
 -- whether a page is moving under a serial
 pub under_is : (o : Option Placement) (serial : ℕ) → is_under o serial ≡ true →

@@ -28,7 +28,7 @@ use Rattle.zone_tables.specs.Notes.{unused_note}
 use Rattle.zone_tables.specs.Sound.{state_of, IsSound}
 use Rattle.zone_tables.proofs.Entries.{entries_changed, placement_same}
 use Rattle.zone_tables.proofs.Noting.{Noting}
-use Rattle.zone_tables.proofs.Placement.{GetsPlace, LeavesOthers, frames_fit, movable_fit, words_fit, notes_fit, sources_fit}
+use Rattle.zone_tables.proofs.Placement.{GetsPlace, LeavesOthers, frames_fit, movable_fit, words_fit, notes_fit}
 use Rattle.zone_tables.proofs.Tables.{note_seen}
 use Rattle.zone_tables.proofs.NotedPages.{placements_put, unmovable_put}
 use Rattle.zone_tables.proofs.Facts.{Becomes, becomes}
@@ -139,7 +139,6 @@ module _ {W : ℕ} (z : Inside W) (v : ZoneState) (client : ℕ) (address : Addr
           words = words_fit v gone page (Some (At frame)) None gets z.words z.words sound.words (record { count = refl; mine = λ p w e small. cc; kept = λ g off. refl; sized = λ g has. cc }) leaves;
           notes = notes_fit v gone page (Some (At frame)) None gets z.notes unused_note note_within sound.notes (λ used. cc) leaves;
           moves = record { isolated = sound.moves.isolated; moved = sound.moves.moved; back = sound.moves.back };
-          sources = sources_fit v gone page (Some (At frame)) None gets z.moves.pages z.moves.pages sound.sources (record { count = refl; here = λ s a b e. cc; kept = λ g off. refl });
         }
 
     pub last_view : state_of (after_last z page frame tables history) ≡ gone

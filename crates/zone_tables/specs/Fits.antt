@@ -22,22 +22,22 @@ use Rattle.state_core.specs.Pairs.{can_move}
 use Rattle.state_core.specs.ZoneState.{ZoneState, frame_count, is_free, is_held, placement_at, words_frame}
 
 -- the state that a page with this number and placement gives to a frame, if it takes the frame up
-abbrev pub state_by : ℕ → Option Placement → ℕ → Option FrameState
+abbrev pub state_by : ℕ → Option Placement → ℕ → Option (FrameState ℕ)
 state_by page None frame = None
 state_by page (Some (At f)) frame = if nat_eq frame f then Some (Holds page) else None
 state_by page (Some (Moving serial source target)) frame =
-    if nat_eq frame source then Some (Source serial) else if nat_eq frame target then Some (Target serial) else None
+    if nat_eq frame source then Some (Source page) else if nat_eq frame target then Some (Target page) else None
 
 -- the entry of an address whose page has this placement
 abbrev pub entry_for : Option Placement → Entry
 entry_for None = Absent
 entry_for (Some (At frame)) = Present frame
-entry_for (Some (Moving serial source target)) = Migration serial source
+entry_for (Some (Moving serial source target)) = Migration source
 
 -- each frame has the state that its page or its block gives to it, and is free where it has neither
-pub record FramesFit (frames : List FrameState) (v : ZoneState) : Type 0 where
+pub record FramesFit (frames : List (FrameState ℕ)) (v : ZoneState) : Type 0 where
   pub count : length frames ≡ frame_count v
-  pub of_page : (page frame : ℕ) (state : FrameState) → state_by page (map.get v.placement page) frame ≡ Some state → slice_get frames frame ≡ Some state
+  pub of_page : (page frame : ℕ) (state : FrameState ℕ) → state_by page (map.get v.placement page) frame ≡ Some state → slice_get frames frame ≡ Some state
   pub of_block : (frame : ℕ) → frame < frame_count v → is_held v frame ≡ true → slice_get frames frame ≡ Some Huge
   pub of_none : (frame : ℕ) → frame < frame_count v → is_free v frame ≡ true → slice_get frames frame ≡ Some Free
 
@@ -76,8 +76,3 @@ pub record MovesFit (moves : Moves) (records : List Record) : Type 0 where
   pub isolated : moves.isolated ≡ isolated records
   pub moved : moves.moved ≡ moved records
   pub back : moves.back ≡ put_back records
-
--- each frame has a page in the list, and the frame that a moving page left has this page
-pub record SourcesFit (pages : List ℕ) (frames : ℕ) (placement : map.FinMap nat_cmp Placement) : Type 0 where
-  pub count : length pages ≡ frames
-  pub each : (page serial source target : ℕ) → map.get placement page ≡ Some (Moving serial source target) → slice_get pages source ≡ Some page

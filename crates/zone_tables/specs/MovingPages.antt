@@ -1,10 +1,11 @@
 -- The pages that are moving.
-use Rattle.std.specs.Prelude.{◌≡◌, ◌≢◌, ◌≤◌, ℕ, Some}
+use Rattle.std.specs.Prelude.{◌≡◌, ◌≢◌, ◌≤◌, ℕ, Option, Some}
 use Rattle.std.specs.FinMap as map
 use Rattle.frame_core.specs.declared.place.Address.{Address}
 use Rattle.frame_core.specs.History.{page_at}
 use Rattle.state_core.specs.Carrying.{flags_of}
 use Rattle.state_core.specs.ZoneState.{ZoneState}
+use Rattle.state_core.specs.declared.placement.Placement.{Placement}
 use Rattle.state_core.specs.declared.placement.Placement.TheVariants.{Moving}
 use Rattle.table_core.specs.Names.{order_of}
 use Rattle.zone_tables.specs.declared.moving.MovingPage.{MovingPage}
@@ -13,6 +14,10 @@ use Rattle.zone_tables.specs.declared.moving.MovingPage.{MovingPage}
 pub record IsLowestName (z : ZoneState) (page : ℕ) (address : Address) : Type 0 where
   pub named : page_at z.records address ≡ Some page
   pub lowest : (other : Address) → page_at z.records other ≡ Some page → order_of address ≤ order_of other
+
+-- a page with this placement is moving out of a frame
+abbrev pub Leaves : Option Placement → ℕ → Type 0
+Leaves placement frame = (serial target : ℕ) × (placement ≡ Some (Moving serial frame target))
 
 -- a page is moving out of this frame, and this is what is known of it
 pub record IsMovingFrom (z : ZoneState) (source : ℕ) (moving : MovingPage) : Type 0 where

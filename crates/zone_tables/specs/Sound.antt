@@ -4,7 +4,7 @@ use Rattle.zone_tables.specs.declared.zone.ZoneTables.TheInside.{Inside}
 use Rattle.state_core.specs.ZoneState.{ZoneState, frame_count}
 use Rattle.state_core.specs.Valid.{IsValidZone}
 use Rattle.zone_tables.specs.Contents.{contents_at}
-use Rattle.zone_tables.specs.Fits.{table_size, FramesFit, EntriesFit, WordsFit, NotesFit, MovesFit, MovableFit, SourcesFit}
+use Rattle.zone_tables.specs.Fits.{table_size, FramesFit, EntriesFit, WordsFit, NotesFit, MovesFit, MovableFit}
 use Rattle.zone_tables.specs.HandedOut.{order_of}
 use Rattle.zone_tables.specs.Notes.{placement_of, is_unmovable_of}
 use Rattle.scan_core.specs.Frames.{true_at}
@@ -45,4 +45,3 @@ pub record IsSound {W : ℕ} (z : Inside W) (v : ZoneState) : Type 0 where
   pub words : WordsFit z.words v
   pub notes : NotesFit z.notes v
   pub moves : MovesFit z.moves v.records
-  pub sources : SourcesFit z.moves.pages (frame_count v) v.placement

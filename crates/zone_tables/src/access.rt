@@ -39,7 +39,7 @@ impl<const W: usize> ZoneTables<W> {
         match self.tables.entry(*address) {
             Entry::Absent => Err(ZoneError::Unmapped),
             Entry::Present(frame) => Ok(frame),
-            Entry::Migration { .. } => Err(ZoneError::Moving),
+            Entry::Migration(_) => Err(ZoneError::Moving),
         }
     }
 

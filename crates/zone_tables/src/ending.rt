@@ -116,7 +116,7 @@ impl<const W: usize> ZoneTables<W> {
         self.frames.leave(source);
         self.frames.settle(target, page, note.can_move());
         fill_target(&mut self.words, way, copy);
-        self.tables.to_present(serial, source, target);
+        self.tables.to_present(source, target);
         self.moves.arrive();
         self.notes.place(page, Placement::At(target));
         self.history.note(Record::Moved { serial });
@@ -140,7 +140,7 @@ impl<const W: usize> ZoneTables<W> {
         let note = self.notes.get(page);
         self.frames.leave(target);
         self.frames.settle(source, page, note.can_move());
-        self.tables.to_present(serial, source, source);
+        self.tables.to_present(source, source);
         self.moves.go_back();
         self.notes.place(page, Placement::At(source));
         self.history.note(Record::Back { serial, cause });

@@ -57,12 +57,12 @@ impl<const W: usize> ZoneTables<W> {
         ensures step { self.new ≡ moved_away self.old (record { page = page; source = source; target = target }) }
         ensures valid { IsValidZone self.new }
     {
-        let serial = self.moves.isolate(page, source);
+        let serial = self.moves.isolate();
         self.moves.arrive();
         self.frames.empty(source);
         self.frames.fill(target, page, true);
-        self.tables.to_migration(source, serial);
-        self.tables.to_present(serial, source, target);
+        self.tables.to_migration(source);
+        self.tables.to_present(source, target);
         self.words.copy(source, target);
         self.notes.place(page, Placement::At(target));
         self.history.note(Record::Isolate { serial, page });

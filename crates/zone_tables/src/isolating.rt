@@ -90,10 +90,10 @@ impl<const W: usize> ZoneTables<W> {
             source,
             target,
         } = pair;
-        let serial = self.moves.isolate(page, source);
-        self.frames.to_source(source, serial);
-        self.frames.to_target(target, serial);
-        self.tables.to_migration(source, serial);
+        let serial = self.moves.isolate();
+        self.frames.to_source(source, page);
+        self.frames.to_target(target, page);
+        self.tables.to_migration(source);
         let way = Placement::Moving {
             serial,
             source,

@@ -31,7 +31,7 @@ impl<const W: usize> ZoneTables<W> {
         match self.tables.entry(*address) {
             Entry::Absent => None,
             Entry::Present(frame) => self.holder(frame),
-            Entry::Migration { source, .. } => Some(self.moves.page_from(source)),
+            Entry::Migration(source) => self.page_from(source),
         }
     }
 

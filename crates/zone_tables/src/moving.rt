@@ -4,10 +4,10 @@ ghost use Rattle.std.specs.Prelude.{◌≡◌, ◌<◌, Some, None, IfSome};
 ghost use Rattle.std.specs.FinMap as map;
 ghost use Rattle.state_core.specs.ZoneState.{frame_count};
 ghost use Rattle.state_core.specs.declared.placement.Placement.TheVariants.{Moving};
-ghost use Rattle.zone_tables.specs.MovingPages.{IsMovingFrom, IsLeftByNone, IsLowestName};
+ghost use Rattle.zone_tables.specs.MovingPages.{IsMovingFrom, IsLeftByNone, IsLowestName, Leaves};
 
 use crate::zone::ZoneTables;
-use frame_core::{Address, FrameNo, PageFlags, PageNo, Serial};
+use frame_core::{Address, FrameNo, FrameState, PageFlags, PageNo, Serial};
 use state_core::Placement;
 
 /// A page that is moving, with the lowest of its addresses.
@@ -30,34 +30,38 @@ impl<const W: usize> ZoneTables<W> {
         ensures some { IfSome result (IsMovingFrom self.now source) }
         ensures none { result ≡ None → IsLeftByNone self.now source }
     {
-        let page = self.moves.page_from(source);
-        let Placement::Moving {
-            serial,
-            source: left,
-            target,
-        } = self.notes.placement(page)?
-        else {
-            return None;
+        let page = self.page_from(source)?;
+        let Some(Placement::Moving { serial, target, .. }) = self.notes.placement(page) else {
+            unreachable!();
         };
-        if left != source {
-            return None;
-        }
         Some(MovingPage {
             page,
             serial,
             flags: self.flags_of(page),
             source,
             target,
-            address: self.lowest_address(page, serial, source),
+            address: self.lowest_address(page, source),
         })
     }
 
+    /// The number of the page that is moving out of a frame, if one is.
+    pub(crate) fn page_from(&self, source: FrameNo) -> Option<PageNo>
+        requires { source < frame_count self.now }
+        ensures some { IfSome result (λ page. Leaves (map.get self.now.placement page) source) }
+        ensures none { result ≡ None → IsLeftByNone self.now source }
+    {
+        match self.frames.state(source) {
+            FrameState::Source(page) => Some(page),
+            _ => None,
+        }
+    }
+
     /// The lowest address that names a moving page.
-    fn lowest_address(&self, page: PageNo, serial: Serial, source: FrameNo) -> Address
-        requires { (target : _) × (map.get self.now.placement page ≡ Some (Moving serial source target)) }
+    fn lowest_address(&self, page: PageNo, source: FrameNo) -> Address
+        requires { Leaves (map.get self.now.placement page) source }
         ensures { IsLowestName self.now page result }
     {
-        let names = self.tables.mappings_moving(serial, source);
+        let names = self.tables.mappings_moving(source);
         let Some(lowest) = names.first() else {
             unreachable!();
         };

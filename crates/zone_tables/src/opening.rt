@@ -58,7 +58,7 @@ impl<const W: usize> ZoneTables<W> {
         ensures valid { IfOk result (λ zone. IsValidZone zone) }
     {
         let (handed_out, cleared, marked) = open_blocks(alloc, size.blocks)?;
-        let (notes, moves) = open_notes(alloc, 512 * size.blocks)?;
+        let notes = Notes::open(alloc, 512 * size.blocks)?;
         let (frames, tables, words) = open_memory(alloc, size)?;
         Ok(ZoneTables {
             number,
@@ -67,7 +67,7 @@ impl<const W: usize> ZoneTables<W> {
             tables,
             words,
             notes,
-            moves,
+            moves: Moves::none(),
             handed_out,
             cleared,
             marked,
@@ -93,17 +93,6 @@ fn open_memory<const W: usize>(
     let tables = Tables::open(alloc, size.blocks, size.spaces, size.vpages)?;
     let words = WordsOf::open(alloc, 512 * size.blocks)?;
     Ok((frames, tables, words))
-}
-
-/// What is noted of each page, and which pages are moving.
-fn open_notes(alloc: Global, count: u32) -> Result<(Notes, Moves), AllocError>
-    requires { count ≤ 16777216 }
-    ensures notes { IfOk result (λ noted. noted.0 ≡ replicate count unused_note) }
-    ensures moves { IfOk result (λ noted. noted.1 ≡ record { pages = replicate count 0; isolated = 0; moved = 0; back = 0 }) }
-{
-    let notes = Notes::open(alloc, count)?;
-    let moves = Moves::open(alloc, count)?;
-    Ok((notes, moves))
 }
 
 /// Which blocks are handed out, whether each of them is clear of words of pages, and which pageblocks are marked.

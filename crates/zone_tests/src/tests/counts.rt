@@ -29,7 +29,7 @@ pub fn assert_counts(
 }
 
 /// What each frame is used for.
-fn states(rt: &(impl Abort + AllocGlobal), frames: &Frames) -> Vec<FrameState> {
+fn states(rt: &(impl Abort + AllocGlobal), frames: &Frames) -> Vec<FrameState<PageNo>> {
     let mut states = Vec::new(rt.alloc());
     for number in 0..frames.len() {
         let state = frames.state(frame(rt, number));
@@ -48,7 +48,7 @@ struct Uses {
     held: u32,
 }
 
-fn uses_of(states: &[FrameState]) -> Uses {
+fn uses_of(states: &[FrameState<PageNo>]) -> Uses {
     let mut uses = Uses {
         free: 0,
         pages: 0,
@@ -69,7 +69,7 @@ fn uses_of(states: &[FrameState]) -> Uses {
 }
 
 /// A page that is moving has two frames.
-fn assert_told(rt: &impl Abort, told: Info, states: &[FrameState]) {
+fn assert_told(rt: &impl Abort, told: Info, states: &[FrameState<PageNo>]) {
     let uses = uses_of(states);
     assert!(rt; (told.free, told.held) == (uses.free, uses.held));
     assert!(rt; told.pages == uses.pages.saturating_add(uses.sources));
@@ -77,15 +77,15 @@ fn assert_told(rt: &impl Abort, told: Info, states: &[FrameState]) {
     assert!(rt; told.whole == whole_blocks(states));
 }
 
-fn is_free(state: &FrameState) -> bool {
+fn is_free(state: &FrameState<PageNo>) -> bool {
     *state == FrameState::Free
 }
 
-fn are_free(run: &[FrameState]) -> bool {
+fn are_free(run: &[FrameState<PageNo>]) -> bool {
     run.iter().all(is_free)
 }
 
-fn whole_blocks(states: &[FrameState]) -> u32 {
+fn whole_blocks(states: &[FrameState<PageNo>]) -> u32 {
     let mut count = 0_u32;
     for block in states.chunks(512) {
         if are_free(block) {
@@ -113,7 +113,7 @@ fn place_of(frame: Option<FrameNo>) -> Option<usize> {
 }
 
 /// The set of frames that are free has just those, and knows the lowest.
-fn assert_free(rt: &impl Abort, frames: &Frames, states: &[FrameState]) {
+fn assert_free(rt: &impl Abort, frames: &Frames, states: &[FrameState<PageNo>]) {
     for number in 0..frames.len() {
         let state = states.get(number as usize).expect(rt, "a frame");
         assert!(rt; frames.is_free(frame(rt, number)) == is_free(state));
@@ -122,7 +122,7 @@ fn assert_free(rt: &impl Abort, frames: &Frames, states: &[FrameState]) {
 }
 
 /// The first run of each order is the lowest aligned one whose frames are all free.
-fn assert_runs(rt: &impl Abort, frames: &Frames, states: &[FrameState]) {
+fn assert_runs(rt: &impl Abort, frames: &Frames, states: &[FrameState<PageNo>]) {
     for number in 3..10 {
         let order = order(rt, number);
         let first = place_of(frames.first_run(order));
@@ -130,25 +130,25 @@ fn assert_runs(rt: &impl Abort, frames: &Frames, states: &[FrameState]) {
     }
 }
 
-fn first_run(states: &[FrameState], size: usize) -> Option<usize>
+fn first_run(states: &[FrameState<PageNo>], size: usize) -> Option<usize>
     requires { 0 < size }
 {
     states.chunks(size).position(are_free)?.checked_mul(size)
 }
 
 /// The number of a page that was just mapped is the lowest that no other page has.
-fn assert_newest(rt: &impl Abort, records: &[Record], states: &[FrameState]) {
+fn assert_newest(rt: &impl Abort, records: &[Record], states: &[FrameState<PageNo>]) {
     let Some(Record::Map { page, .. }) = records.last() else {
         return;
     };
-    assert!(rt; pages_below(records, states, *page) == page.get());
+    assert!(rt; pages_below(states, *page) == page.get());
 }
 
 /// How many pages have a lower number.
-fn pages_below(records: &[Record], states: &[FrameState], number: PageNo) -> u32 {
+fn pages_below(states: &[FrameState<PageNo>], number: PageNo) -> u32 {
     let mut count = 0_u32;
     for state in states {
-        match page_in(records, state) {
+        match page_in(state) {
             Some(page) if page < number => count = count.saturating_add(1),
             _ => {}
         }
@@ -157,10 +157,9 @@ fn pages_below(records: &[Record], states: &[FrameState], number: PageNo) -> u32
 }
 
 /// The page that a frame holds, or that left it.
-fn page_in(records: &[Record], state: &FrameState) -> Option<PageNo> {
+fn page_in(state: &FrameState<PageNo>) -> Option<PageNo> {
     match *state {
-        FrameState::Holds(page) => Some(page),
-        FrameState::Source(serial) => isolated_page(records, serial),
+        FrameState::Holds(page) | FrameState::Source(page) => Some(page),
         _ => None,
     }
 }
@@ -183,13 +182,14 @@ pub fn assert_pages<const W: usize, I: Ledger, M: Ledger, B: Ledger>(
     lists: &[Listed],
 ) {
     let frames = zone.frames();
+    let records = zone.journal().kept().expect(rt, "a kept journal");
     for number in 0..frames.len() {
         let list = lists.get(number as usize).expect(rt, "a list");
         let frame = frame(rt, number);
         match list.addresses.first() {
             Some(address) => {
                 let told = zone.look(*address).ok().expect(rt, "a page");
-                assert_page(rt, frames, frame, list, told);
+                assert_page(rt, frames, records, frame, list, told);
             }
             None => {
                 let state = frames.state(frame);
@@ -200,7 +200,14 @@ pub fn assert_pages<const W: usize, I: Ledger, M: Ledger, B: Ledger>(
 }
 
 /// The state of the frame, and the entry that names it, are of a page as it is told, with as many addresses as name it.
-fn assert_page(rt: &impl Abort, frames: &Frames, frame: FrameNo, list: &Listed, told: Look)
+fn assert_page(
+    rt: &impl Abort,
+    frames: &Frames,
+    records: &[Record],
+    frame: FrameNo,
+    list: &Listed,
+    told: Look,
+)
     requires { frame < length frames.now.states }
 {
     let state = frames.state(frame);
@@ -218,9 +225,9 @@ fn assert_page(rt: &impl Abort, frames: &Frames, frame: FrameNo, list: &Listed, 
             assert!(rt; maps as usize == addresses);
         }
         Look::Moving { serial, maps, .. } => {
-            let source = frame;
-            assert!(rt; state == FrameState::Source(serial));
-            assert!(rt; list.entry == Entry::Migration { serial, source });
+            let page = isolated_page(records, serial).expect(rt, "an isolated page");
+            assert!(rt; state == FrameState::Source(page));
+            assert!(rt; list.entry == Entry::Migration(frame));
             assert!(rt; maps as usize == addresses);
         }
     }

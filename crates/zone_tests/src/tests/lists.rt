@@ -57,8 +57,7 @@ fn list_space(rt: &impl Abort, tables: &Tables, space: u32, lists: &mut Vec<List
 fn frame_of(entry: &Entry) -> Option<FrameNo> {
     match *entry {
         Entry::Absent => None,
-        Entry::Present(frame) => Some(frame),
-        Entry::Migration { source, .. } => Some(source),
+        Entry::Present(frame) | Entry::Migration(frame) => Some(frame),
     }
 }
 
@@ -70,8 +69,8 @@ pub fn assert_lists(rt: &impl Abort, tables: &Tables, frames: &Frames, lists: &[
         let frame = frame(rt, number);
         let list = lists.get(number as usize).expect(rt, "a list");
         let addresses = list.addresses.as_slice();
-        if let Entry::Migration { serial, .. } = list.entry {
-            assert!(rt; &*tables.mappings_moving(serial, frame) == addresses);
+        if let Entry::Migration(_) = list.entry {
+            assert!(rt; &*tables.mappings_moving(frame) == addresses);
             assert!(rt; tables.mappings(frame).is_empty());
         } else {
             assert!(rt; &*tables.mappings(frame) == addresses);
@@ -79,7 +78,7 @@ pub fn assert_lists(rt: &impl Abort, tables: &Tables, frames: &Frames, lists: &[
     }
 }
 
-/// The list of each frame in use is what a walk for this frame or serial finds.
+/// The list of each frame in use is what a walk for this frame finds.
 pub fn assert_each_walk(rt: &impl Abort, tables: &Tables, frames: &Frames)
     requires { length frames.now.states ≡ tables.now.frames }
 {
@@ -88,9 +87,9 @@ pub fn assert_each_walk(rt: &impl Abort, tables: &Tables, frames: &Frames)
         let kept = tables.mappings(frame);
         match frames.state(frame) {
             FrameState::Holds(_) => assert!(rt; *kept == *tables.walk_mappings(frame)),
-            FrameState::Source(serial) => {
-                let moving = tables.mappings_moving(serial, frame);
-                assert!(rt; *moving == *tables.walk_moving(serial));
+            FrameState::Source(_) => {
+                let moving = tables.mappings_moving(frame);
+                assert!(rt; *moving == *tables.walk_moving(frame));
             }
             _ => assert!(rt; kept.is_empty()),
         }

@@ -20,7 +20,6 @@ use Rattle.state_core.specs.ZoneState.{ZoneState}
 use Rattle.state_core.proofs.Facts.{not_none}
 use Rattle.state_core.proofs.Settled.{can_move_on, moved_recorded, frames_apart, source_within, target_in, swept_if_moved}
 use Rattle.zone_tables.proofs.MoveEnds.{moved_frames, moved_words, kept_movable, left_settled, target_still, source_on_way, source_left, source_listed, target_left, target_listed, source_row, target_row, target_unheld, two_frames, moved_settled, some_on_the_way, ending_room}
-use Rattle.zone_tables.proofs.Placement.{SourcesPlaced}
 use Rattle.zone_tables.proofs.Relocation.{Settling, FramesSettled, MovableSettled, WordsSettled, settle_invariant, settle_view}
 use Rattle.zone_tables.proofs.zone.ZoneTables.arrive_with.Given.{Over}
 use Rattle.zone_tables.proofs.zone.ZoneTables.arrive_with.Goals as goal
@@ -94,7 +93,6 @@ settling {g = g} c =
       notes = c.place.ensures c.get-note.result.now c.get-note.ensures;
       moves = subst (λ (moves : Moves). MovesFit moves (Moved way.serial ∷ v.records)) (sym c.arrive.ensures)
           (record { isolated = sound.moves.isolated; moved = ap (λ n. n + 1) sound.moves.moved; back = sound.moves.back });
-      sources = subst (λ (moves : Moves). SourcesPlaced z.moves.pages moves.pages way.page (Some (At way.target))) (sym c.arrive.ensures) (record { count = refl; here = λ s a b e. cc; kept = λ g off. refl });
       fingers_are = ap (λ (u : ZoneState). record { migrate = u.migrate; free = u.free }) c.self.view_is;
       fingers = law.fingers.ordered;
       swept = swept_if_moved v way.page way.serial way.source way.target law at;

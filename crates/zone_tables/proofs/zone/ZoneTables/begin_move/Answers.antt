@@ -12,15 +12,14 @@ use Rattle.zone_tables.proofs.Facts.{held_by, is_sound}
 use Rattle.zone_tables.proofs.MoveEnds.{still_free, two_puts}
 use Rattle.zone_tables.proofs.SearchesAndCounts.{free_seen}
 use Rattle.state_core.specs.Pairs.{can_move}
-use Rattle.zone_tables.proofs.ListedAddresses.{fresh_serial, page_rests}
+use Rattle.zone_tables.proofs.ListedAddresses.{page_rests}
 use Rattle.zone_tables.specs.Fits.{MovesFit}
 use Rattle.zone_tables.specs.History.{told}
 use Rattle.zone_tables.specs.Moves.{Moves}
 use Rattle.state_core.proofs.Facts.{frame_within, isolated_bound, not_none, room_for_two}
 use Rattle.zone_tables.proofs.Tables.{note_is, note_of, placement_seen}
-use Rattle.zone_tables.proofs.Isolation.{isolated_frames, isolated_words, isolated_movable, isolated_sources}
+use Rattle.zone_tables.proofs.Isolation.{isolated_frames, isolated_words, isolated_movable}
 use Rattle.state_core.proofs.Settled.{can_isolate, isolate_recorded, target_within, swept_if_isolated}
-use Rattle.zone_tables.proofs.Placement.{SourcesPlaced}
 use Rattle.zone_tables.proofs.Relocation.{Settling, FramesSettled, MovableSettled, settle_invariant, settle_view}
 use Rattle.zone_tables.proofs.zone.ZoneTables.begin_move.Given.{Over}
 use Rattle.zone_tables.proofs.zone.ZoneTables.begin_move.Goals as goal
@@ -35,16 +34,11 @@ pub to_target-requires : goal.to_target-requires
 to_target-requires g c =
     let sound = is_sound c.self.view_is c.self.invariant in
     let to = c.requires.pair.to in
-    let low = to.low in still_free c.self.inside.frames c.to_source.new.self c.args.pair.target c.args.pair.source (Source c.isolate-serial.result) (λ e. absurd (omega arith)) c.to_source.ensures.state
+    let low = to.low in still_free c.self.inside.frames c.to_source.new.self c.args.pair.target c.args.pair.source (Source c.args.pair.page) (λ e. absurd (omega arith)) c.to_source.ensures.state
     (free_seen c.self.inside.frames.states c.args.self.now sound.frames c.args.pair.target (target_within c.args.self.now c.args.pair sound.valid c.requires.pair) ∙ to.free)
 
-pub isolate-serial-requires-clause-within : goal.isolate-serial-requires-clause-within
-isolate-serial-requires-clause-within g c =
-    let sound = is_sound c.self.view_is c.self.invariant in
-    omega (arith, frame_within c.args.self.now sound.valid c.args.pair.page (At c.args.pair.source) c.requires.pair.from.here, sound.sources.count)
-
-pub isolate-serial-requires-clause-serial_left : goal.isolate-serial-requires-clause-serial_left
-isolate-serial-requires-clause-serial_left g c =
+pub isolate-serial-requires : goal.isolate-serial-requires
+isolate-serial-requires g c =
     let sound = is_sound c.self.view_is c.self.invariant in omega (arith, isolated_bound c.args.self.now sound.valid, sound.moves.isolated)
 
 pub place-requires : goal.place-requires
@@ -78,7 +72,7 @@ settling c =
     let target_in = target_within v pair law is in
     let low = is.to.low in
     let high = is.to.high in
-    let frames_are = two_puts z.frames c.to_source.new.self c.to_target.new.self pair.source pair.target (Source c.isolate-serial.result) (Target c.isolate-serial.result) c.to_source.ensures.state c.to_target.ensures.state in
+    let frames_are = two_puts z.frames c.to_source.new.self c.to_target.new.self pair.source pair.target (Source c.args.pair.page) (Target c.args.pair.page) c.to_source.ensures.state c.to_target.ensures.state in
     let fingers = law.fingers.ordered.1 in
     record {
       sound = sound;
@@ -88,17 +82,14 @@ settling c =
       spare = omega arith;
       note_is = noted c;
       frames = subst (λ (fs : Frames). FramesSettled z.frames.states fs.states pair.page (At pair.source) (Moving (isolated v.records) pair.source pair.target)) (sym frames_are)
-          (subst (λ (n : ℕ). FramesSettled z.frames.states (slice_set (slice_set z.frames.states pair.source (Source n)) pair.target (Target n)) pair.page (At pair.source) (Moving (isolated v.records) pair.source pair.target)) (sym serial)
-          (isolated_frames z.frames.states pair.page pair.source pair.target (isolated v.records) (λ e. absurd (omega arith)) (omega (arith, target_in, sound.frames.count)) (omega (arith, target_in, sound.frames.count))));
+          (isolated_frames z.frames.states pair.page pair.source pair.target (isolated v.records) (λ e. absurd (omega arith)) (omega (arith, target_in, sound.frames.count)) (omega (arith, target_in, sound.frames.count)));
       movable = subst (λ (fs : Frames). MovableSettled z.frames.movable fs.movable (can_move v pair.page) (Moving (isolated v.records) pair.source pair.target)) (sym frames_are)
           (isolated_movable z.frames.movable (can_move v pair.page) (isolated v.records) pair.source pair.target);
-      tables = subst (λ (n : ℕ). Replaces z.tables.entries c.to_migration.new.self.entries (Present pair.source) (Migration n pair.source)) serial c.to_migration.ensures.replaced;
+      tables = c.to_migration.ensures.replaced;
       words = isolated_words z.words v sound.words (isolated v.records) pair.source pair.target (omega arith) target_in;
       notes = c.place.ensures _ (noted c) ∙ ap (λ (n : ℕ). slice_set z.notes pair.page (record (note_of z pair.page) { placement = Some (Moving n pair.source pair.target) })) serial;
       moves = subst (λ (moves : Moves). MovesFit moves (Isolate (isolated v.records) pair.page ∷ v.records)) (sym c.isolate-serial.ensures.noted)
           (record { isolated = ap (λ n. n + 1) sound.moves.isolated; moved = sound.moves.moved; back = sound.moves.back });
-      sources = subst (λ (moves : Moves). SourcesPlaced z.moves.pages moves.pages pair.page (Some (Moving (isolated v.records) pair.source pair.target))) (sym c.isolate-serial.ensures.noted)
-          (isolated_sources z.moves.pages pair.page (isolated v.records) pair.source pair.target (omega (arith, target_in, sound.sources.count)));
       fingers_are = λ i. record { migrate = c.get.ensures.value i + 1; free = c.get-self-inside.ensures.value i };
       fingers = (omega arith, omega arith);
       swept = swept_if_isolated v pair law is;
@@ -124,12 +115,6 @@ to_migration-requires-clause-within g c =
     let within = target_within c.args.self.now c.args.pair sound.valid c.requires.pair in
     let low = c.requires.pair.to.low in
     omega (arith, within, low, sound.tables)
-
-pub to_migration-requires-clause-fresh : goal.to_migration-requires-clause-fresh
-to_migration-requires-clause-fresh g c =
-    let sound = is_sound c.self.view_is c.self.invariant in
-    let serial : c.isolate-serial.result ≡ isolated c.args.self.now.records = c.isolate-serial.ensures.serial ∙ sound.moves.isolated in
-    λ a source range e. fresh_serial c.self.inside.tables.entries c.args.self.now sound.entries sound.valid a source range (e ∙ ap (λ (n : ℕ). Migration n source) serial)
 
 pub to_migration-requires-clause-resting : goal.to_migration-requires-clause-resting
 to_migration-requires-clause-resting g c =

@@ -16,7 +16,6 @@ use Rattle.state_core.specs.ZoneState.{ZoneState}
 use Rattle.state_core.proofs.Facts.{not_none}
 use Rattle.state_core.proofs.Settled.{can_go_back, back_recorded, frames_apart, source_within, target_in, swept_if_put_back}
 use Rattle.zone_tables.proofs.MoveEnds.{back_frames, back_words, kept_movable, left_settled, source_still, target_on_way, source_left, source_listed, back_settled, some_on_the_way, ending_room}
-use Rattle.zone_tables.proofs.Placement.{SourcesPlaced}
 use Rattle.zone_tables.proofs.Relocation.{Settling, FramesSettled, MovableSettled, settle_invariant, settle_view}
 use Rattle.zone_tables.proofs.zone.ZoneTables.go_back.Given.{Over}
 use Rattle.zone_tables.proofs.zone.ZoneTables.go_back.Goals as goal
@@ -77,7 +76,6 @@ settling c =
       notes = c.place.ensures c.get-note.result.now c.get-note.ensures;
       moves = subst (λ (moves : Moves). MovesFit moves (Back way.serial c.args.cause ∷ v.records)) (sym c.go_back.ensures)
           (record { isolated = sound.moves.isolated; moved = sound.moves.moved; back = ap (λ n. n + 1) sound.moves.back });
-      sources = subst (λ (moves : Moves). SourcesPlaced z.moves.pages moves.pages way.page (Some (At way.source))) (sym c.go_back.ensures) (record { count = refl; here = λ s a b e. cc; kept = λ g off. refl });
       fingers_are = ap (λ (u : ZoneState). record { migrate = u.migrate; free = u.free }) c.self.view_is;
       fingers = law.fingers.ordered;
       swept = swept_if_put_back v way.page way.serial way.source way.target law at c.args.cause;

@@ -8,13 +8,13 @@ use Rattle.zone_tables.proofs.zone.ZoneTables.lowest_address.Goals as goal
 pub unreachable-requires : goal.unreachable-requires
 unreachable-requires g c =
     let sound = is_sound c.self.view_is c.self.invariant in
-    some_found c.args.self.now sound.valid c.self.inside.tables.entries sound.entries c.args.page c.args.serial c.args.source c.requires.0 c.requires.1
+    some_found c.args.self.now sound.valid c.self.inside.tables.entries sound.entries c.args.page c.args.source c.requires
     c.mappings_moving-names.result.items c.mappings_moving-names.ensures
     (ap (λ l. slice_get l 0) (sym c.deref.ensures.0) ∙ sym c.first.ensures.value ∙ ap option_copied c.in_default.is)
 
 pub returns : goal.returns
 returns g c =
     let sound = is_sound c.self.view_is c.self.invariant in
-    lowest_found c.args.self.now sound.valid c.self.inside.tables.entries sound.entries c.args.page c.args.serial c.args.source c.requires.0 c.requires.1
+    lowest_found c.args.self.now sound.valid c.self.inside.tables.entries sound.entries c.args.page c.args.source c.requires
     c.mappings_moving-names.result.items c.mappings_moving-names.ensures c.in-Some.lowest.now
     (ap (λ l. slice_get l 0) (sym c.deref.ensures.0) ∙ sym c.first.ensures.value ∙ ap option_copied c.in-Some.is)

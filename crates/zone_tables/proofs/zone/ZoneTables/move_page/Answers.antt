@@ -18,11 +18,8 @@ use Rattle.zone_tables.proofs.zone.ZoneTables.move_page.Given.{Over}
 use Rattle.zone_tables.proofs.zone.ZoneTables.move_page.Goals as goal
 use Rattle.zone_tables.proofs.zone.ZoneTables.move_page.Goals.{After-forget_round}
 
-pub isolate-serial-requires-clause-within : goal.isolate-serial-requires-clause-within
-isolate-serial-requires-clause-within g c = away.source_page c.self.view_is c.self.invariant _ c.requires.may_move c.requires.accepted
-
-pub isolate-serial-requires-clause-serial_left : goal.isolate-serial-requires-clause-serial_left
-isolate-serial-requires-clause-serial_left g c = away.serial_left c.self.view_is c.self.invariant _ c.requires.may_move c.requires.accepted
+pub isolate-serial-requires : goal.isolate-serial-requires
+isolate-serial-requires g c = away.serial_left c.self.view_is c.self.invariant _ c.requires.may_move c.requires.accepted
 
 pub arrive-requires : goal.arrive-requires
 arrive-requires g c = away.some_moving c.self.view_is c.self.invariant _ c.requires.may_move c.requires.accepted c.isolate-serial.new.self c.isolate-serial.ensures.noted
@@ -36,11 +33,6 @@ fill-requires g c = away.target_free_then c.self.view_is c.self.invariant _ c.re
 pub to_migration-requires-clause-within : goal.to_migration-requires-clause-within
 to_migration-requires-clause-within g c = away.source_listed c.self.view_is c.self.invariant _ c.requires.may_move c.requires.accepted
 
-pub to_migration-requires-clause-fresh : goal.to_migration-requires-clause-fresh
-to_migration-requires-clause-fresh g c =
-    let serial = c.isolate-serial.ensures.serial ∙ (is_sound c.self.view_is c.self.invariant).moves.isolated in
-    λ a source range e. away.fresh c.self.view_is c.self.invariant _ c.requires.may_move c.requires.accepted a source range (e ∙ ap (λ (n : ℕ). Migration n source) serial)
-
 pub to_migration-requires-clause-resting : goal.to_migration-requires-clause-resting
 to_migration-requires-clause-resting g c = away.resting c.self.view_is c.self.invariant _ c.requires.may_move c.requires.accepted
 
@@ -51,16 +43,10 @@ pub to_present-requires-clause-within : goal.to_present-requires-clause-within
 to_present-requires-clause-within g c = omega (arith, away.target_listed c.self.view_is c.self.invariant _ c.requires.may_move c.requires.accepted, c.to_migration.ensures.frames)
 
 pub to_present-requires-clause-left : goal.to_present-requires-clause-left
-to_present-requires-clause-left g c =
-    let serial = c.isolate-serial.ensures.serial ∙ (is_sound c.self.view_is c.self.invariant).moves.isolated in
-    let now = subst (λ (n : ℕ). Replaces c.self.inside.tables.entries c.to_migration.new.self.entries (Present c.args.source) (Migration n c.args.source)) serial c.to_migration.ensures.replaced in
-    λ a range listed. away.source_left c.self.view_is c.self.invariant _ c.requires.may_move c.requires.accepted c.to_migration.new.self.entries now a range listed ∙ ap (λ (n : ℕ). Migration n c.args.source) (sym serial)
+to_present-requires-clause-left g c = away.source_left c.self.view_is c.self.invariant _ c.requires.may_move c.requires.accepted c.to_migration.new.self.entries c.to_migration.ensures.replaced
 
 pub to_present-requires-clause-unnamed : goal.to_present-requires-clause-unnamed
-to_present-requires-clause-unnamed g c =
-    let serial = c.isolate-serial.ensures.serial ∙ (is_sound c.self.view_is c.self.invariant).moves.isolated in
-    let now = subst (λ (n : ℕ). Replaces c.self.inside.tables.entries c.to_migration.new.self.entries (Present c.args.source) (Migration n c.args.source)) serial c.to_migration.ensures.replaced in
-    λ ne. away.target_left c.self.view_is c.self.invariant _ c.requires.may_move c.requires.accepted c.to_migration.new.self.entries now
+to_present-requires-clause-unnamed g c = λ ne. away.target_left c.self.view_is c.self.invariant _ c.requires.may_move c.requires.accepted c.to_migration.new.self.entries c.to_migration.ensures.replaced
 
 pub copy-requires : goal.copy-requires
 copy-requires g c = (
@@ -98,8 +84,6 @@ leaving : {g : Over} (c : After-forget_round g) → Leaving c.self.inside (after
 leaving c =
     let z = c.self.inside in
     let serial = c.isolate-serial.ensures.serial ∙ (is_sound c.self.view_is c.self.invariant).moves.isolated in
-    let now = subst (λ (n : ℕ). Replaces z.tables.entries c.to_migration.new.self.entries (Present c.args.source) (Migration n c.args.source)) serial c.to_migration.ensures.replaced in
-    let then = subst (λ (n : ℕ). Replaces c.to_migration.new.self.entries c.to_present.new.self.entries (Migration n c.args.source) (Present c.args.target)) serial c.to_present.ensures.replaced in
     record {
       sound = is_sound c.self.view_is c.self.invariant;
       view = c.self.view_is;
@@ -107,7 +91,7 @@ leaving c =
       accepted = c.requires.accepted;
       note_is = noted c;
       frames = left_settled z.frames c.empty.new.self c.fill.new.self c.args.target c.args.source c.args.page _ c.empty.ensures.state c.fill.ensures.page;
-      tables = away.entries_moved c.self.view_is c.self.invariant _ c.requires.may_move c.requires.accepted c.to_migration.new.self.entries now c.to_present.new.self.entries then;
+      tables = away.entries_moved c.self.view_is c.self.invariant _ c.requires.may_move c.requires.accepted c.to_migration.new.self.entries c.to_migration.ensures.replaced c.to_present.new.self.entries c.to_present.ensures.replaced;
       words = c.copy.ensures.copied;
       notes = c.place.ensures _ (noted c);
       moves = c.arrive.ensures ∙ ap (λ (ms : Moves). record ms { moved = ms.moved + 1 }) c.isolate-serial.ensures.noted;

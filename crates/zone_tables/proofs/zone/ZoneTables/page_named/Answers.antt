@@ -7,6 +7,7 @@ use Rattle.zone_tables.proofs.Facts.{is_sound}
 use Rattle.zone_tables.proofs.LoadsAndStores.{present_is}
 use Rattle.state_core.proofs.Facts.{page_named, frame_within, not_none}
 use Rattle.state_core.proofs.Holding.{holder_at}
+use Rattle.zone_tables.proofs.MovingPages.{only_page}
 use Rattle.zone_tables.proofs.Tables.{migration_is}
 use Rattle.zone_tables.proofs.zone.ZoneTables.page_named.Goals as goal
 
@@ -33,19 +34,18 @@ returns-in-Present g c =
 pub page_from-requires : goal.page_from-requires
 page_from-requires g c =
     let sound = is_sound c.self.view_is c.self.invariant in
-    let at = migration_is (placement_at c.args.self.now c.args.address.now) c.in-Migration.serial c.in-Migration.source
+    let at = migration_is (placement_at c.args.self.now c.args.address.now) c.in-Migration.source
     (sym (sound.entries.each c.args.address.now c.entry.ensures.range) ∙ sym c.entry.ensures.value ∙ c.in-Migration.is) in
-    let way = Moving c.in-Migration.serial c.in-Migration.source at.0 in
-    let page = page_named c.args.self.now c.args.address.now way at.1 in
-    omega (arith, frame_within c.args.self.now sound.valid page.0 way page.2, sound.sources.count)
+    let way = Moving at.0 c.in-Migration.source at.1.0 in
+    let page = page_named c.args.self.now c.args.address.now way at.1.1 in
+    (omega arith, frame_within c.args.self.now sound.valid page.0 way page.2)
 
 pub returns-in-Migration : goal.returns-in-Migration
 returns-in-Migration g c =
     let sound = is_sound c.self.view_is c.self.invariant in
-    let at = migration_is (placement_at c.args.self.now c.args.address.now) c.in-Migration.serial c.in-Migration.source
+    let at = migration_is (placement_at c.args.self.now c.args.address.now) c.in-Migration.source
     (sym (sound.entries.each c.args.address.now c.entry.ensures.range) ∙ sym c.entry.ensures.value ∙ c.in-Migration.is) in
-    let way = Moving c.in-Migration.serial c.in-Migration.source at.0 in
-    let page = page_named c.args.self.now c.args.address.now way at.1 in
-    let is : Some c.page_from.result ≡ Some page.0 = sym c.page_from.ensures ∙ sound.sources.each page.0 c.in-Migration.serial c.in-Migration.source at.0 page.2 in
-    let same : c.page_from.result ≡ page.0 = cc in
-    record { page = is ∙ sym page.1; in_use = not_none _ way (ap (map.get c.args.self.now.placement) same ∙ page.2) }
+    let way = Moving at.0 c.in-Migration.source at.1.0 in
+    let page = page_named c.args.self.now c.args.address.now way at.1.1 in
+    let is = only_page c.args.self.now sound.valid c.in-Migration.source page.0 (at.0, at.1.0, page.2) c.page_from.result c.page_from.ensures.some c.page_from.ensures.none in
+    record { page = is ∙ sym page.1; in_use = named_so c.page_from.result _ page.0 is (not_none _ way page.2) }
