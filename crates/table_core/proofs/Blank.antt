@@ -9,14 +9,14 @@ use Rattle.table_core.specs.Tables.{place_of, IsBlank}
 use Rattle.table_core.proofs.Listing.{all_same}
 use Rattle.table_core.proofs.Writing.{seen}
 
-pub blank : (size : Size) (n : ℕ) (serials frames : List (Option ℕ)) → frames ≡ replicate n None → IsBlank (record { list = entries_of serials frames; size = size })
-blank size n serials frames e a = seen size serials frames a ∙ ap (entry_by serials) (under (is_in_table size.spaces size.pages a)) where
+pub blank : (size : Size) (n : ℕ) (left : List Bool) (frames : List (Option ℕ)) → frames ≡ replicate n None → IsBlank (record { list = entries_of left frames; size = size })
+blank size n left frames e a = seen size left frames a ∙ ap (entry_by left) (under (is_in_table size.spaces size.pages a)) where
   under : (t : Bool) → (if t then unwrap_or (slice_get frames (place_of size.pages a)) None else None) ≡ None
   under false = refl
   under true = ap (λ (fs : List (Option ℕ)). unwrap_or (slice_get fs (place_of size.pages a)) None) e ∙ all_same n (place_of size.pages a) None
 
-pub kept_blank : (size : Size) (n : ℕ) (serials frames : List (Option ℕ)) → n ≡ size.spaces * size.pages → frames ≡ replicate n None → AreKept size serials frames
-kept_blank size n serials frames count e = record {
+pub kept_blank : (size : Size) (n : ℕ) (left : List Bool) (frames : List (Option ℕ)) → n ≡ size.spaces * size.pages → frames ≡ replicate n None → AreKept size left frames
+kept_blank size n left frames count e = record {
   count = ap length e ∙ length-replicate n None ∙ count;
   within = λ place frame at.
       let none : None ≡ Some frame =

@@ -30,19 +30,13 @@ rewritten old new n a b = take-append-le n new (drop (length new) old) (omega ar
 pub same_entry : (a b : Entry) → (a ≡ b) ⊎ (a ≢ b)
 same_entry Absent Absent = inl refl
 same_entry Absent (Present f) = inr (λ e. cc)
-same_entry Absent (Migration s f) = inr (λ e. cc)
+same_entry Absent (Migration f) = inr (λ e. cc)
 same_entry (Present f) Absent = inr (λ e. cc)
 same_entry (Present f) (Present g) = elim (eqb_tells f g) [ inl same ↦ inl (ap Present same.1) | inr other ↦ inr (λ e. let at : f ≡ g = cc in other.1 at) ]
-same_entry (Present f) (Migration s g) = inr (λ e. cc)
-same_entry (Migration s f) Absent = inr (λ e. cc)
-same_entry (Migration s f) (Present g) = inr (λ e. cc)
-same_entry (Migration s f) (Migration t g) = elim (eqb_tells s t) [
-  | inl same ↦ elim (eqb_tells f g) [
-    | inl too ↦ inl (λ i. Migration (same.1 i) (too.1 i))
-    | inr other ↦ inr (λ e. let at : f ≡ g = cc in other.1 at)
-  ]
-  | inr other ↦ inr (λ e. let at : s ≡ t = cc in other.1 at)
-]
+same_entry (Present f) (Migration g) = inr (λ e. cc)
+same_entry (Migration f) Absent = inr (λ e. cc)
+same_entry (Migration f) (Present g) = inr (λ e. cc)
+same_entry (Migration f) (Migration g) = elim (eqb_tells f g) [ inl same ↦ inl (ap Migration same.1) | inr other ↦ inr (λ e. let at : f ≡ g = cc in other.1 at) ]
 
 -- a list has the addresses of a frame where the same ones are listed under it that were listed under the frame of the list
 pub moved_list : (old new : EntryTable) (f g : ℕ) (names : List Address) → IsListOf old f names → ((b : Address) → InRange b → is_listed (entry_at new b) g ≡ is_listed (entry_at old b) f) → IsListOf new g names
@@ -111,12 +105,12 @@ module _ (old new : EntryTable) (address : Address) (entry : Entry) (range : InR
     };
   }
 
--- one list is replaced as its entry changed, which is no migration entry then, and no other list is touched
+-- one list is replaced as its entry changed, and no other list is touched
 pub listed_changed : (old new : EntryTable) (lists : List (List Address)) (address : Address) (entry : Entry) (frame : ℕ) (names changed : List Address) →
-    AreListed old lists → InRange address → Changes old new address entry → ((serial s : ℕ) → entry ≢ Migration serial s) →
+    AreListed old lists → InRange address → Changes old new address entry →
     slice_get lists frame ≡ Some names → IsListOf new frame changed →
     ((g : ℕ) → g ≢ frame → (is_listed (entry_at old address) g ≡ false) × (is_listed entry g ≡ false)) → AreListed new (slice_set lists frame changed)
-listed_changed old new lists address entry frame names changed listed range change rests at list off = record {
+listed_changed old new lists address entry frame names changed listed range change at list off = record {
   in_range = λ a some. elim (address_tells a address) [
     | inl same ↦ subst InRange (sym same) range
     | inr other ↦ listed.in_range a (λ e. some (change.elsewhere a other ∙ e))
@@ -134,23 +128,16 @@ listed_changed old new lists address entry frame names changed listed range chan
     ]
     | inr other ↦ omega (arith, listed.within b g (sym (ap (λ e. is_listed e g) (change.elsewhere b other)) ∙ e), length-set lists frame changed)
   ];
-  one_source = λ a b serial s t p q x y. listed.one_source a b serial s t p q (was a serial s x) (was b serial t y);
 } where
   inside : frame < length lists
   inside = slice_get_within lists frame names at
-
-  was : (a : Address) (serial s : ℕ) → entry_at new a ≡ Migration serial s → entry_at old a ≡ Migration serial s
-  was a serial s x = elim (address_tells a address) [
-    | inl same ↦ absurd (rests serial s (sym (ap (entry_at new) same ∙ change.here) ∙ x))
-    | inr other ↦ sym (change.elsewhere a other) ∙ x
-  ]
 
 -- an address is bound to a frame
 pub listed_set : (old new : EntryTable) (lists : List (List Address)) (address : Address) (frame : ℕ) (names : List Address) →
     AreListed old lists → InRange address → Changes old new address (Present frame) → entry_at old address ≡ Absent →
     slice_get lists frame ≡ Some names → length names < 4 → AreListed new (slice_set lists frame (inserted names address))
 listed_set old new lists address frame names listed range change absent at room =
-    listed_changed old new lists address (Present frame) frame names (inserted names address) listed range change (λ serial s e. cc) at
+    listed_changed old new lists address (Present frame) frame names (inserted names address) listed range change at
     (list_gains old new address (Present frame) range change frame names (listed.each frame names at) (ap (λ e. is_listed e frame) absent) (eq-eqb frame frame refl) room)
     (λ g ne. (ap (λ e. is_listed e g) absent, ne_eqb frame g (λ e. ne (sym e))))
 
@@ -159,7 +146,7 @@ pub listed_clear : (old new : EntryTable) (lists : List (List Address)) (address
     AreListed old lists → InRange address → Changes old new address Absent → entry_at old address ≡ Present frame →
     slice_get lists frame ≡ Some names → AreListed new (slice_set lists frame (without names address))
 listed_clear old new lists address frame names listed range change present at =
-    listed_changed old new lists address Absent frame names (without names address) listed range change (λ serial s e. cc) at
+    listed_changed old new lists address Absent frame names (without names address) listed range change at
     (list_loses old new address Absent range change frame names (listed.each frame names at) refl)
     (λ g ne. (ap (λ e. is_listed e g) present ∙ ne_eqb frame g (λ e. ne (sym e)), refl))
 
@@ -180,28 +167,17 @@ range_kept old new lists from to listed change names a some = elim (same_entry (
 ]
 
 -- a page is isolated: its addresses stay listed under the frame that it left
-pub listed_moved : (old new : EntryTable) (lists : List (List Address)) (frame serial : ℕ) → AreListed old lists →
-    Replaces old new (Present frame) (Migration serial frame) →
-    ((a : Address) (source : ℕ) → InRange a → entry_at old a ≢ Migration serial source) → AreListed new lists
-listed_moved old new lists frame serial listed change fresh = record {
-  in_range = range_kept old new lists (Present frame) (Migration serial frame) listed change (λ e. cc);
+pub listed_moved : (old new : EntryTable) (lists : List (List Address)) (frame : ℕ) → AreListed old lists →
+    Replaces old new (Present frame) (Migration frame) → AreListed new lists
+listed_moved old new lists frame listed change = record {
+  in_range = range_kept old new lists (Present frame) (Migration frame) listed change (λ e. cc);
   each = λ g names e. moved_list old new g g names (listed.each g names e) (λ b range. same b g);
   within = λ b g e. listed.within b g (sym (same b g) ∙ e);
-  one_source = λ a b s f g p q x y. elim (was a s f x) [
-    | inl one ↦ elim (was b s g y) [ inl two ↦ listed.one_source a b s f g p q one two | inr two ↦ absurd (fresh a f p (one ∙ ap (λ n. Migration n f) two.0)) ]
-    | inr one ↦ elim (was b s g y) [ inl two ↦ absurd (fresh b g q (two ∙ ap (λ n. Migration n g) one.0)) | inr two ↦ one.1 ∙ sym two.1 ]
-  ];
 } where
   same : (b : Address) (g : ℕ) → is_listed (entry_at new b) g ≡ is_listed (entry_at old b) g
   same b g = elim (same_entry (entry_at old b) (Present frame)) [
     | inl one ↦ ap (λ x. is_listed x g) (change.there b one) ∙ sym (ap (λ x. is_listed x g) one)
     | inr one ↦ ap (λ x. is_listed x g) (change.elsewhere b one)
-  ]
-
-  was : (a : Address) (s f : ℕ) → entry_at new a ≡ Migration s f → (entry_at old a ≡ Migration s f) ⊎ ((s ≡ serial) × (f ≡ frame))
-  was a s f x = elim (same_entry (entry_at old a) (Present frame)) [
-    | inl one ↦ (let both : Migration serial frame ≡ Migration s f = sym (change.there a one) ∙ x in inr (cc, cc))
-    | inr one ↦ inl (sym (change.elsewhere a one) ∙ x)
   ]
 
 -- two lists change places
@@ -223,42 +199,36 @@ swapped_at lists swapped i j a b count at = record {
 }
 
 -- a move ends: the addresses of the page are listed under its frame
-module _ (old new : EntryTable) (lists swapped : List (List Address)) (serial source frame : ℕ) (listed : AreListed old lists)
-    (change : Replaces old new (Migration serial source) (Present frame)) (swap : Swapped lists swapped source frame)
-    (left : (a : Address) → InRange a → is_listed (entry_at old a) source ≡ true → entry_at old a ≡ Migration serial source)
+module _ (old new : EntryTable) (lists swapped : List (List Address)) (source frame : ℕ) (listed : AreListed old lists)
+    (change : Replaces old new (Migration source) (Present frame)) (swap : Swapped lists swapped source frame)
+    (left : (a : Address) → InRange a → is_listed (entry_at old a) source ≡ true → entry_at old a ≡ Migration source)
     (unnamed : frame ≢ source → (a : Address) → InRange a → is_listed (entry_at old a) frame ≡ false)
     (source_in : source < length lists) (frame_in : frame < length lists) where
-  off : (b : Address) → InRange b → entry_at old b ≢ Migration serial source → is_listed (entry_at old b) source ≡ false
+  off : (b : Address) → InRange b → entry_at old b ≢ Migration source → is_listed (entry_at old b) source ≡ false
   off b range ne = false_from_ne_true _ (λ e. ne (left b range e))
 
   here : (b : Address) → InRange b → is_listed (entry_at new b) frame ≡ is_listed (entry_at old b) source
-  here b range = elim (same_entry (entry_at old b) (Migration serial source)) [
+  here b range = elim (same_entry (entry_at old b) (Migration source)) [
     | inl one ↦ ap (λ x. is_listed x frame) (change.there b one) ∙ eq-eqb frame frame refl ∙ sym (ap (λ x. is_listed x source) one ∙ eq-eqb source source refl)
     | inr one ↦ ap (λ x. is_listed x frame) (change.elsewhere b one)
         ∙ elim (eqb_tells frame source) [ inl same ↦ ap (is_listed (entry_at old b)) same.1 | inr other ↦ unnamed other.1 b range ∙ sym (off b range one) ]
   ]
 
   there : frame ≢ source → (b : Address) → InRange b → is_listed (entry_at new b) source ≡ is_listed (entry_at old b) frame
-  there ne b range = elim (same_entry (entry_at old b) (Migration serial source)) [
+  there ne b range = elim (same_entry (entry_at old b) (Migration source)) [
     | inl one ↦ ap (λ x. is_listed x source) (change.there b one) ∙ ne_eqb frame source ne ∙ sym (unnamed ne b range)
     | inr one ↦ ap (λ x. is_listed x source) (change.elsewhere b one) ∙ off b range one ∙ sym (unnamed ne b range)
   ]
 
   apart : (g : ℕ) → g ≢ frame → g ≢ source → (b : Address) → InRange b → is_listed (entry_at new b) g ≡ is_listed (entry_at old b) g
-  apart g nf ns b range = elim (same_entry (entry_at old b) (Migration serial source)) [
+  apart g nf ns b range = elim (same_entry (entry_at old b) (Migration source)) [
     | inl one ↦ ap (λ x. is_listed x g) (change.there b one) ∙ ne_eqb frame g (λ e. nf (sym e)) ∙ sym (ap (λ x. is_listed x g) one ∙ ne_eqb source g (λ e. ns (sym e)))
     | inr one ↦ ap (λ x. is_listed x g) (change.elsewhere b one)
   ]
 
-  was : (a : Address) (s f : ℕ) → entry_at new a ≡ Migration s f → entry_at old a ≡ Migration s f
-  was a s f x = elim (same_entry (entry_at old a) (Migration serial source)) [
-    | inl one ↦ (let bad : Present frame ≡ Migration s f = sym (change.there a one) ∙ x in cc)
-    | inr one ↦ sym (change.elsewhere a one) ∙ x
-  ]
-
   pub listed_ended : AreListed new swapped
   listed_ended = record {
-    in_range = range_kept old new lists (Migration serial source) (Present frame) listed change (λ e. cc);
+    in_range = range_kept old new lists (Migration source) (Present frame) listed change (λ e. cc);
     each = λ g names e. elim (eqb_tells g frame) [
       | inl same ↦ subst (λ (f : ℕ). IsListOf new f names) (sym same.1) (moved_list old new source frame names (listed.each source names (sym swap.second ∙ ap (slice_get swapped) (sym same.1) ∙ e)) here)
       | inr ne ↦ elim (eqb_tells g source) [
@@ -266,11 +236,10 @@ module _ (old new : EntryTable) (lists swapped : List (List Address)) (serial so
         | inr other ↦ moved_list old new g g names (listed.each g names (sym (swap.others g other.1 ne.1) ∙ e)) (apart g ne.1 other.1)
       ]
     ];
-    within = λ b g e. elim (same_entry (entry_at old b) (Migration serial source)) [
+    within = λ b g e. elim (same_entry (entry_at old b) (Migration source)) [
       | inl one ↦ (let at : frame ≡ g = eqb-true frame g (sym (ap (λ x. is_listed x g) (change.there b one)) ∙ e) in omega (arith, swap.count))
       | inr one ↦ omega (arith, listed.within b g (sym (ap (λ x. is_listed x g) (change.elsewhere b one)) ∙ e), swap.count)
     ];
-    one_source = λ a b s f g p q x y. listed.one_source a b s f g p q (was a s f x) (was b s g y);
   }
 
 -- a list of copies has nothing else at any index
@@ -288,7 +257,6 @@ listed_none entries n blank = record {
     just = record { rising = tt; each = λ b. (λ h. absurd h, λ h. (let bad : false ≡ true = sym (ap (λ x. is_listed x frame) (blank b)) ∙ h.1 in cc)) };
   });
   within = λ b frame e. (let bad : false ≡ true = sym (ap (λ x. is_listed x frame) (blank b)) ∙ e in cc);
-  one_source = λ a b serial s t p q x y. (let bad : Absent ≡ Migration serial s = sym (blank a) ∙ x in cc);
 }
 
 -- the addresses of a frame's list that have an entry are all that have it

@@ -101,8 +101,8 @@ listed_some t a frame is e = let bad : false ≡ true = sym (ap (λ x. is_listed
 pub listed_inside : (t : EntryTable) (a : Address) (frame : ℕ) → is_listed (entry_at t a) frame ≡ true → InTable t.size.spaces t.size.pages a
 listed_inside t a frame is = named_inside t a (listed_some t a frame is)
 
-pub moving_inside : (t : EntryTable) (a : Address) (serial source : ℕ) → entry_at t a ≡ Migration serial source → InTable t.size.spaces t.size.pages a
-moving_inside t a serial source is = named_inside t a (λ e. (let bad : Absent ≡ Migration serial source = sym e ∙ is in cc))
+pub moving_inside : (t : EntryTable) (a : Address) (source : ℕ) → entry_at t a ≡ Migration source → InTable t.size.spaces t.size.pages a
+moving_inside t a source is = named_inside t a (λ e. (let bad : Absent ≡ Migration source = sym e ∙ is in cc))
 
 -- the place of an address in a list that is as long as the table says
 pub place_in : (t : EntryTable) (size : Size) (a : Address) (place : ℕ) → size ≡ t.size → length t.list ≡ size.spaces * size.pages →

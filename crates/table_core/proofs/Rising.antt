@@ -1,5 +1,5 @@
 -- Laws of rising lists of addresses.
-use Rattle.std.proofs.Common.{◌≡◌, ◌≢◌, ℕ, suc, ◌+◌, ◌<◌, ◌≤◌, Bool, true, false, List, [], ◌∷◌, ◌++◌, length, ◌⊎◌, inl, inr, refl, sym, ap, subst, ◌∙◌, arith}
+use Rattle.std.proofs.Common.{◌≡◌, ◌≢◌, suc, ◌+◌, ◌<◌, ◌≤◌, Bool, true, false, List, [], ◌∷◌, ◌++◌, length, ◌⊎◌, inl, inr, refl, sym, ap, subst, ◌∙◌, arith}
 use Rattle.std.specs.Prelude.{nat_le, nat_eq, if◌then◌else◌, insert, remove}
 use Rattle.std.proofs.lemmas.Bool.Decides.{leb_tells, eqb_tells}
 use Rattle.frame_core.specs.declared.place.Address.{Address}
@@ -14,13 +14,6 @@ at_rank x xs a true same = refl
 pub insert_at_rank : (xs : List Address) (a : Address) → insert xs (rank xs a) a ≡ inserted xs a
 insert_at_rank [] a = refl
 insert_at_rank (x ∷ xs) a = at_rank x xs a (nat_le (order_of a) (order_of x)) (insert_at_rank xs a)
-
-insert_last : (xs : List Address) (a : Address) → insert xs (length xs) a ≡ xs ++ a ∷ []
-insert_last [] a = refl
-insert_last (x ∷ xs) a = ap (λ (rest : List Address). x ∷ rest) (insert_last xs a)
-
-pub last_at_rank : (xs : List Address) (a : Address) → rank xs a ≡ length xs → xs ++ a ∷ [] ≡ inserted xs a
-last_at_rank xs a last = sym (insert_last xs a) ∙ ap (λ (i : ℕ). insert xs i a) (sym last) ∙ insert_at_rank xs a
 
 from_step : (x : Address) (xs : List Address) (a b : Address) (t : Bool) → (IsIn (inserted xs a) b → (a ≡ b) ⊎ IsIn xs b) →
     IsIn (if t then a ∷ x ∷ xs else x ∷ inserted xs a) b → (a ≡ b) ⊎ IsIn (x ∷ xs) b

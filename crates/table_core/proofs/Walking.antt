@@ -10,7 +10,7 @@ use Rattle.table_core.specs.declared.entry.Entry.TheVariants.{Absent, Present, M
 use Rattle.table_core.specs.Listed.{AreListed}
 use Rattle.table_core.specs.Names.{IsIn, IsRising, AreJust}
 use Rattle.table_core.specs.Tables.{EntryTable, place_of, entry_at, is_listed}
-use Rattle.table_core.proofs.Places.{same_place, place_within, rising_places, named_inside, moving_inside}
+use Rattle.table_core.proofs.Places.{same_place, place_within, rising_places, named_inside}
 use Rattle.table_core.proofs.Rising.{from_pushed, to_pushed, rising_pushed, no_longer}
 
 -- exactly the addresses before a place that have the entry were found
@@ -68,7 +68,7 @@ module _ (entries : EntryTable) (entry : Entry) (found : List Address) (place : 
 frame_of : (entry : Entry) → entry ≢ Absent → (frame : ℕ) × (is_listed entry frame ≡ true)
 frame_of Absent some = absurd (some refl)
 frame_of (Present f) some = (f, eq-eqb f f refl)
-frame_of (Migration s f) some = (f, eq-eqb f f refl)
+frame_of (Migration f) some = (f, eq-eqb f f refl)
 
 pub few_have : (entries : EntryTable) (lists : List (List Address)) → AreListed entries lists → (entry : Entry) → entry ≢ Absent →
     (names : List Address) → IsRising names → ((a : Address) → IsIn names a → InRange a × (entry_at entries a ≡ entry)) → length names ≤ 4
@@ -80,30 +80,3 @@ few_have entries lists listed entry some (x ∷ xs) rising have =
     let longest = no_longer (x ∷ xs) _ rising list.just.rising (λ a h. (let is = have a h in (list.just.each a).1 (is.0, ap (λ e. is_listed e frame.0) is.1 ∙ frame.1))) in
     let few = list.few in
     omega arith
-
--- the addresses of a moving page, found by its serial alone
-pub by_serial : (entries : EntryTable) (lists : List (List Address)) → AreListed entries lists → (found : List Address) (serial source : ℕ) →
-    (a : Address) × (entry_at entries a ≡ Migration serial source) →
-    AreJust found (λ a. entry_at entries a ≡ Migration serial source) → AreJust found (λ a. (s : ℕ) × (entry_at entries a ≡ Migration serial s))
-by_serial entries lists listed found serial source one just = record {
-  rising = just.rising;
-  each = λ a. (
-    λ h. (let is = (just.each a).0 h in (is.0, (source, is.1))),
-    λ h. (just.each a).1 (h.0, h.1.1 ∙ ap (Migration serial) (listed.one_source a one.0 serial h.1.0 source h.0 (in_range one.0 one.1) h.1.1 one.1)),
-  );
-} where
-  in_range : (a : Address) → entry_at entries a ≡ Migration serial source → InRange a
-  in_range a is = listed.in_range a (λ e. (let bad : Absent ≡ Migration serial source = sym e ∙ is in cc))
-
-pub none_by_serial : (entries : EntryTable) (serial : ℕ) → ((a : Address) (source : ℕ) → entry_at entries a ≢ Migration serial source) →
-    AreJust [] (λ a. (s : ℕ) × (entry_at entries a ≡ Migration serial s))
-none_by_serial entries serial none = record { rising = tt; each = λ a. (λ h. absurd h, λ h. absurd (none a h.1.0 h.1.1)) }
-
--- no entry before a place has the serial
-abbrev pub NoneBefore : EntryTable → ℕ → ℕ → Type 0
-NoneBefore entries serial place = (a : Address) (source : ℕ) → place_of entries.size.pages a < place → entry_at entries a ≢ Migration serial source
-
-pub none_at_all : (entries : EntryTable) (serial place : ℕ) → NoneBefore entries serial place → entries.size.spaces * entries.size.pages ≤ place →
-    (a : Address) (source : ℕ) → entry_at entries a ≢ Migration serial source
-none_at_all entries serial place none end a source e =
-    none a source (omega (arith, end, place_within entries.size.spaces entries.size.pages a (moving_inside entries a serial source e))) e

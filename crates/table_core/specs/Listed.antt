@@ -2,7 +2,7 @@
 use Rattle.std.specs.Prelude.{◌≡◌, ◌≢◌, ℕ, ◌<◌, ◌≤◌, true, List, length, slice_get, Some}
 use Rattle.frame_core.specs.Address.{InRange}
 use Rattle.frame_core.specs.declared.place.Address.{Address}
-use Rattle.table_core.specs.declared.entry.Entry.TheVariants.{Absent, Migration}
+use Rattle.table_core.specs.declared.entry.Entry.TheVariants.{Absent}
 use Rattle.table_core.specs.Names.{AreJust}
 use Rattle.table_core.specs.Tables.{EntryTable, entry_at, is_listed}
 
@@ -11,10 +11,8 @@ pub record IsListOf (entries : EntryTable) (frame : ℕ) (names : List Address) 
   pub few : length names ≤ 4
   pub just : AreJust names (λ a. is_listed (entry_at entries a) frame ≡ true)
 
--- each frame has its list, each address that names something is in range and listed under a frame of the zone, and a serial
--- stands for one source
+-- each frame has its list, and each address that names something is in range and listed under a frame of the zone
 pub record AreListed (entries : EntryTable) (lists : List (List Address)) : Type 0 where
   pub in_range : (a : Address) → entry_at entries a ≢ Absent → InRange a
   pub each : (frame : ℕ) (names : List Address) → slice_get lists frame ≡ Some names → IsListOf entries frame names
   pub within : (a : Address) (frame : ℕ) → is_listed (entry_at entries a) frame ≡ true → frame < length lists
-  pub one_source : (a b : Address) (serial s t : ℕ) → InRange a → InRange b → entry_at entries a ≡ Migration serial s → entry_at entries b ≡ Migration serial t → s ≡ t

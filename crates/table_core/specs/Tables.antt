@@ -36,7 +36,7 @@ with_entry entries place entry = record entries { list = slice_set entries.list 
 abbrev pub is_listed : Entry → ℕ → Bool
 is_listed Absent frame = false
 is_listed (Present f) frame = nat_eq f frame
-is_listed (Migration serial source) frame = nat_eq source frame
+is_listed (Migration source) frame = nat_eq source frame
 
 -- how many addresses are listed under a frame, of all in the table
 abbrev pub count_listed : EntryTable → ℕ → ℕ

@@ -7,18 +7,19 @@ ghost use Rattle.table_core.specs.Names.{IsIn};
 ghost use Rattle.table_core.specs.Tables.{place_of, entry_at, with_entry, is_listed, IsBlank, Replaces};
 
 use crate::entry::Entry;
+use crate::listed_under::ListedUnder;
 use crate::size::Size;
-use frame_core::{Address, FixedVec, FrameNo, Serial};
+use frame_core::{Address, FixedVec, FrameNo};
 use std::alloc::{AllocError, Global};
 use std::marker::Model;
 
-/// The entry of each address, kept in two lists: for each address the frame under which it is listed, and for each frame the
-/// serial of the page that left it.
+/// The entry of each address, kept in two lists: for each address the frame under which it is listed, and for each frame
+/// whether its page left it and is moving.
 #[derive(Drop)]
 pub struct Entries {
     size: Size,
-    frames: FixedVec<Option<FrameNo>>,
-    serials: FixedVec<Option<Serial>>,
+    frames: FixedVec<ListedUnder>,
+    left: FixedVec<bool>,
 }
 
 impl Model for Entries {
@@ -28,9 +29,9 @@ impl Model for Entries {
 
     ghost Value = { Kept };
 
-    ghost view = { λ e. record { entries = record { list = entries_of e.serials.items e.frames.items; size = e.size }; frames = length e.serials.items } };
+    ghost view = { λ e. record { entries = record { list = entries_of e.left.items e.frames.items; size = e.size }; frames = length e.left.items } };
 
-    ghost invariant = { λ e. AreKept e.size e.serials.items e.frames.items };
+    ghost invariant = { λ e. AreKept e.size e.left.items e.frames.items };
 }
 
 impl Entries {
@@ -43,8 +44,8 @@ impl Entries {
     {
         Ok(Entries {
             size,
-            frames: FixedVec::filled(alloc, None, size.addresses())?,
-            serials: FixedVec::filled(alloc, None, frames)?,
+            frames: FixedVec::filled(alloc, ListedUnder::none(), size.addresses())?,
+            left: FixedVec::filled(alloc, false, frames)?,
         })
     }
 
@@ -70,15 +71,13 @@ impl Entries {
         requires { place < length self.now.entries.list }
         ensures { slice_get self.now.entries.list place ≡ Some result }
     {
-        let Some(frame) = self.frames[place] else {
+        let Some(frame) = self.frames[place].get() else {
             return Entry::Absent;
         };
-        match self.serials[frame.get() as usize] {
-            Some(serial) => Entry::Migration {
-                serial,
-                source: frame,
-            },
-            None => Entry::Present(frame),
+        if self.left[frame.get() as usize] {
+            Entry::Migration(frame)
+        } else {
+            Entry::Present(frame)
         }
     }
 
@@ -86,11 +85,11 @@ impl Entries {
     pub fn set(&mut self, place: usize, frame: FrameNo)
         requires place { place < length self.old.entries.list }
         requires within { frame < self.old.frames }
-        requires still { (a : Named) (serial : ℕ) → entry_at self.old.entries a ≢ Entry.Migration serial frame }
+        requires resting { (a : Named) → entry_at self.old.entries a ≢ Entry.Migration frame }
         ensures { self.new ≡ record self.old { entries = with_entry self.old.entries place (Entry.Present frame) } }
     {
-        self.frames[place] = Some(frame);
-        self.serials[frame.get() as usize] = None;
+        self.frames[place] = ListedUnder::some(frame);
+        self.left[frame.get() as usize] = false;
     }
 
     /// Makes the address at a place name nothing.
@@ -98,41 +97,41 @@ impl Entries {
         requires { place < length self.old.entries.list }
         ensures { self.new ≡ record self.old { entries = with_entry self.old.entries place Entry.Absent } }
     {
-        self.frames[place] = None;
+        self.frames[place] = ListedUnder::none();
     }
 
-    /// Turns each address that names a frame into a migration entry with this serial. No address may name another page
-    /// that left this frame.
-    pub fn to_migration(&mut self, frame: FrameNo, serial: Serial)
+    /// Turns each address that names the page in a frame into a migration entry. No address may name another page that left
+    /// this frame.
+    pub fn to_migration(&mut self, frame: FrameNo)
         requires within { frame < self.old.frames }
-        requires still { (a : Named) (other : ℕ) → entry_at self.old.entries a ≢ Entry.Migration other frame }
-        ensures replaced { Replaces self.old.entries self.new.entries (Entry.Present frame) (Entry.Migration serial frame) }
+        requires resting { (a : Named) → entry_at self.old.entries a ≢ Entry.Migration frame }
+        ensures replaced { Replaces self.old.entries self.new.entries (Entry.Present frame) (Entry.Migration frame) }
         ensures frames { self.new.frames ≡ self.old.frames }
         ensures size { self.new.entries.size ≡ self.old.entries.size }
     {
-        self.serials[frame.get() as usize] = Some(serial);
+        self.left[frame.get() as usize] = true;
     }
 
     /// Ends a migration: the addresses that named it, which are exactly those of the list, name the frame now. No other address
     /// may be listed under the frame that the page left, or under the one to which it goes.
-    pub fn to_present(&mut self, names: &[Address], serial: Serial, source: FrameNo, frame: FrameNo)
+    pub fn to_present(&mut self, names: &[Address], source: FrameNo, frame: FrameNo)
         requires source_within { source < self.old.frames }
         requires within { frame < self.old.frames }
-        requires named { (a : Named) → IsIn names.now a ↔ (entry_at self.old.entries a ≡ Entry.Migration serial source) }
-        requires left { (a : Named) → is_listed (entry_at self.old.entries a) source ≡ true → entry_at self.old.entries a ≡ Entry.Migration serial source }
+        requires named { (a : Named) → IsIn names.now a ↔ (entry_at self.old.entries a ≡ Entry.Migration source) }
+        requires left { (a : Named) → is_listed (entry_at self.old.entries a) source ≡ true → entry_at self.old.entries a ≡ Entry.Migration source }
         requires unnamed { frame ≢ source → (a : Named) → is_listed (entry_at self.old.entries a) frame ≡ false }
-        ensures replaced { Replaces self.old.entries self.new.entries (Entry.Migration serial source) (Entry.Present frame) }
+        ensures replaced { Replaces self.old.entries self.new.entries (Entry.Migration source) (Entry.Present frame) }
         ensures frames { self.new.frames ≡ self.old.frames }
         ensures size { self.new.entries.size ≡ self.old.entries.size }
     {
-        self.serials[source.get() as usize] = None;
-        self.serials[frame.get() as usize] = None;
+        self.left[source.get() as usize] = false;
+        self.left[frame.get() as usize] = false;
         list_under(&mut self.frames, self.size, names, frame);
     }
 }
 
 /// Lists the addresses under a frame.
-fn list_under(frames: &mut [Option<FrameNo>], size: Size, names: &[Address], frame: FrameNo)
+fn list_under(frames: &mut [ListedUnder], size: Size, names: &[Address], frame: FrameNo)
     requires count { length frames.old ≡ size.spaces * size.pages }
     requires inside { (a : Named) → IsIn names.now a → InTable size.spaces size.pages a }
     ensures named { (a : Named) → IsIn names.now a → slice_get frames.new (place_of size.pages a) ≡ Some (Some frame) }
@@ -140,6 +139,6 @@ fn list_under(frames: &mut [Option<FrameNo>], size: Size, names: &[Address], fra
     ensures count { length frames.new ≡ length frames.old }
 {
     for name in names {
-        frames[size.place_of(name)] = Some(frame);
+        frames[size.place_of(name)] = ListedUnder::some(frame);
     }
 }

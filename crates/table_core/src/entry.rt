@@ -1,4 +1,4 @@
-use frame_core::{FrameNo, Serial};
+use frame_core::FrameNo;
 
 /// What an address names.
 #[derive(Clone, Copy, Debug, PartialEq, Eq)]
@@ -6,6 +6,6 @@ pub enum Entry {
     Absent,
     /// The page in this frame.
     Present(FrameNo),
-    /// A migration entry: the page is moving under this serial, and left this frame. Who comes to it waits until it is removed.
-    Migration { serial: Serial, source: FrameNo },
+    /// A migration entry: the page is moving, and left this frame. Who comes to it waits until it is removed.
+    Migration(FrameNo),
 }

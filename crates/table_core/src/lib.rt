@@ -5,6 +5,7 @@
 
 mod entries;
 mod entry;
+mod listed_under;
 mod names;
 mod size;
 mod tables;

@@ -1,7 +1,6 @@
 ghost use Rattle.std.specs.Prelude.{◌≡◌, ◌+◌, ◌<◌, ◌≤◌, [], length, replicate, IfOk};
 ghost use Rattle.table_core.specs.Names.{IsIn, IsRising, order_of, rank, inserted, without};
 
-use arrayvec::ArrayVec;
 use frame_core::{Address, FixedVec};
 use std::alloc::{AllocError, Global};
 use std::marker::Model;
@@ -9,19 +8,22 @@ use std::marker::Model;
 /// The most virtual pages that a space of a table has.
 const MOST_PAGES: usize = 16_777_216;
 
-/// The addresses that are listed under a frame, in rising order.
+/// The addresses that are listed under a frame: the first `count` of four, in rising order. They take 17 bytes.
 #[derive(Drop)]
 pub struct Names {
-    addresses: ArrayVec<Address, 4>,
+    addresses: [Address; 4],
+    count: u8,
 }
 
 impl Model for Names {
-    ghost use Rattle.std.specs.Prelude.{List};
+    ghost use Rattle.std.specs.Prelude.{◌≡◌, ◌≤◌, List, length, take};
     ghost use Rattle.frame_core.specs.declared.place.Address.{Address as Named};
 
     ghost Value = { List Named };
 
-    ghost view = { λ n. n.addresses.items };
+    ghost view = { λ n. take n.count n.addresses };
+
+    ghost invariant = { λ n. (n.count ≤ 4) × (length n.addresses ≡ 4) };
 }
 
 impl Names {
@@ -30,7 +32,8 @@ impl Names {
         ensures { result ≡ [] }
     {
         Names {
-            addresses: ArrayVec::new(),
+            addresses: [Address::default(); 4],
+            count: 0,
         }
     }
 
@@ -39,32 +42,32 @@ impl Names {
         ensures value { result.now ≡ self.now }
         ensures few { length self.now ≤ 4 }
     {
-        self.addresses.as_slice()
+        &self.addresses[..self.count as usize]
     }
 
     /// Puts an address at its place in the list. The list has to have fewer than 4.
-    #[tactic(auto, using(crate::proofs::Rising::insert_at_rank, crate::proofs::Rising::last_at_rank))]
     pub fn insert(&mut self, address: Address)
         requires { length self.old < 4 }
         ensures { self.new ≡ inserted self.old address }
     {
-        let place = rank(&self.addresses, &address);
-        if place == self.addresses.len() {
-            self.addresses.push(address);
-        } else {
-            self.addresses.insert(place, address);
-        }
+        let count = self.count as usize;
+        let place = rank(&self.addresses[..count], &address);
+        self.addresses.copy_within(place..count, place + 1);
+        self.addresses[place] = address;
+        self.count += 1;
     }
 
     /// Takes an address out of the list. It has to be there.
-    #[tactic(auto, using(crate::proofs::Rising::rank_within, crate::proofs::Rising::remove_at_rank))]
+    #[tactic(auto, using(crate::proofs::Rising::rank_within))]
     pub fn remove(&mut self, address: &Address)
         requires rising { IsRising self.old }
         requires named { IsIn self.old address.now }
         ensures { self.new ≡ without self.old address.now }
     {
-        let place = rank(&self.addresses, address);
-        self.addresses.remove(place);
+        let count = self.count as usize;
+        let place = rank(&self.addresses[..count], address);
+        self.addresses.copy_within(place + 1..count, place);
+        self.count -= 1;
     }
 }
 

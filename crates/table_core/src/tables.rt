@@ -9,7 +9,7 @@ use crate::entry::Entry;
 use crate::names::{Names, none_named};
 use crate::size::Size;
 use arrayvec::ArrayVec;
-use frame_core::{Address, FixedVec, FrameNo, Serial};
+use frame_core::{Address, FixedVec, FrameNo};
 use std::alloc::{AllocError, Global};
 use std::marker::Model;
 
@@ -85,7 +85,7 @@ impl Tables {
         requires absent { entry_at self.old.entries address ≡ Entry.Absent }
         requires within { frame < self.old.frames }
         requires room { count_listed self.old.entries frame < 4 }
-        requires resting { (a : Named) (serial : ℕ) → InRange a → entry_at self.old.entries a ≢ Entry.Migration serial frame }
+        requires resting { (a : Named) → InRange a → entry_at self.old.entries a ≢ Entry.Migration frame }
         ensures set { ChangesOnly self.old.entries self.new.entries address (Entry.Present frame) }
         ensures range { InRange address }
         ensures frames { self.new.frames ≡ self.old.frames }
@@ -112,33 +112,32 @@ impl Tables {
         }
     }
 
-    /// Turns each address that names the frame into a migration entry with this serial. Before it no address may name a
-    /// migration with this serial, or from this frame.
-    pub fn to_migration(&mut self, frame: FrameNo, serial: Serial)
+    /// Turns each address that names the page in a frame into a migration entry. Before it no address may name a page that
+    /// left this frame.
+    pub fn to_migration(&mut self, frame: FrameNo)
         requires within { frame < self.old.frames }
-        requires fresh { (a : Named) (source : ℕ) → InRange a → entry_at self.old.entries a ≢ Entry.Migration serial source }
-        requires resting { (a : Named) (other : ℕ) → InRange a → entry_at self.old.entries a ≢ Entry.Migration other frame }
-        ensures replaced { Replaces self.old.entries self.new.entries (Entry.Present frame) (Entry.Migration serial frame) }
+        requires resting { (a : Named) → InRange a → entry_at self.old.entries a ≢ Entry.Migration frame }
+        ensures replaced { Replaces self.old.entries self.new.entries (Entry.Present frame) (Entry.Migration frame) }
         ensures frames { self.new.frames ≡ self.old.frames }
         ensures size { self.new.entries.size ≡ self.old.entries.size }
     {
-        self.entries.to_migration(frame, serial);
+        self.entries.to_migration(frame);
     }
 
     /// Ends a migration: each address that named it names the frame now. `source` is the frame that the page left. Each
     /// address that is listed under it has to name this migration, and none may be listed under another frame to which the
     /// page goes.
-    pub fn to_present(&mut self, serial: Serial, source: FrameNo, frame: FrameNo)
+    pub fn to_present(&mut self, source: FrameNo, frame: FrameNo)
         requires source_within { source < self.old.frames }
         requires within { frame < self.old.frames }
-        requires left { (a : Named) → InRange a → is_listed (entry_at self.old.entries a) source ≡ true → entry_at self.old.entries a ≡ Entry.Migration serial source }
+        requires left { (a : Named) → InRange a → is_listed (entry_at self.old.entries a) source ≡ true → entry_at self.old.entries a ≡ Entry.Migration source }
         requires unnamed { frame ≢ source → (a : Named) → InRange a → is_listed (entry_at self.old.entries a) frame ≡ false }
-        ensures replaced { Replaces self.old.entries self.new.entries (Entry.Migration serial source) (Entry.Present frame) }
+        ensures replaced { Replaces self.old.entries self.new.entries (Entry.Migration source) (Entry.Present frame) }
         ensures frames { self.new.frames ≡ self.old.frames }
         ensures size { self.new.entries.size ≡ self.old.entries.size }
     {
         let names = self.lists[source.get() as usize].as_slice();
-        self.entries.to_present(names, serial, source, frame);
+        self.entries.to_present(names, source, frame);
         self.lists.swap(source.get() as usize, frame.get() as usize);
     }
 
@@ -151,13 +150,13 @@ impl Tables {
         those_with(&self.entries, names, &Entry::Present(frame))
     }
 
-    /// The addresses that name a moving page, by its serial and the frame that it left, in rising order.
-    pub fn mappings_moving(&self, serial: Serial, source: FrameNo) -> ArrayVec<Address, 4>
+    /// The addresses that name the moving page that left a frame, in rising order.
+    pub fn mappings_moving(&self, source: FrameNo) -> ArrayVec<Address, 4>
         requires { source < self.now.frames }
-        ensures { AreJust result.items (λ a. entry_at self.now.entries a ≡ Entry.Migration serial source) }
+        ensures { AreJust result.items (λ a. entry_at self.now.entries a ≡ Entry.Migration source) }
     {
         let names = self.lists[source.get() as usize].as_slice();
-        those_with(&self.entries, names, &Entry::Migration { serial, source })
+        those_with(&self.entries, names, &Entry::Migration(source))
     }
 }
 

@@ -1,6 +1,6 @@
 //! Searches over all entries, for tests that compare what they find with the lists.
 
-ghost use Rattle.std.specs.Prelude.{◌≡◌, ◌≢◌, ℕ, ◌≤◌, List, length, IfSome, IfNone};
+ghost use Rattle.std.specs.Prelude.{◌≡◌, ◌≢◌, ◌≤◌, List, length};
 ghost use Rattle.frame_core.specs.Address.{InRange};
 ghost use Rattle.frame_core.specs.declared.place.Address.{Address as Named};
 ghost use Rattle.table_core.specs.Names.{IsIn, IsRising, AreJust};
@@ -10,7 +10,7 @@ use crate::entries::Entries;
 use crate::entry::Entry;
 use crate::tables::Tables;
 use arrayvec::ArrayVec;
-use frame_core::{Address, FrameNo, Serial};
+use frame_core::{Address, FrameNo};
 
 impl Tables {
     /// The addresses that name the page in a frame, found by a walk over all entries.
@@ -20,14 +20,11 @@ impl Tables {
         walk(&self.entries, &Entry::Present(frame))
     }
 
-    /// The addresses that name a moving page, found by its serial alone.
-    pub fn walk_moving(&self, serial: Serial) -> ArrayVec<Address, 4>
-        ensures { AreJust result.items (λ a. (source : ℕ) × (entry_at self.now.entries a ≡ Entry.Migration serial source)) }
+    /// The addresses that name the moving page that left a frame, found by a walk over all entries.
+    pub fn walk_moving(&self, source: FrameNo) -> ArrayVec<Address, 4>
+        ensures { AreJust result.items (λ a. entry_at self.now.entries a ≡ Entry.Migration source) }
     {
-        match source_of(&self.entries, serial) {
-            Some(source) => walk(&self.entries, &Entry::Migration { serial, source }),
-            None => ArrayVec::new(),
-        }
+        walk(&self.entries, &Entry::Migration(source))
     }
 }
 
@@ -48,23 +45,4 @@ fn walk(entries: &Entries, entry: &Entry) -> ArrayVec<Address, 4>
         }
     }
     found
-}
-
-/// The frame that the page with this serial left, if such a page is moving.
-fn source_of(entries: &Entries, serial: Serial) -> Option<FrameNo>
-    ensures some { IfSome result (λ source. (a : Named) × (entry_at entries.now.entries a ≡ Entry.Migration serial source)) }
-    ensures none { IfNone result ((a : Named) (source : ℕ) → entry_at entries.now.entries a ≢ Entry.Migration serial source) }
-{
-    for place in 0..entries.size().addresses() {
-        if let Entry::Migration {
-            serial: under,
-            source,
-        } = entries.get(place)
-        {
-            if under == serial {
-                return Some(source);
-            }
-        }
-    }
-    None
 }

@@ -1,8 +1,8 @@
-use Rattle.std.proofs.Common.{◌≡◌, ◌<◌, length, refl, ap, sym, ◌∙◌, arith}
-use Rattle.std.specs.Prelude.{Some, slice_get}
+use Rattle.std.proofs.Common.{◌≡◌, ℕ, ◌+◌, ◌<◌, length, refl, ap, sym, subst, ◌∙◌, arith}
+use Rattle.std.specs.Prelude.{Option, Some, slice_get, slice_set}
 use Rattle.std.proofs.lemmas.List.{length-set}
 use Rattle.std.proofs.lemmas.Option.{slice_get-get_or}
-use Rattle.table_core.proofs.Passing.{in_at, under_more, under_all}
+use Rattle.table_core.proofs.Passing.{Under, in_at, under_more, under_all}
 use Rattle.table_core.proofs.Places.{place_within}
 use Rattle.table_core.proofs.entries.list_under.Goals as goal
 use Rattle.table_core.proofs.entries.list_under.Goals.{After-place_of}
@@ -26,9 +26,10 @@ bounds-frames-place_of c = within c
 
 pub loop-name-preserved : goal.loop-name-preserved
 loop-name-preserved c = record {
-  count = length-set c.loop-name.frames c.place_of.result (Some c.args.frame) ∙ c.loop-name.invariant.count;
-  under = under_more c.args.size.pages c.args.frames.now c.loop-name.frames c.args.names.now c.args.frame c.loop-name.name-index c.loop-name.invariant.under c.name-item.result
-      (at c) c.place_of.result c.place_of.ensures.place (within c);
+  count = length-set c.loop-name.frames c.place_of.result c.some.result ∙ c.loop-name.invariant.count;
+  under = subst (λ (under : Option ℕ). Under c.args.size.pages c.args.frames.now (slice_set c.loop-name.frames c.place_of.result under) c.args.names.now c.args.frame (c.loop-name.name-index + 1)) (sym c.some.ensures)
+      (under_more c.args.size.pages c.args.frames.now c.loop-name.frames c.args.names.now c.args.frame c.loop-name.name-index c.loop-name.invariant.under c.name-item.result
+      (at c) c.place_of.result c.place_of.ensures.place (within c));
 }
 
 pub returns-clause-named : goal.returns-clause-named

@@ -1,5 +1,5 @@
 use Rattle.std.proofs.Common.{◌≡◌, ◌≢◌, ℕ, true, false, List, length, take, drop, ◌++◌, ap, refl, sym, subst, ◌∙◌, arith}
-use Rattle.std.specs.Prelude.{Option, None, slice_get, slice_set, ◌↔◌}
+use Rattle.std.specs.Prelude.{Option, slice_get, slice_set, ◌↔◌}
 use Rattle.std.proofs.lemmas.List.{length-set}
 use Rattle.frame_core.specs.declared.place.Address.{Address}
 use Rattle.table_core.specs.declared.entry.Entry.TheVariants.{Present, Migration}
@@ -25,31 +25,31 @@ list_under-requires-clause-count c = ap length c.deref_mut.ensures.value ∙ c.s
 
 pub list_under-requires-clause-inside : goal.list_under-requires-clause-inside
 list_under-requires-clause-inside c = λ a h.
-    moving_inside (table c.self.inside.size c.self.inside.serials.items c.self.inside.frames.items) a c.args.serial c.args.source
+    moving_inside (table c.self.inside.size c.self.inside.left.items c.self.inside.frames.items) a c.args.source
     (ap (λ (t : Tables). entry_at t.entries a) c.self.view_is ∙ (c.requires.named a).0 h)
 
 pub invariant_of-self : goal.invariant_of-self
 invariant_of-self c =
     let z = c.self.inside in
-    let first = slice_set z.serials.items c.get.result None in
-    let more = slice_set first c.get-2.result None in
-    let count : length more ≡ length z.serials.items = length-set first c.get-2.result None ∙ length-set z.serials.items c.get.result None in
-    subst (AreKept z.size more) (sym (written c.before)) (kept_come z.size z.serials.items more z.frames.items c.list_under.new.frames c.args.names.now c.args.frame c.self.invariant count (c.list_under.ensures.count ∙ ap length c.deref_mut.ensures.value)
+    let first = slice_set z.left.items c.get.result false in
+    let more = slice_set first c.get-2.result false in
+    let count : length more ≡ length z.left.items = length-set first c.get-2.result false ∙ length-set z.left.items c.get.result false in
+    subst (AreKept z.size more) (sym (written c.before)) (kept_come z.size z.left.items more z.frames.items c.list_under.new.frames c.args.names.now c.args.frame c.self.invariant count (c.list_under.ensures.count ∙ ap length c.deref_mut.ensures.value)
     (omega (arith, c.requires.within, ap (λ (t : Tables). t.frames) c.self.view_is)) c.list_under.ensures.named (others c.before))
 
 pub returns-clause-replaced : goal.returns-clause-replaced
 returns-clause-replaced c =
     let z = c.self.inside in
-    let s = z.serials.items in
+    let s = z.left.items in
     let old = table z.size s z.frames.items in
-    let from = Migration c.args.serial c.args.source in
+    let from = Migration c.args.source in
     let to = Present c.args.frame in
     let frames = ap (λ (t : Tables). t.frames) c.self.view_is in
-    subst (λ (t : Tables). Replaces t.entries (table z.size (slice_set (slice_set s c.get.result None) c.get-2.result None) (take (length z.frames.items) (c.list_under.new.frames ++ drop (length c.list_under.new.frames) z.frames.items))) from to) c.self.view_is
-    (subst (λ (k : ℕ). Replaces old (table z.size (slice_set (slice_set s c.get.result None) k None) (take (length z.frames.items) (c.list_under.new.frames ++ drop (length c.list_under.new.frames) z.frames.items))) from to) (sym c.get-2.ensures.value)
-    (subst (λ (k : ℕ). Replaces old (table z.size (slice_set (slice_set s k None) c.args.frame None) (take (length z.frames.items) (c.list_under.new.frames ++ drop (length c.list_under.new.frames) z.frames.items))) from to) (sym c.get.ensures.value)
-    (subst (λ (new : List (Option ℕ)). Replaces old (table z.size (slice_set (slice_set s c.args.source None) c.args.frame None) new) from to) (sym (written c.before))
-    (entries_come z.size s z.frames.items c.list_under.new.frames c.args.names.now c.args.serial c.args.source c.args.frame
+    subst (λ (t : Tables). Replaces t.entries (table z.size (slice_set (slice_set s c.get.result false) c.get-2.result false) (take (length z.frames.items) (c.list_under.new.frames ++ drop (length c.list_under.new.frames) z.frames.items))) from to) c.self.view_is
+    (subst (λ (k : ℕ). Replaces old (table z.size (slice_set (slice_set s c.get.result false) k false) (take (length z.frames.items) (c.list_under.new.frames ++ drop (length c.list_under.new.frames) z.frames.items))) from to) (sym c.get-2.ensures.value)
+    (subst (λ (k : ℕ). Replaces old (table z.size (slice_set (slice_set s k false) c.args.frame false) (take (length z.frames.items) (c.list_under.new.frames ++ drop (length c.list_under.new.frames) z.frames.items))) from to) (sym c.get.ensures.value)
+    (subst (λ (new : List (Option ℕ)). Replaces old (table z.size (slice_set (slice_set s c.args.source false) c.args.frame false) new) from to) (sym (written c.before))
+    (entries_come z.size s z.frames.items c.list_under.new.frames c.args.names.now c.args.source c.args.frame
     (omega (arith, c.requires.source_within, frames)) (omega (arith, c.requires.within, frames))
     (subst (λ (t : Tables). (a : Address) → IsIn c.args.names.now a ↔ (entry_at t.entries a ≡ from)) (sym c.self.view_is) c.requires.named)
     (subst (λ (t : Tables). (a : Address) → is_listed (entry_at t.entries a) c.args.source ≡ true → entry_at t.entries a ≡ from) (sym c.self.view_is) c.requires.left)

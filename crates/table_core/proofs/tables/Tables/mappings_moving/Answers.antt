@@ -24,5 +24,5 @@ those_with-requires c = record {
 
 pub returns : goal.returns
 returns c =
-    subst (λ (t : Tables). AreJust c.those_with.result.items (λ a. entry_at t.entries a ≡ Migration c.args.serial c.args.source)) c.self.view_is
-    (just_those c.self.inside.entries.entries c.args.source c.as_slice-names.result.now c.those_with.result.items (Migration c.args.serial c.args.source) (list c.before.before) (eq-eqb c.args.source c.args.source refl) c.those_with.ensures.rising c.those_with.ensures.each)
+    subst (λ (t : Tables). AreJust c.those_with.result.items (λ a. entry_at t.entries a ≡ Migration c.args.source)) c.self.view_is
+    (just_those c.self.inside.entries.entries c.args.source c.as_slice-names.result.now c.those_with.result.items (Migration c.args.source) (list c.before.before) (eq-eqb c.args.source c.args.source refl) c.those_with.ensures.rising c.those_with.ensures.each)

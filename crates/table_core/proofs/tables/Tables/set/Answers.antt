@@ -20,10 +20,10 @@ place c = place_in c.self.inside.entries.entries c.size.result c.args.address c.
 pub set-requires-clause-place : goal.set-requires-clause-place
 set-requires-clause-place c = (place c.before).1
 
-pub set-requires-clause-still : goal.set-requires-clause-still
-set-requires-clause-still c =
-    λ a serial. everywhere c.self.inside.entries.entries c.self.inside.lists.items c.self.invariant.0 (λ entry. entry ≢ Migration serial c.args.frame) (λ e. cc)
-    (λ b range e. c.requires.resting b serial range (sym (ap (λ (t : Tables). entry_at t.entries b) c.self.view_is) ∙ e)) a
+pub set-requires-clause-resting : goal.set-requires-clause-resting
+set-requires-clause-resting c =
+    everywhere c.self.inside.entries.entries c.self.inside.lists.items c.self.invariant.0 (λ entry. entry ≢ Migration c.args.frame) (λ e. cc)
+    (λ b range e. c.requires.resting b range (sym (ap (λ (t : Tables). entry_at t.entries b) c.self.view_is) ∙ e))
 
 at : (c : After-index_mut) → slice_get c.self.inside.lists.items c.args.frame ≡ Some c.index_mut.result.now
 at c =

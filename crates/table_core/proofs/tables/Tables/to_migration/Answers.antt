@@ -4,16 +4,15 @@ use Rattle.table_core.specs.Tables.{Tables, entry_at}
 use Rattle.table_core.proofs.Listing.{everywhere, listed_moved}
 use Rattle.table_core.proofs.tables.Tables.to_migration.Goals as goal
 
-pub to_migration-requires-clause-still : goal.to_migration-requires-clause-still
-to_migration-requires-clause-still c =
-    λ a other. everywhere c.self.inside.entries.entries c.self.inside.lists.items c.self.invariant.0 (λ entry. entry ≢ Migration other c.args.frame) (λ e. cc)
-    (λ b range e. c.requires.resting b other range (sym (ap (λ (t : Tables). entry_at t.entries b) c.self.view_is) ∙ e)) a
+pub to_migration-requires-clause-resting : goal.to_migration-requires-clause-resting
+to_migration-requires-clause-resting c =
+    everywhere c.self.inside.entries.entries c.self.inside.lists.items c.self.invariant.0 (λ entry. entry ≢ Migration c.args.frame) (λ e. cc)
+    (λ b range e. c.requires.resting b range (sym (ap (λ (t : Tables). entry_at t.entries b) c.self.view_is) ∙ e))
 
 pub invariant_of-self : goal.invariant_of-self
 invariant_of-self c =
     let z = c.self.inside in (
-      listed_moved z.entries.entries c.to_migration.new.self.entries z.lists.items c.args.frame c.args.serial c.self.invariant.0
-          c.to_migration.ensures.replaced
-          (λ a source range e. c.requires.fresh a source range (sym (ap (λ (t : Tables). entry_at t.entries a) c.self.view_is) ∙ e)),
+      listed_moved z.entries.entries c.to_migration.new.self.entries z.lists.items c.args.frame c.self.invariant.0
+          c.to_migration.ensures.replaced,
       c.to_migration.ensures.frames ∙ c.self.invariant.1,
     )

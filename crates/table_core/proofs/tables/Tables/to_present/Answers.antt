@@ -9,7 +9,7 @@ use Rattle.table_core.proofs.tables.Tables.to_present.Goals as goal
 pub to_present-requires-clause-left : goal.to_present-requires-clause-left
 to_present-requires-clause-left c =
     everywhere c.self.inside.entries.entries c.self.inside.lists.items c.self.invariant.0
-    (λ entry. is_listed entry c.args.source ≡ true → entry ≡ Migration c.args.serial c.args.source) (λ e. cc)
+    (λ entry. is_listed entry c.args.source ≡ true → entry ≡ Migration c.args.source) (λ e. cc)
     (λ b range e. (let same = ap (λ (t : Tables). entry_at t.entries b) c.self.view_is in
     same ∙ c.requires.left b range (ap (λ (entry : Entry). is_listed entry c.args.source) (sym same) ∙ e)))
 
@@ -27,7 +27,7 @@ invariant_of-self c =
     let swapped = subst (λ (k : ℕ). SwappedAt z.lists.items c.swap.new.self.items k c.args.frame) c.get-2.ensures.value
     (subst (λ (k : ℕ). SwappedAt z.lists.items c.swap.new.self.items c.get-2.result k) c.get-3.ensures.value c.swap.ensures.items) in
     let count : length c.swap.new.self.items ≡ length z.lists.items = c.swap.ensures.len in (
-      listed_ended z.entries.entries c.to_present.new.self.entries z.lists.items c.swap.new.self.items c.args.serial c.args.source c.args.frame c.self.invariant.0
+      listed_ended z.entries.entries c.to_present.new.self.entries z.lists.items c.swap.new.self.items c.args.source c.args.frame c.self.invariant.0
           c.to_present.ensures.replaced
           (swapped_at z.lists.items c.swap.new.self.items c.args.source c.args.frame source_in frame_in count swapped)
           (λ a range e. (let same = ap (λ (t : Tables). entry_at t.entries a) c.self.view_is in same ∙ c.requires.left a range (ap (λ (entry : Entry). is_listed entry c.args.source) (sym same) ∙ e)))
