@@ -1,6 +1,6 @@
 -- What is known of the addresses of a page in use, and of a page that is moving.
 use Rattle.std.proofs.Common.{◌≡◌, ◌≤◌, ◌<◌, ℕ, List, [], ◌∷◌, true, false, ap, sym, refl, ◌∙◌, inl, inr, arith}
-use Rattle.std.specs.Prelude.{Option, Some, None, slice_get}
+use Rattle.std.specs.Prelude.{Option, Some, None, IfSome, slice_get}
 use Rattle.std.specs.FinMap as map
 use Rattle.std.specs.Option.{option_and_then}
 use Rattle.std.proofs.lemmas.Bool.{eqb-true, false_from_ne_true}
@@ -38,14 +38,14 @@ module _ (v : ZoneState) (valid : IsValidZone v) (entries : EntryTable) (fit : E
   pub entered : (a : Address) → page_at v.records a ≡ Some page → InRange a × (entry_at entries a ≡ Migration source)
   entered a is =
       let range = named_in_range v valid a page is in
-      (range, fit.each a range ∙ ap entry_for (ap (option_and_then (map.get v.placement)) is ∙ leaves.1.1))
+      (range, fit.each a range ∙ ap entry_for (ap (option_and_then (map.get v.placement)) is ∙ leaves.2))
 
   pub of_entry : (a : Address) → InRange a → entry_at entries a ≡ Migration source → page_at v.records a ≡ Some page
   of_entry a range is =
       let way = migration_is (placement_at v a) source (sym (fit.each a range) ∙ is) in
-      let named = page_named v a (Moving way.0 source way.1.0) way.1.1 in
+      let named = page_named v a (Moving way.0 source way.1) way.2 in
       let takes = λ (p s t : ℕ) (e : map.get v.placement p ≡ Some (Moving s source t)). ap (λ (o : Option Placement). takes_up o source) e ∙ takes_own (Moving s source t) in
-      named.1 ∙ ap Some (valid.pages.apart named.0 page source (takes named.0 way.0 way.1.0 named.2) (takes page leaves.0 leaves.1.0 leaves.1.1))
+      named.1 ∙ ap Some (valid.pages.apart named.0 page source (takes named.0 way.0 way.1 named.2) (takes page leaves.0 leaves.1 leaves.2))
 
   module _ (found : List Address) (just : AreJust found (λ a. entry_at entries a ≡ Migration source)) where
     not_empty : (list : List Address) → slice_get list 0 ≡ None → (a : Address) → IsIn list a → ⊥
@@ -53,7 +53,7 @@ module _ (v : ZoneState) (valid : IsValidZone v) (entries : EntryTable) (fit : E
     not_empty (b ∷ rest) e a inside = cc
 
     pub some_found : slice_get found 0 ≡ None → ⊥
-    some_found none = has_name v valid page (Moving leaves.0 source leaves.1.0) leaves.1.1 (λ a is. not_empty found none a ((just.each a).1 (entered a is)))
+    some_found none = has_name v valid page (Moving leaves.0 source leaves.1) leaves.2 (λ a is. not_empty found none a ((just.each a).1 (entered a is)))
 
     -- the first address of a rising list is the lowest
     first_is_lowest : (list : List Address) (a other : Address) → slice_get list 0 ≡ Some a → IsRising list → IsIn list other → order_of a ≤ order_of other
@@ -76,7 +76,7 @@ module _ (v : ZoneState) (valid : IsValidZone v) (entries : EntryTable) (fit : E
 -- the page that is moving out of a frame is the only one
 pub only_page : (v : ZoneState) → IsValidZone v → (source page : ℕ) → Leaves (map.get v.placement page) source → (found : Option ℕ) →
     IfSome found (λ q. Leaves (map.get v.placement q) source) → (found ≡ None → IsLeftByNone v source) → found ≡ Some page
-only_page v valid source page leaves None some none = absurd (none refl page leaves.0 leaves.1.0 leaves.1.1)
+only_page v valid source page leaves None some none = absurd (none refl page leaves.0 leaves.1 leaves.2)
 only_page v valid source page leaves (Some q) some none = ap Some (valid.pages.apart q page source (takes q some) (takes page leaves)) where
   takes : (p : ℕ) → Leaves (map.get v.placement p) source → takes_up (map.get v.placement p) source ≡ true
-  takes p left = ap (λ (o : Option Placement). takes_up o source) left.1.1 ∙ takes_own (Moving left.0 source left.1.0)
+  takes p left = ap (λ (o : Option Placement). takes_up o source) left.2 ∙ takes_own (Moving left.0 source left.1)

@@ -31,8 +31,13 @@ impl<const W: usize> ZoneTables<W> {
         ensures none { result ≡ None → IsLeftByNone self.now source }
     {
         let page = self.page_from(source)?;
-        let Some(Placement::Moving { serial, target, .. }) = self.notes.placement(page) else {
-            unreachable!();
+        let Placement::Moving {
+            serial,
+            source,
+            target,
+        } = self.notes.placement(page)?
+        else {
+            return None;
         };
         Some(MovingPage {
             page,

@@ -1,9 +1,17 @@
-use Rattle.std.proofs.Common.{◌∙◌, ap, sym}
+use Rattle.std.proofs.Common.{◌∙◌, ap, sym, arith}
 use Rattle.std.specs.Prelude.{slice_get}
 use Rattle.std.specs.Option.{option_copied}
+use Rattle.state_core.specs.declared.placement.Placement.TheVariants.{Moving}
+use Rattle.state_core.proofs.Facts.{frame_within}
 use Rattle.zone_tables.proofs.Facts.{is_sound}
 use Rattle.zone_tables.proofs.MovingPages.{some_found, lowest_found}
 use Rattle.zone_tables.proofs.zone.ZoneTables.lowest_address.Goals as goal
+
+pub mappings_moving-names-requires : goal.mappings_moving-names-requires
+mappings_moving-names-requires g c =
+    let sound = is_sound c.self.view_is c.self.invariant in
+    let leaves = c.requires in
+    omega (arith, frame_within c.args.self.now sound.valid c.args.page (Moving leaves.0 c.args.source leaves.1) leaves.2, sound.tables)
 
 pub unreachable-requires : goal.unreachable-requires
 unreachable-requires g c =

@@ -1,4 +1,5 @@
 use Rattle.std.proofs.Common.{◌≡◌, ◌∙◌, sym, arith}
+use Rattle.frame_core.specs.declared.state.FrameState.TheVariants.{Source}
 use Rattle.zone_tables.proofs.Facts.{is_sound}
 use Rattle.zone_tables.proofs.Tables.{source_of_page, source_seen}
 use Rattle.zone_tables.proofs.zone.ZoneTables.page_from.Goals as goal

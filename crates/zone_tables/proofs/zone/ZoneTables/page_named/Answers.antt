@@ -36,8 +36,8 @@ page_from-requires g c =
     let sound = is_sound c.self.view_is c.self.invariant in
     let at = migration_is (placement_at c.args.self.now c.args.address.now) c.in-Migration.source
     (sym (sound.entries.each c.args.address.now c.entry.ensures.range) ∙ sym c.entry.ensures.value ∙ c.in-Migration.is) in
-    let way = Moving at.0 c.in-Migration.source at.1.0 in
-    let page = page_named c.args.self.now c.args.address.now way at.1.1 in
+    let way = Moving at.0 c.in-Migration.source at.1 in
+    let page = page_named c.args.self.now c.args.address.now way at.2 in
     (omega arith, frame_within c.args.self.now sound.valid page.0 way page.2)
 
 pub returns-in-Migration : goal.returns-in-Migration
@@ -45,7 +45,7 @@ returns-in-Migration g c =
     let sound = is_sound c.self.view_is c.self.invariant in
     let at = migration_is (placement_at c.args.self.now c.args.address.now) c.in-Migration.source
     (sym (sound.entries.each c.args.address.now c.entry.ensures.range) ∙ sym c.entry.ensures.value ∙ c.in-Migration.is) in
-    let way = Moving at.0 c.in-Migration.source at.1.0 in
-    let page = page_named c.args.self.now c.args.address.now way at.1.1 in
-    let is = only_page c.args.self.now sound.valid c.in-Migration.source page.0 (at.0, at.1.0, page.2) c.page_from.result c.page_from.ensures.some c.page_from.ensures.none in
+    let way = Moving at.0 c.in-Migration.source at.1 in
+    let page = page_named c.args.self.now c.args.address.now way at.2 in
+    let is = only_page c.args.self.now sound.valid c.in-Migration.source page.0 (at.0, at.1, page.2) c.page_from.result c.page_from.ensures.some c.page_from.ensures.none in
     record { page = is ∙ sym page.1; in_use = named_so c.page_from.result _ page.0 is (not_none _ way page.2) }

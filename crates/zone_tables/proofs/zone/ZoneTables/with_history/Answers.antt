@@ -16,7 +16,7 @@ new_zone c = record {
   tables = c.in_ok-frames.tables;
   words = c.in_ok-frames.words;
   notes = c.in_ok-notes.notes;
-  moves = c.in_ok-notes.moves;
+  moves = c.none.result;
   handed_out = c.in_ok-handed_out.handed_out;
   cleared = c.in_ok-handed_out.cleared;
   marked = c.in_ok-handed_out.marked;
@@ -35,12 +35,12 @@ fresh c = record {
   tables_frames = c.in_ok-frames.ensures.tables.1;
   tables_size = c.in_ok-frames.ensures.size;
   words = c.in_ok-frames.ensures.words;
-  notes = c.in_ok-notes.ensures.notes;
+  notes = c.in_ok-notes.ensures;
   handed_out = c.in_ok-handed_out.ensures.handed_out;
   cleared = c.in_ok-handed_out.ensures.cleared;
   marked = c.in_ok-handed_out.ensures.marked;
   fingers = c.new.ensures;
-  moves = c.in_ok-notes.ensures.moves;
+  moves = c.none.ensures;
   history = c.requires.none;
 }
 
