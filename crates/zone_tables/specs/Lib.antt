@@ -4,6 +4,8 @@ pub mod HandedOut
 pub mod HandedOutInside
 pub mod History
 pub mod HistoryInside
+pub mod KeptNote
+pub mod KeptOrder
 pub mod Moves
 pub mod MovingPages
 pub mod Notes

@@ -5,6 +5,7 @@ ghost use Rattle.frame_core.specs.Below.{count_below};
 ghost use Rattle.zone_tables.specs.HandedOut.{order_of, held_at};
 ghost use Rattle.state_core.specs.ZoneState.{covers};
 
+use crate::kept_order::KeptOrder;
 use frame_core::{FixedVec, FrameNo, Order};
 use std::alloc::{AllocError, Global};
 use std::marker::Model;
@@ -12,7 +13,7 @@ use std::marker::Model;
 /// The order of each block that is handed out, by its first frame.
 #[derive(Drop)]
 pub struct HandedOut {
-    orders: FixedVec<Option<Order>>,
+    orders: FixedVec<KeptOrder>,
     blocks: u32,
     frames: u32,
 }
@@ -36,7 +37,7 @@ impl HandedOut {
         requires { frames ≤ 16777216 }
         ensures { IfOk result (λ orders. orders ≡ replicate frames None) }
     {
-        let orders = FixedVec::filled(alloc, None, frames as usize)?;
+        let orders = FixedVec::filled(alloc, KeptOrder::of(None), frames as usize)?;
         Ok(HandedOut {
             orders,
             blocks: 0,
@@ -62,7 +63,7 @@ impl HandedOut {
     pub fn order(&self, first: FrameNo) -> Option<Order>
         ensures { result ≡ order_of self.now first }
     {
-        *self.orders.get(first.get() as usize)?
+        self.orders.get(first.get() as usize)?.order()
     }
 
     /// Notes that a block is handed out.
@@ -73,7 +74,7 @@ impl HandedOut {
         ensures low { 3 ≤ order }
         ensures high { order ≤ 9 }
     {
-        self.orders[first.get() as usize] = Some(order);
+        self.orders[first.get() as usize] = KeptOrder::of(Some(order));
         self.blocks += 1;
         self.frames += order.frames();
     }
@@ -85,7 +86,7 @@ impl HandedOut {
         requires alone { (frame : ℕ) → IsTrue (covers (Some order) first frame) → held_at (slice_set self.old first None) frame ≡ false }
         ensures { self.new ≡ slice_set self.old first None }
     {
-        self.orders[first.get() as usize] = None;
+        self.orders[first.get() as usize] = KeptOrder::of(None);
         self.blocks -= 1;
         self.frames -= order.frames();
     }

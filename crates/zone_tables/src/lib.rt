@@ -16,6 +16,8 @@ mod handing_out;
 mod history;
 mod information;
 mod isolating;
+mod kept_note;
+mod kept_order;
 mod looking;
 mod mapping;
 mod marking;

@@ -5,6 +5,7 @@ ghost use Rattle.frame_core.specs.Below.{count_below, lowest};
 ghost use Rattle.zone_tables.specs.Notes.{placement_of, is_in_use, unused_note};
 ghost use Rattle.zone_tables.specs.declared.note.PageNote.{PageNote as Noted};
 
+use crate::kept_note::KeptNote;
 use crate::note::PageNote;
 use frame_core::{FixedVec, PageNo};
 use number_set::NumberSet;
@@ -15,7 +16,7 @@ use std::marker::Model;
 /// The notes of a zone, by page number.
 #[derive(Drop)]
 pub struct Notes {
-    notes: FixedVec<PageNote>,
+    notes: FixedVec<KeptNote>,
     /// How many page numbers are in use.
     in_use: u32,
     /// The page numbers that aren't in use.
@@ -41,7 +42,10 @@ impl Notes {
         requires { count ≤ 16777216 }
         ensures { IfOk result (λ notes. notes ≡ replicate count unused_note) }
     {
-        let notes = FixedVec::filled(alloc, PageNote::unused(), count as usize)?;
+        let mut notes = FixedVec::with_room(alloc, count as usize)?;
+        for _ in 0..count {
+            notes.push(KeptNote::of(PageNote::unused()));
+        }
         let unused = NumberSet::filled(alloc, count)?;
         Ok(Notes {
             notes,
@@ -51,18 +55,19 @@ impl Notes {
     }
 
     /// The note of a page number.
-    pub fn get(&self, page: PageNo) -> &PageNote
+    #[inline(always)]
+    pub fn get(&self, page: PageNo) -> PageNote
         requires { page < length self.now }
-        ensures { slice_get self.now page ≡ Some result.now }
+        ensures { slice_get self.now page ≡ Some result }
     {
-        &self.notes[page.get() as usize]
+        self.notes[page.get() as usize].note()
     }
 
     /// Where a page is, if its number is one of the zone's and is in use.
     pub fn placement(&self, page: PageNo) -> Option<Placement>
         ensures { result ≡ placement_of self.now page }
     {
-        self.notes.get(page.get() as usize)?.placement
+        self.notes.get(page.get() as usize)?.placement()
     }
 
     /// How many page numbers are in use.
@@ -77,9 +82,10 @@ impl Notes {
         requires within { page < length self.old }
         requires unused { is_in_use self.old page ≡ false }
         requires placed { IsSome note.placement }
+        requires few { note.maps ≤ 15 }
         ensures { self.new ≡ slice_set self.old page note }
     {
-        self.notes[page.get() as usize] = note;
+        self.notes[page.get() as usize] = KeptNote::of(note);
         self.unused.remove(page.get());
         self.in_use += 1;
     }
@@ -89,7 +95,7 @@ impl Notes {
         requires used { is_in_use self.old page ≡ true }
         ensures { self.new ≡ slice_set self.old page unused_note }
     {
-        self.notes[page.get() as usize] = PageNote::unused();
+        self.notes[page.get() as usize] = KeptNote::of(PageNote::unused());
         self.unused.insert(page.get());
         self.in_use -= 1;
     }
@@ -99,7 +105,7 @@ impl Notes {
         requires { is_in_use self.old page ≡ true }
         ensures { (note : Noted) → slice_get self.old page ≡ Some note → self.new ≡ slice_set self.old page (record note { placement = Some placement }) }
     {
-        self.notes[page.get() as usize].placement = Some(placement);
+        self.notes[page.get() as usize].place(placement);
     }
 
     /// Notes that a word of a page in use was stored.
@@ -107,7 +113,7 @@ impl Notes {
         requires { is_in_use self.old page ≡ true }
         ensures { (note : Noted) → slice_get self.old page ≡ Some note → self.new ≡ slice_set self.old page (record note { dirty = true }) }
     {
-        self.notes[page.get() as usize].dirty = true;
+        self.notes[page.get() as usize].store();
     }
 
     /// Notes one pin more on a page in use.
@@ -116,7 +122,7 @@ impl Notes {
         requires few { (note : Noted) → slice_get self.old page ≡ Some note → note.pins < 255 }
         ensures { (note : Noted) → slice_get self.old page ≡ Some note → self.new ≡ slice_set self.old page (record note { pins = note.pins + 1 }) }
     {
-        self.notes[page.get() as usize].pins += 1;
+        self.notes[page.get() as usize].pin();
     }
 
     /// Notes one pin fewer on a page in use.
@@ -125,16 +131,16 @@ impl Notes {
         requires some { (note : Noted) → slice_get self.old page ≡ Some note → 0 < note.pins }
         ensures { (note : Noted) → slice_get self.old page ≡ Some note → self.new ≡ slice_set self.old page (record note { pins = note.pins - 1 }) }
     {
-        self.notes[page.get() as usize].pins -= 1;
+        self.notes[page.get() as usize].unpin();
     }
 
     /// Notes one address more for a page in use.
     pub fn share(&mut self, page: PageNo)
         requires used { is_in_use self.old page ≡ true }
-        requires few { (note : Noted) → slice_get self.old page ≡ Some note → note.maps < 255 }
+        requires few { (note : Noted) → slice_get self.old page ≡ Some note → note.maps < 15 }
         ensures { (note : Noted) → slice_get self.old page ≡ Some note → self.new ≡ slice_set self.old page (record note { maps = note.maps + 1 }) }
     {
-        self.notes[page.get() as usize].maps += 1;
+        self.notes[page.get() as usize].share();
     }
 
     /// Notes one address fewer for a page in use.
@@ -143,7 +149,7 @@ impl Notes {
         requires some { (note : Noted) → slice_get self.old page ≡ Some note → 0 < note.maps }
         ensures { (note : Noted) → slice_get self.old page ≡ Some note → self.new ≡ slice_set self.old page (record note { maps = note.maps - 1 }) }
     {
-        self.notes[page.get() as usize].maps -= 1;
+        self.notes[page.get() as usize].unshare();
     }
 
     /// The lowest page number that isn't in use, if there is one.

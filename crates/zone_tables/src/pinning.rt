@@ -25,7 +25,7 @@ impl<const W: usize> ZoneTables<W> {
         ensures valid { IsValidZone self.new }
     {
         self.notes.pin(page);
-        say_movable(&mut self.frames, self.notes.get(page));
+        say_movable(&mut self.frames, &self.notes.get(page));
         self.history.note(Record::Pin { client, address });
     }
 
@@ -38,7 +38,7 @@ impl<const W: usize> ZoneTables<W> {
         ensures valid { IsValidZone self.new }
     {
         self.notes.unpin(page);
-        say_movable(&mut self.frames, self.notes.get(page));
+        say_movable(&mut self.frames, &self.notes.get(page));
         self.history.note(Record::Unpin { client, address });
     }
 }

@@ -1,4 +1,4 @@
-use Rattle.std.proofs.Common.{◌≡◌, ℕ, List, length, ◌∙◌, ap, sym, arith}
+use Rattle.std.proofs.Common.{◌≡◌, ℕ, List, length, replicate, ◌∙◌, ap, sym, arith}
 use Rattle.std.specs.Prelude.{Option, None, is_some}
 use Rattle.std.proofs.lemmas.List.{length-replicate}
 use Rattle.frame_core.proofs.Searches.{count_none, none_some}
@@ -10,7 +10,7 @@ use Rattle.zone_tables.proofs.handed_out.HandedOut.open.Goals as goal
 pub invariant_of-result : goal.invariant_of-result
 invariant_of-result c =
     let orders = c.in_ok-orders.orders.items in
-    let items = c.in_ok-orders.ensures.items in
+    let items = c.in_ok-orders.ensures.items ∙ ap (replicate c.args.frames) c.of.ensures in
     let none : (first : ℕ) → order_of orders first ≡ None = λ first. ap (λ (os : List (Option ℕ)). order_of os first) items ∙ no_order c.args.frames first in
     let count : length orders ≡ c.args.frames = ap length items ∙ length-replicate c.args.frames None in
     record {

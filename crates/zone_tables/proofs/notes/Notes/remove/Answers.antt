@@ -18,7 +18,7 @@ overflow_sub-self c =
 pub invariant_of-self : goal.invariant_of-self
 invariant_of-self c =
     let was = (λ i. is_in_use (c.self.view_is i) (c.get.ensures.value i)) ∙ c.requires.used in
-    lost_counted c.self.inside c.self.invariant c.get.result c.unused.result (in_use_within c.self.inside.notes.items c.get.result was) c.insert.new.self (ap (λ (s : Numbers). s.bound) c.insert.ensures) c.get-2.result false
-    (c.get-2.ensures.value ∙ sym c.get.ensures.value) (sym (ap (λ (n : PageNote). is_some n.placement) c.unused.ensures))
+    lost_counted c.self.inside c.self.invariant c.get.result c.of.result (in_use_within c.self.inside.notes.items c.get.result was) c.insert.new.self (ap (λ (s : Numbers). s.bound) c.insert.ensures) c.get-2.result false
+    (c.get-2.ensures.value ∙ sym c.get.ensures.value) (sym (ap (λ (n : PageNote). is_some n.placement) (c.of.ensures ∙ c.unused.ensures)))
     (λ q. ap (λ (s : Numbers). set.contains s.members q) c.insert.ensures ∙ member_insert c.self.inside.unused.members c.get-2.result q ∙ insert_if (nat_eq q c.get-2.result) (set.contains c.self.inside.unused.members q) true refl)
     was refl

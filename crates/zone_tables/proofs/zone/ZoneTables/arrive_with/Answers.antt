@@ -65,7 +65,7 @@ after c = record c.self.inside {
 frames_are : {g : Over} (c : After-note g) → c.settle.new.self ≡ record { states = slice_set (slice_set c.self.inside.frames.states c.args.way.now.source Free) c.args.way.now.target (Holds c.args.way.now.page); movable = slice_set c.self.inside.frames.movable c.args.way.now.target c.can_move.result }
 frames_are c = left_settled c.self.inside.frames c.leave.new.self c.settle.new.self _ _ _ _ c.leave.ensures.state c.settle.ensures.page
 
-settling : {g : Over} (c : After-note g) → Settling c.self.inside (after c) c.args.self.now c.args.way.now.page (Moving c.args.way.now.serial c.args.way.now.source c.args.way.now.target) (At c.args.way.now.target) (Moved c.args.way.now.serial) c.get-note.result.now c.args.self.now.migrate c.args.self.now.free
+settling : {g : Over} (c : After-note g) → Settling c.self.inside (after c) c.args.self.now c.args.way.now.page (Moving c.args.way.now.serial c.args.way.now.source c.args.way.now.target) (At c.args.way.now.target) (Moved c.args.way.now.serial) c.get-note.result c.args.self.now.migrate c.args.self.now.free
 settling {g = g} c =
     let z = c.self.inside in
     let v = c.args.self.now in
@@ -86,11 +86,11 @@ settling {g = g} c =
           (moved_frames z.frames.states way.page way.serial way.source way.target (frames_apart v way.page way.serial way.source way.target law at) (omega (arith, source_in, sound.frames.count)) (omega (arith, target_here, sound.frames.count)));
       movable = subst (λ (fs : Frames). MovableSettled z.frames.movable fs.movable (can_move v way.page) (At way.target)) (sym (frames_are c))
           (kept_movable z.frames.movable (can_move v way.page) c.can_move.result way.target (omega (arith, target_here, sound.movable.count))
-          (c.can_move.ensures ∙ movable_seen z v way.page c.get-note.result.now (note_seen c.self.view_is sound (not_none _ (Moving way.serial way.source way.target) at) c.get-note.ensures)));
+          (c.can_move.ensures ∙ movable_seen z v way.page c.get-note.result (note_seen c.self.view_is sound (not_none _ (Moving way.serial way.source way.target) at) c.get-note.ensures)));
       tables = c.to_present.ensures.replaced;
       words = subst (λ (rows : List (List ℕ)). WordsSettled v.page_size z.words rows (Moving way.serial way.source way.target) (At way.target)) (sym c.fill_target.ensures)
           (moved_words z.words (words_of z.words way.source) way.serial way.source way.target (omega (arith, target_here, sound.words.count)) refl (sound.words.sized way.source source_in));
-      notes = c.place.ensures c.get-note.result.now c.get-note.ensures;
+      notes = c.place.ensures c.get-note.result c.get-note.ensures;
       moves = subst (λ (moves : Moves). MovesFit moves (Moved way.serial ∷ v.records)) (sym c.arrive.ensures)
           (record { isolated = sound.moves.isolated; moved = ap (λ n. n + 1) sound.moves.moved; back = sound.moves.back });
       fingers_are = ap (λ (u : ZoneState). record { migrate = u.migrate; free = u.free }) c.self.view_is;

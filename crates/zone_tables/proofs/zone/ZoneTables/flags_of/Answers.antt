@@ -10,4 +10,4 @@ get-note-requires g c =
 pub returns : goal.returns
 returns g c =
     let noted = note_seen c.self.view_is (is_sound c.self.view_is c.self.invariant) c.requires c.get-note.ensures in
-    c.of.ensures.flags ∙ flags_seen c.self.inside c.args.self.now c.args.page c.get-note.result.now noted
+    c.of.ensures.flags ∙ flags_seen c.self.inside c.args.self.now c.args.page c.get-note.result noted

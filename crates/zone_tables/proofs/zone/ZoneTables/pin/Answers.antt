@@ -34,7 +34,7 @@ get-requires g c =
     )
 
 -- the note that is read is the changed one
-read : {g : Over} (c : After-get g) → c.get.result.now ≡ (record (note_of c.self.inside c.args.page) { pins = (note_of c.self.inside c.args.page).pins + 1 })
+read : {g : Over} (c : After-get g) → c.get.result ≡ (record (note_of c.self.inside c.args.page) { pins = (note_of c.self.inside c.args.page).pins + 1 })
 read c =
     let was = named_note c.self.view_is c.self.invariant c.args.address c.args.page c.requires.named in
     changed_read c.self.inside.notes c.pin.new.self c.args.page _ _ _ was (c.pin.ensures _ was) c.get.ensures
@@ -43,14 +43,14 @@ pub say_movable-requires : goal.say_movable-requires
 say_movable-requires g c frame at =
     let sound = is_sound c.self.view_is c.self.invariant in
     let noted = note_seen c.self.view_is sound (named_in_use c.self.view_is c.self.invariant c.args.address c.args.page c.requires.named) (named_note c.self.view_is c.self.invariant c.args.address c.args.page c.requires.named) in
-    ap is_holding_state (held_by c.self.inside.frames.states c.args.self.now sound.frames c.args.page frame (sym noted.placement ∙ sym (ap (λ (n : PageNote). n.placement) (read c)) ∙ at))
+    ap is_holding_state (held_by c.self.inside.frames.states c.args.self.now sound.frames c.args.page frame (sym noted.placement ∙ sym (ap (λ (n : PageNote). n.placement) (read c.before)) ∙ at))
 
 known : {g : Over} (c : After-note g) → Noting c.self.inside c.args.self.now c.args.page (Pin c.args.client c.args.address) (note_of c.self.inside c.args.page) (record (note_of c.self.inside c.args.page) { pins = (note_of c.self.inside c.args.page).pins + 1 }) c.say_movable.new.frames c.self.inside.tables c.note.new.self
 known c =
     pinning c.self.inside c.args.self.now (is_sound c.self.view_is c.self.invariant) c.self.view_is c.args.page (named_in_use c.self.view_is c.self.invariant c.args.address c.args.page c.requires.named) _ (named_note c.self.view_is c.self.invariant c.args.address c.args.page c.requires.named)
     c.args.client c.args.address c.requires.named (spare c.args.self.now c.requires.room) c.say_movable.new.frames c.note.new.self
     (omega (arith, c.requires.few, ap (λ (o : Option ℕ). pins c.args.self.now.records (unwrap_or o 0)) c.requires.named))
-    (c.say_movable.ensures ∙ ap (λ (n : PageNote). record c.self.inside.frames { movable = movable_by c.self.inside.frames.movable n }) (read c.before.before.before))
+    (c.say_movable.ensures ∙ ap (λ (n : PageNote). record c.self.inside.frames { movable = movable_by c.self.inside.frames.movable n }) (read c.before.before.before.before))
     c.note.ensures
 
 pub invariant_of-self : goal.invariant_of-self
