@@ -1,7 +1,7 @@
 -- The page of a pair is isolated: how each table changes.
 use Rattle.std.proofs.Common.{◌≡◌, ◌≢◌, ℕ, ◌<◌, Bool, true, false, List, length, ◌⊎◌, inl, inr, refl, sym, ap, ◌∙◌, arith}
 use Rattle.std.specs.Prelude.{Some, None, slice_get, slice_set, nat_eq, ◌||◌, if◌then◌else◌}
-use Rattle.std.proofs.lemmas.Bool.{eq-eqb, eqb-false, or_parts, or_left, both_ways}
+use Rattle.std.proofs.lemmas.Bool.{eqb-false, or_parts, or_left, both_ways}
 use Rattle.std.proofs.lemmas.Bool.Decides.{eqb_tells}
 use Rattle.std.proofs.lemmas.List.{length-set}
 use Rattle.frame_core.proofs.Lists.{slice_get_set_same, slice_get_set_other}
@@ -10,7 +10,6 @@ use Rattle.frame_core.specs.declared.state.FrameState.TheVariants.{Source, Targe
 use Rattle.state_core.specs.declared.placement.Placement.TheVariants.{At, Moving}
 use Rattle.zone_tables.specs.Fits.{state_by, WordsFit}
 use Rattle.state_core.specs.ZoneState.{ZoneState, frame_count}
-use Rattle.state_core.proofs.Placed.{untrue}
 use Rattle.zone_tables.proofs.Relocation.{FramesSettled, MovableSettled, WordsSettled}
 
 -- two frames changed their states

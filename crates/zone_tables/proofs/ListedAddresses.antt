@@ -1,5 +1,5 @@
 -- Which addresses are listed under a frame, by the pages that they name.
-use Rattle.std.proofs.Common.{◌≡◌, ◌≢◌, ◌<◌, ℕ, Bool, true, false, inl, inr, refl, sym, ap, subst, ◌∙◌, arith}
+use Rattle.std.proofs.Common.{◌≡◌, ◌≢◌, ◌<◌, ℕ, Bool, true, false, inl, inr, refl, sym, ap, subst, ◌∙◌}
 use Rattle.std.specs.Prelude.{Option, Some, None}
 use Rattle.std.specs.FinMap as map
 use Rattle.std.specs.Option.{option_and_then}
@@ -10,21 +10,18 @@ use Rattle.frame_core.proofs.Searches.{pairs_same_below, pairs_none, some_none}
 use Rattle.frame_core.specs.Address.{InRange, InTable}
 use Rattle.frame_core.specs.Below.{count_pairs}
 use Rattle.frame_core.specs.declared.place.Address.{Address}
-use Rattle.frame_core.proofs.OnTheWay.{out_below}
 use Rattle.frame_core.specs.History.{page_at, is_page, names, maps}
-use Rattle.frame_core.specs.Moves.{isolated}
 use Rattle.table_core.specs.declared.entry.Entry.{Entry}
 use Rattle.table_core.specs.declared.size.Size.{Size}
 use Rattle.table_core.specs.declared.entry.Entry.TheVariants.{Present, Migration}
 use Rattle.table_core.specs.Tables.{EntryTable, entry_at, is_listed, count_listed}
 use Rattle.state_core.specs.declared.placement.Placement.{Placement}
 use Rattle.state_core.specs.declared.placement.Placement.TheVariants.{At, Moving}
-use Rattle.state_core.specs.Valid.{IsValidZone, is_under}
+use Rattle.state_core.specs.Valid.{IsValidZone}
 use Rattle.state_core.specs.ZoneState.{ZoneState, frame_count, placement_at, takes_up, is_used}
 use Rattle.state_core.proofs.Facts.{in_range, page_named, not_none}
 use Rattle.state_core.proofs.Placed.{untrue}
 use Rattle.zone_tables.specs.Fits.{table_size, entry_for, EntriesFit}
-use Rattle.zone_tables.proofs.Tables.{migration_is}
 
 -- an address that names a page by a test names it
 pub page_is : (o : Option ℕ) (page : ℕ) → is_page o page ≡ true → o ≡ Some page

@@ -3,11 +3,11 @@ use Rattle.std.proofs.Common.{◌≡◌, ◌≤◌, ◌<◌, ℕ, List, [], ◌�
 use Rattle.std.specs.Prelude.{Option, Some, None, IfSome, slice_get}
 use Rattle.std.specs.FinMap as map
 use Rattle.std.specs.Option.{option_and_then}
-use Rattle.std.proofs.lemmas.Bool.{eqb-true, false_from_ne_true}
+use Rattle.std.proofs.lemmas.Bool.{false_from_ne_true}
 use Rattle.frame_core.proofs.Searches.{pairs_same_below, pairs_none}
 use Rattle.frame_core.specs.Address.{InRange}
 use Rattle.frame_core.specs.declared.place.Address.{Address}
-use Rattle.frame_core.specs.History.{page_at, names, maps, is_page}
+use Rattle.frame_core.specs.History.{page_at, names, maps}
 use Rattle.state_core.proofs.Facts.{named_in_range, page_named, not_none, takes_own}
 use Rattle.state_core.specs.Valid.{IsValidZone}
 use Rattle.state_core.specs.ZoneState.{ZoneState, placement_at, takes_up}
@@ -16,13 +16,10 @@ use Rattle.state_core.specs.declared.placement.Placement.TheVariants.{Moving}
 use Rattle.table_core.specs.declared.entry.Entry.TheVariants.{Migration}
 use Rattle.table_core.specs.Names.{IsIn, IsRising, AreJust, order_of}
 use Rattle.table_core.specs.Tables.{EntryTable, entry_at}
-use Rattle.zone_tables.proofs.Tables.{migration_is, placement_seen}
+use Rattle.zone_tables.proofs.Tables.{migration_is}
 use Rattle.zone_tables.proofs.ListedAddresses.{page_is}
 use Rattle.zone_tables.specs.Fits.{EntriesFit, entry_for}
 use Rattle.zone_tables.specs.MovingPages.{Leaves, IsLeftByNone, IsLowestName}
-use Rattle.zone_tables.specs.Notes.{placement_of}
-use Rattle.zone_tables.specs.Sound.{state_of, IsSound}
-use Rattle.zone_tables.specs.declared.zone.ZoneTables.TheInside.{Inside}
 
 -- some address names a page in use
 pub has_name : (v : ZoneState) → IsValidZone v → (page : ℕ) (placement : Placement) → map.get v.placement page ≡ Some placement → ((a : Address) → page_at v.records a ≡ Some page → ⊥) → ⊥

@@ -16,7 +16,7 @@ use Rattle.zone_tables.specs.Moves.{Moves}
 use Rattle.zone_tables.proofs.Copies.{no_placement, all_false, all_movable, no_order}
 use Rattle.zone_tables.specs.declared.zone.ZoneTables.TheInside.{Inside}
 use Rattle.state_core.specs.declared.placement.Placement.{Placement}
-use Rattle.state_core.specs.declared.placement.Placement.TheVariants.{At, Moving}
+use Rattle.state_core.specs.declared.placement.Placement.TheVariants.{At}
 use Rattle.state_core.specs.declared.size.ZoneSize.{ZoneSize}
 use Rattle.state_core.specs.Opening.{opened_sized, IsZoneSize}
 use Rattle.frame_core.specs.Journal.{unrecorded_places}

@@ -3,8 +3,6 @@ use Rattle.std.specs.Prelude.{Some, false, is_some, slice_get, slice_set, unwrap
 use Rattle.frame_core.specs.declared.state.FrameState.TheVariants.{Source, Target}
 use Rattle.frame_core.specs.declared.record.Record.TheVariants.{Isolate}
 use Rattle.frame_core.specs.Moves.{isolated}
-use Rattle.table_core.specs.declared.entry.Entry.TheVariants.{Present, Migration}
-use Rattle.table_core.specs.Tables.{Replaces}
 use Rattle.zone_tables.specs.declared.zone.ZoneTables.TheInside.{Inside}
 use Rattle.state_core.specs.declared.placement.Placement.TheVariants.{At, Moving}
 use Rattle.scan_core.specs.Frames.{Frames, is_holding_state}
@@ -16,7 +14,7 @@ use Rattle.zone_tables.proofs.ListedAddresses.{page_rests}
 use Rattle.zone_tables.specs.Fits.{MovesFit}
 use Rattle.zone_tables.specs.History.{told}
 use Rattle.zone_tables.specs.Moves.{Moves}
-use Rattle.state_core.proofs.Facts.{frame_within, isolated_bound, not_none, room_for_two}
+use Rattle.state_core.proofs.Facts.{isolated_bound, not_none, room_for_two}
 use Rattle.zone_tables.proofs.Tables.{note_is, note_of, placement_seen}
 use Rattle.zone_tables.proofs.Isolation.{isolated_frames, isolated_words, isolated_movable}
 use Rattle.state_core.proofs.Settled.{can_isolate, isolate_recorded, target_within, swept_if_isolated}

@@ -1,4 +1,4 @@
-use Rattle.std.proofs.Common.{arith, ◌∙◌}
+use Rattle.std.proofs.Common.{◌∙◌}
 use Rattle.state_core.specs.HandingOut.{block_taken}
 use Rattle.state_core.proofs.Facts.{spare}
 use Rattle.zone_tables.proofs.Facts.{is_sound, Becomes}

@@ -1,9 +1,7 @@
-use Rattle.std.proofs.Common.{◌≡◌, ◌∙◌, ◌+◌, ℕ, refl, ap, subst, sym, arith}
+use Rattle.std.proofs.Common.{◌≡◌, ◌∙◌, ◌+◌, refl, ap, arith}
 use Rattle.std.specs.Prelude.{Some, None, is_some, slice_get}
 use Rattle.frame_core.specs.declared.record.Record.TheVariants.{Isolate, Moved}
 use Rattle.frame_core.specs.Moves.{isolated}
-use Rattle.table_core.specs.declared.entry.Entry.TheVariants.{Present, Migration}
-use Rattle.table_core.specs.Tables.{Replaces}
 use Rattle.state_core.specs.declared.placement.Placement.TheVariants.{At}
 use Rattle.state_core.proofs.Facts.{not_none}
 use Rattle.zone_tables.specs.declared.zone.ZoneTables.TheInside.{Inside}

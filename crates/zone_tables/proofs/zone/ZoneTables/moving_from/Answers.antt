@@ -1,6 +1,5 @@
 use Rattle.std.proofs.Common.{◌≡◌, ◌∙◌, ap, sym, arith}
-use Rattle.std.specs.Prelude.{None, Some}
-use Rattle.std.specs.FinMap as map
+use Rattle.std.specs.Prelude.{Some}
 use Rattle.state_core.specs.declared.placement.Placement.TheVariants.{Moving}
 use Rattle.state_core.proofs.Facts.{not_none}
 use Rattle.zone_tables.proofs.Tables.{placement_seen}

@@ -1,6 +1,5 @@
-use Rattle.std.proofs.Common.{◌≡◌, ◌∙◌, ℕ, ap, subst, sym, arith}
+use Rattle.std.proofs.Common.{◌≡◌, ◌∙◌, ℕ, subst, sym, arith}
 use Rattle.std.specs.Prelude.{Option, Some, IfSome}
-use Rattle.std.specs.FinMap as map
 use Rattle.state_core.specs.declared.placement.Placement.TheVariants.{At, Moving}
 use Rattle.state_core.specs.ZoneState.{placement_at}
 use Rattle.zone_tables.proofs.Facts.{is_sound}

@@ -1,4 +1,4 @@
-use Rattle.std.proofs.Common.{◌≡◌, ◌∙◌, ◌+◌, ◌^◌, ◌/◌, ◌<◌, ℕ, true, false, ◌&&◌, ap, sym, arith}
+use Rattle.std.proofs.Common.{◌≡◌, ◌∙◌, ◌+◌, ◌^◌, ◌/◌, ◌<◌, ℕ, false, ◌&&◌, ap, sym, arith}
 use Rattle.std.specs.Prelude.{Option, Some, None, IfSome, is_some, nat_le}
 use Rattle.std.specs.FinSet as set
 use Rattle.std.proofs.lemmas.Nat.{pow_pos}

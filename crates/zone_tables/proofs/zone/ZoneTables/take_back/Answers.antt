@@ -1,4 +1,3 @@
-use Rattle.std.proofs.Common.{arith}
 use Rattle.state_core.specs.HandingOut.{block_given}
 use Rattle.state_core.proofs.Facts.{spare}
 use Rattle.zone_tables.proofs.Facts.{is_sound, Becomes}
