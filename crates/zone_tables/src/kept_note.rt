@@ -5,16 +5,16 @@ use frame_core::{FrameNo, Serial, Tagged};
 use state_core::Placement;
 use std::marker::Model;
 
-/// What the marks of an unmovable page have more than those of another. The number of its addresses is below it.
+/// The part of the marks that says that a page is unmovable. The number of its addresses is below it.
 const UNMOVABLE: u8 = 16;
 
-/// What the marks of a dirty page have more.
+/// The part that says that it is dirty.
 const DIRTY: u8 = 32;
 
-/// What the marks have more of a page in a frame.
+/// The part that says that it is in a frame.
 const AT: u8 = 64;
 
-/// What the marks have more of a moving page.
+/// The part that says that it is moving.
 const MOVING: u8 = 128;
 
 /// A page's note in sixteen bytes. The numbers of its frames take three bytes each, so a byte is free beside each of them.

@@ -1,4 +1,4 @@
-use Rattle.std.proofs.Common.{◌∙◌, ◌++◌, ◌∷◌, [], replicate, length, List, ap, sym, arith}
+use Rattle.std.proofs.Common.{◌≡◌, ◌∙◌, ◌++◌, ◌∷◌, [], replicate, length, List, ap, sym, arith}
 use Rattle.std.specs.Prelude.{is_some, is_none, nat_lt, ◌&&◌}
 use Rattle.frame_core.proofs.Searches.{count_none}
 use Rattle.std.proofs.lemmas.List.{length-replicate, replicate_more}
@@ -16,8 +16,8 @@ loop-preserved c = record {
 
 pub invariant_of-result : goal.invariant_of-result
 invariant_of-result c =
-    let items = c.loop.invariant.unused ∙ ap (λ n. replicate n unused_note) (omega (arith, c.loop.auto.counter-end, c.loop-test.false)) in
-    let count = ap length items ∙ length-replicate c.args.count unused_note in
+    let items : c.loop.notes.items ≡ replicate c.args.count unused_note = c.loop.invariant.unused ∙ ap (λ n. replicate n unused_note) (omega (arith, c.loop.auto.counter-end, c.loop-test.false)) in
+    let count : length c.loop.notes.items ≡ c.args.count = ap length items ∙ length-replicate c.args.count unused_note in
     record {
       few = omega (arith, count, c.requires);
       in_use = sym (count_none (is_in_use c.loop.notes.items) _ (λ page h. ap (λ (notes : List PageNote). is_in_use notes page) items ∙ ap is_some (no_placement c.args.count page)));
