@@ -4,7 +4,7 @@ Other words are refused: there is one line on standard error, status 2 and nothi
 
 import runs
 
-EXAMPLES = ("buffer_pool",)
+EXAMPLES = ("buffer_pool", "vm_pool")
 FRAMES = "8192"
 WRONG = (["--frames", "8191"], ["--frames", "3584"], ["--frames", "16777728"], ["--frames", "many"], ["--frames"], [FRAMES], ["--frames", FRAMES, FRAMES])
 

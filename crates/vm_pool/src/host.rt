@@ -4,25 +4,21 @@ ghost use Rattle.std.specs.Prelude.{◌≡◌, ◌≤◌};
 ghost use Rattle.zone_core.specs.Books.{AreFor};
 
 use crate::guest::Guest;
+use crate::plan::Plan;
 use crate::small_pages::{SmallPages, count_kept};
-use arrayvec::ArrayVec;
 use huge_core::{Collector, Stop, give};
 use rand_core::Rng;
 use rand_pcg::Pcg32;
 use round_core::{Keeping, NoGate, Open, SharedZone, ZoneIdentity};
 use std::alloc::Global;
+use std::mem::replace;
 use std::sync::Wait;
 use std::sync::ledger::Ledger;
 use std::thread::Threads;
-use zone_core::{Blanks, Order, Seats, Zone, ZoneNo};
+use zone_core::{Blanks, Order, Seats, Zone, ZoneNo, ZoneSize};
 
-const BLOCKS: u32 = 8;
-
-/// How many days are seen.
-const DAYS: u32 = 165;
-
-/// The guests that come each day.
-const GUESTS: u32 = 40;
+/// The turns of a day.
+const TURNS: u32 = 40;
 
 /// What comes of the guests, and of the host's own pages.
 #[derive(Clone, Copy, Default)]
@@ -54,9 +50,10 @@ where
     seats: Seats<I, N, M, B>,
     collector: Collector,
     pages: SmallPages,
-    guests: ArrayVec<Guest, 8>,
+    plan: Plan,
+    guests: Vec<Guest>,
     draws: Pcg32,
-    /// The turns that are over. In each of them a guest comes.
+    /// The turns that are over. In each of them guests come.
     turns: u32,
     tally: Tally,
 }
@@ -69,16 +66,17 @@ pub fn serve<
     M: Ledger + Send + Sync,
     B: Ledger + Send + Sync,
     R: Threads + Wait + Sync,
->(rt: &R, alloc: Global, rounds: u32, blanks: Blanks) -> Option<Tally>
+>(rt: &R, alloc: Global, size: ZoneSize, rounds: u32, blanks: Blanks) -> Option<Tally>
     requires rounds { rounds ≤ 16 }
-    requires identity { (K.number ≡ 0) × (K.blocks ≡ 8) }
+    requires identity { (K.number ≡ 0) × (K.blocks ≡ size.blocks) }
     requires blanks { AreFor blanks I.name I.parts N.name N.parts M.name M.parts B.name B.parts }
 {
     let number = ZoneNo::new(0)?;
-    let opened = Zone::<I, M, B>::open_unrecorded::<N>(alloc, number, BLOCKS, blanks);
+    let opened = Zone::<I, M, B>::open_sized::<N>(alloc, number, size, None, blanks);
     let (zone, scan, ends) = opened.ok()?;
     let shared = SharedZone::<K, I, M, B>::new(zone);
-    let mut host = Host::new(shared, Seats { scan, ends }, rounds);
+    let plan = Plan::of(size.blocks);
+    let mut host = Host::new(alloc, shared, Seats { scan, ends }, rounds, plan);
     Some(host.pass_days(rt, alloc))
 }
 
@@ -90,7 +88,13 @@ impl<
     B: Ledger + Send + Sync,
 > Host<K, I, N, M, B> {
     /// A host without guests, whose collector may run so many rounds for each that comes.
-    fn new(shared: SharedZone<K, I, M, B>, seats: Seats<I, N, M, B>, rounds: u32) -> Self
+    fn new(
+        alloc: Global,
+        shared: SharedZone<K, I, M, B>,
+        seats: Seats<I, N, M, B>,
+        rounds: u32,
+        plan: Plan,
+    ) -> Self
         requires { rounds ≤ 16 }
     {
         let collector = Collector {
@@ -103,8 +107,9 @@ impl<
             shared,
             seats,
             collector,
-            pages: SmallPages::new(),
-            guests: ArrayVec::new(),
+            pages: SmallPages::new(plan.vpages),
+            plan,
+            guests: Vec::new(alloc),
             draws: Pcg32::new(2, 7),
             turns: 0,
             tally: Tally::default(),
@@ -113,13 +118,13 @@ impl<
 
     /// Passes all days. At the end no guest is left.
     fn pass_days<R: Threads + Wait + Sync>(&mut self, rt: &R, alloc: Global) -> Tally {
-        for _day in 0..DAYS {
+        for _day in 0..self.plan.days {
             self.pass_day(rt, alloc);
         }
-        for guest in self.guests.take() {
+        for guest in replace(&mut self.guests, Vec::new(alloc)) {
             self.let_go(rt, guest);
         }
-        let (pages, kept) = count_kept(rt, &self.shared);
+        let (pages, kept) = count_kept(rt, &self.shared, self.plan.vpages);
         Tally {
             calls: self.pages.calls(),
             pages,
@@ -130,13 +135,20 @@ impl<
 
     /// Fragments the zone, and lets the guests of a day come and go.
     fn pass_day<R: Threads + Wait + Sync>(&mut self, rt: &R, alloc: Global) {
-        self.pages.churn(rt, &self.shared, 3000);
-        for _guest in 0..GUESTS {
-            self.pages.churn(rt, &self.shared, 200);
-            self.let_leave(rt);
-            self.receive(rt, alloc);
-            self.turns = self.turns.saturating_add(1);
+        self.pages.churn(rt, &self.shared, self.plan.at_morning);
+        for _turn in 0..TURNS {
+            self.take_turn(rt, alloc);
         }
+    }
+
+    /// Fragments the zone somewhat more, lets guests leave, and receives others.
+    fn take_turn<R: Threads + Wait + Sync>(&mut self, rt: &R, alloc: Global) {
+        self.pages.churn(rt, &self.shared, self.plan.at_turn);
+        self.let_leave(rt, alloc);
+        for _guest in 0..self.plan.guests {
+            self.receive(rt, alloc);
+        }
+        self.turns = self.turns.saturating_add(1);
     }
 
     /// Reserves the blocks of a guest, which fills them. One that gets fewer than it wants goes without.
@@ -167,8 +179,8 @@ impl<
     }
 
     /// Each guest whose turn it is leaves.
-    fn let_leave<R: Wait>(&mut self, rt: &R) {
-        for guest in self.guests.take() {
+    fn let_leave<R: Wait>(&mut self, rt: &R, alloc: Global) {
+        for guest in replace(&mut self.guests, Vec::new(alloc)) {
             if guest.leaves <= self.turns {
                 self.let_go(rt, guest);
             } else {
@@ -177,10 +189,10 @@ impl<
         }
     }
 
-    /// Lets a guest stay, where there is a place for it.
+    /// Lets a guest stay, where there is memory for it.
     fn keep<R: Wait>(&mut self, rt: &R, guest: Guest) {
-        if let Err(full) = self.guests.try_push(guest) {
-            self.let_go(rt, full.element());
+        if let Err(failed) = self.guests.push(guest) {
+            self.let_go(rt, failed.value);
         }
     }
 

@@ -8,21 +8,22 @@ use std::sync::Wait;
 use std::sync::ledger::Ledger;
 use zone_core::{Address, ClientNo, PageFlags, SpaceNo, VPage, WordNo};
 
-/// The virtual pages of the space that they stand in.
-const VPAGES: u32 = 4096;
-
 /// Small pages that are mapped one after the other, each at the next virtual page, and most of which are unmapped soon.
 #[derive(Drop)]
 pub struct SmallPages {
     draws: Pcg32,
+    /// The virtual pages of the space that they stand in.
+    vpages: u32,
     next: u32,
     calls: u32,
 }
 
 impl SmallPages {
-    pub fn new() -> Self {
+    /// None yet, in a space of so many virtual pages.
+    pub fn new(vpages: u32) -> Self {
         SmallPages {
             draws: Pcg32::new(1, 5),
+            vpages,
             next: 0,
             calls: 0,
         }
@@ -42,16 +43,22 @@ impl SmallPages {
     ) {
         let first = self.next;
         for page in 0..count {
-            let mapped = map(rt, shared, first.saturating_add(page) % VPAGES);
+            let mapped = map(rt, shared, self.after(first, page));
             self.count(1 + u32::from(mapped.is_some()));
         }
         for page in 0..count {
             if self.draws.next_u32() % 16 != 0 {
-                let _ = unmap(rt, shared, first.saturating_add(page) % VPAGES);
+                let _ = unmap(rt, shared, self.after(first, page));
                 self.count(1);
             }
         }
-        self.next = first.saturating_add(count) % VPAGES;
+        self.next = self.after(first, count);
+    }
+
+    /// The virtual page that comes so many after another. After the last comes the first.
+    fn after(&self, vpage: u32, count: u32) -> u32 {
+        let after = vpage.saturating_add(count);
+        after.checked_rem(self.vpages).unwrap_or(0)
     }
 
     fn count(&mut self, calls: u32) {
@@ -59,13 +66,14 @@ impl SmallPages {
     }
 }
 
-/// How many pages there are, and how many of them hold what was stored in them.
+/// How many pages there are at so many virtual pages, and how many of them hold what was stored in them.
 pub fn count_kept<K: ZoneIdentity, I: Ledger, M: Ledger, B: Ledger, R: Wait>(
     rt: &R,
     shared: &SharedZone<K, I, M, B>,
+    vpages: u32,
 ) -> (u32, u32) {
     let (mut pages, mut kept) = (0u32, 0u32);
-    for page in 0..VPAGES {
+    for page in 0..vpages {
         if let Some(value) = load(rt, shared, page) {
             pages = pages.saturating_add(1);
             kept = kept.saturating_add(u32::from(value == stored_in(page)));
@@ -122,6 +130,6 @@ fn first_word() -> Option<WordNo> {
 fn address(page: u32) -> Option<Address> {
     Some(Address {
         space: SpaceNo::new(0)?,
-        vpage: VPage::new(page)?,
+        vpage: VPage::in_any_zone(page)?,
     })
 }

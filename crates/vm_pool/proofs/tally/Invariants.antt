@@ -1,7 +1,7 @@
 use Rattle.vm_pool.proofs.tally.Given as goal
 
 abbrev pub ghosts-serve-K-ZoneIdentity : goal.ghosts-serve-K-ZoneIdentity
-ghosts-serve-K-ZoneIdentity g a = record { number = 0; blocks = 8 }
+ghosts-serve-K-ZoneIdentity g a = record { number = 0; blocks = a.size.blocks }
 
 abbrev pub ghosts-serve-I-Ledger : goal.ghosts-serve-I-Ledger
 ghosts-serve-I-Ledger g a = record { name = a.blanks.isolated.name; parts = a.blanks.isolated.parts }
