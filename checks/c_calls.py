@@ -3,7 +3,8 @@
 A million calls are made through `libcompactd.so` and beside them on the machine, with pages of both sizes, with a journal and without one,
 among them rounds, slices of rounds, pages that are moved by hand, runs that are emptied, and up to 4 blocks that are reserved. Most are made
 on pools of 1 to 8 pageblocks, and 100,000 on pools of 9 to 513, of which some are filled with blocks but for a few pageblocks at the top. Half
-of the pools have random numbers of spaces and of virtual pages, and their first and last addresses are among those of the calls. After each
+of the pools have random numbers of spaces and of virtual pages, and their first and last addresses are among those of the calls. 100,000 more
+calls are made on one pool of 262,144 frames and 16,777,216 addresses: nine in ten are about a few of them, the others about any. After each
 call the number of its refusal is compared, and what it tells; where it is refused, what it would have told has to be untouched. The reserved
 words of a structure have to be 0 once a call has filled it, and are random in those that a call is given. Numbers are also out of their
 ranges. All refusals come up but those of a pool that is closed, open already or can't have its memory, which `checks/c_exports.py` tries. At
@@ -30,6 +31,10 @@ LARGE_POOLS = [
 MOST_ADDRESSES = 2**21  # of a random size
 LEFT_FREE = 6  # pageblocks of a pool that is filled
 CALLS_OF_A_POOL = 25_000
+# A pool for more calls: what is told of a large one, how many calls are made, and its number, which comes after all others.
+WIDE_POOL = (512, (256, 65_536), 0, False)
+CALLS_OF_WIDE_POOL = 100_000
+WIDE = SMALL_POOLS + len(LARGE_POOLS)
 MOST_BLOCKS = 32_768
 UNRECORDED_PLACES = 2**53
 UNTOUCHED = 0xA5  # in each byte where a call may write
@@ -249,6 +254,27 @@ class Chooser:
         return self.place()[1:]
 
 
+class WideChooser(Chooser):
+    """The same for a large zone. Of twenty addresses one is any of the zone's, and one is any that names a page; the others are few. Half of
+    the blocks are handed out."""
+
+    def __init__(self, chance, zone):
+        super().__init__(chance, zone)
+        self.pages, self.spaces = few(chance, 200, zone.pages_of_a_space), few(chance, 8, zone.spaces)
+
+    def place(self):
+        where = self.chance.random()
+        if where < 0.05:
+            return self.number(8), self.chance.randrange(self.zone.spaces), self.chance.randrange(self.zone.pages_of_a_space)
+        if where < 0.1 and self.zone.pages:
+            return self.number(8), *self.chance.choice(list(self.zone.pages))
+        return super().place()
+
+    def give_order(self):
+        handed_out = list(self.zone.handed_out)
+        return self.chance.choice(handed_out) if handed_out and self.chance.random() < 0.5 else super().give_order()
+
+
 def few(chance, most, count):
     """So many numbers below a count at most, the first and the last one among them."""
     return [0, count - 1, *chance.sample(range(count), min(most, count))][:most]
@@ -451,9 +477,17 @@ def large_pool(blocks, addresses, places, is_filled):
 def random_calls(number):
     """How often each call and each refusal came up among random calls of a pool."""
     chance = random.Random(number)
+    if number == WIDE:
+        pool = large_pool(*WIDE_POOL)
+        return calls_of(pool, chance, WideChooser(chance, pool.machine.zone), CALLS_OF_WIDE_POOL)
     pool = small_pool(chance, number % 2 == 1) if number < SMALL_POOLS else large_pool(*LARGE_POOLS[number - SMALL_POOLS])
-    chooser, found = Chooser(chance, pool.machine.zone), collections.Counter()
-    for name in chance.choices(list(OFTEN), list(OFTEN.values()), k=CALLS_OF_A_POOL):
+    return calls_of(pool, chance, Chooser(chance, pool.machine.zone), CALLS_OF_A_POOL)
+
+
+def calls_of(pool, chance, chooser, count):
+    """Makes so many calls of a pool, and closes it."""
+    found = collections.Counter()
+    for name in chance.choices(list(OFTEN), list(OFTEN.values()), k=count):
         answer = pool.carry(name, chance) if name in BY_HAND else pool.compare(name, getattr(chooser, name)())
         found[name, answer] += 1
     pool.compare_records()
@@ -465,7 +499,7 @@ def random_calls(number):
 def main():
     c_programs.folder()  # once, before the processes part
     found = collections.Counter()
-    for counted in runs.each(random_calls, range(SMALL_POOLS + len(LARGE_POOLS)), at_once=1):
+    for counted in runs.each(random_calls, range(WIDE, -1, -1), at_once=1):  # those that take longest first
         found += counted
     numbers = {number for _, number in found}
     lacking = [name for name, number in c_programs.refusals().items() if name not in APART and number not in numbers]

@@ -458,6 +458,8 @@ class Zone:
             return None
         if self.frames.free(first, count) == count:
             return 0
+        if self.frames.with_pages[first // FRAMES_OF_A_PAGEBLOCK] == 0:
+            return None  # it is used by blocks
         used = [frame for frame in range(first, first + count) if self.frames[frame] is not None]
         return len(used) if all(map(self.can_move, used)) else None
 
