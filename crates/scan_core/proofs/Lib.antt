@@ -11,10 +11,8 @@ pub mod RunCounts
 pub mod Scanning
 pub mod Seeing
 pub mod SetSteps
-pub mod SomeCounted
 pub mod Sounding
 pub mod Spanning
 pub mod Steps
-pub mod Tallying
 pub mod WholeRuns
 pub mod Wholes

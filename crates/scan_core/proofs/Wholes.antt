@@ -10,7 +10,7 @@ use Rattle.frame_core.proofs.Lists.{slice_get_replicate}
 use Rattle.frame_core.proofs.Searches.{count_all, count_more, count_none, count_same}
 use Rattle.scan_core.specs.FrameCounts.{is_all_counted}
 
-pub item_of : (counts : List ℕ) (blocks count block : ℕ) → counts ≡ replicate blocks count → block < length counts → slice_index counts block ≡ count
+item_of : (counts : List ℕ) (blocks count block : ℕ) → counts ≡ replicate blocks count → block < length counts → slice_index counts block ≡ count
 item_of counts blocks count block are within =
     let long : length counts ≡ blocks = ap length are ∙ length-replicate blocks count in
     get_or_from_slice_get counts block count 0 (ap (λ (xs : List ℕ). slice_get xs block) are ∙ slice_get_replicate blocks block count (omega (arith, within, long)))

@@ -1,7 +1,5 @@
 -- Counts of frames, one for each pageblock.
-use Rattle.std.specs.Prelude.{◌≡◌, ℕ, ◌+◌, ◌-◌, ◌*◌, ◌<◌, Bool, true, false, List, length, nat_eq, nat_lt, slice_get, slice_index, slice_set, Some}
-use Rattle.std.specs.FinSet as set
-use Rattle.std.specs.Ordering.{nat_cmp}
+use Rattle.std.specs.Prelude.{◌≡◌, ℕ, ◌+◌, ◌-◌, ◌*◌, ◌<◌, Bool, true, false, List, length, nat_eq, slice_get, slice_index, slice_set, Some}
 use Rattle.frame_core.specs.Below.{count_from}
 
 -- how many frames of a pageblock pass
@@ -15,14 +13,6 @@ CountsEach counts p = (block : ℕ) → block < length counts → slice_get coun
 -- whether all 512 frames of a pageblock are counted
 abbrev pub is_all_counted : List ℕ → ℕ → Bool
 is_all_counted counts block = nat_eq (slice_index counts block) 512
-
--- whether some frame of a pageblock is counted
-abbrev pub is_some_counted : List ℕ → ℕ → Bool
-is_some_counted counts block = nat_lt 0 (slice_index counts block)
-
--- the members of a set are the pageblocks of which some frame is counted
-abbrev pub AreCounted : set.FinSet nat_cmp → List ℕ → Type 0
-AreCounted members counts = (block : ℕ) → set.contains members block ≡ is_some_counted counts block
 
 -- the counts with this many more frames in a pageblock
 abbrev pub with_more : List ℕ → ℕ → ℕ → List ℕ

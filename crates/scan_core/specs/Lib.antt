@@ -1,6 +1,5 @@
 pub mod BlockCounts
 pub mod FrameCounts
-pub mod FrameCountsInside
 pub mod FrameSet
 pub mod FrameSetInside
 pub mod Frames

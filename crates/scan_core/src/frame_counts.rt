@@ -6,29 +6,26 @@ ghost use Rattle.scan_core.specs.Frames.{true_at};
 ghost use Rattle.scan_core.specs.FrameCounts.{is_all_counted, with_fewer, with_more};
 
 use frame_core::FixedVec;
-use number_set::NumberSet;
 use std::alloc::{AllocError, Global};
 use std::marker::Model;
 
-/// How many frames of each pageblock are counted.
+/// How many frames of each pageblock are counted, and of how many pageblocks all 512 frames are.
 #[derive(Drop)]
 pub(crate) struct FrameCounts {
     counts: FixedVec<u32>,
-    /// The pageblocks of which some frame is counted.
-    counted: NumberSet,
-    /// How many pageblocks have all of their 512 frames counted.
     whole: u32,
 }
 
 impl Model for FrameCounts {
-    ghost use Rattle.std.specs.Prelude.{ℕ, List};
-    ghost use Rattle.scan_core.specs.FrameCountsInside.{IsTallied};
+    ghost use Rattle.std.specs.Prelude.{◌≡◌, ◌≤◌, ℕ, List, length};
+    ghost use Rattle.frame_core.specs.Below.{count_below};
+    ghost use Rattle.scan_core.specs.FrameCounts.{is_all_counted};
 
     ghost Value = { List ℕ };
 
     ghost view = { λ c. c.counts.items };
 
-    ghost invariant = { IsTallied };
+    ghost invariant = { λ c. (c.whole ≡ count_below (is_all_counted c.counts.items) (length c.counts.items)) × (length c.counts.items ≤ 32768) };
 }
 
 impl FrameCounts {
@@ -38,12 +35,7 @@ impl FrameCounts {
         ensures { IfOk result (λ counts. counts ≡ replicate blocks 0) }
     {
         let counts = FixedVec::filled(alloc, 0, blocks as usize)?;
-        let counted = NumberSet::open(alloc, blocks)?;
-        Ok(FrameCounts {
-            counts,
-            counted,
-            whole: 0,
-        })
+        Ok(FrameCounts { counts, whole: 0 })
     }
 
     /// The counts of pageblocks in each of which all frames are counted, or an error where there is no memory for them.
@@ -52,10 +44,8 @@ impl FrameCounts {
         ensures { IfOk result (λ counts. counts ≡ replicate blocks 512) }
     {
         let counts = FixedVec::filled(alloc, 512, blocks as usize)?;
-        let counted = NumberSet::filled(alloc, blocks)?;
         Ok(FrameCounts {
             counts,
-            counted,
             whole: blocks,
         })
     }
@@ -86,14 +76,10 @@ impl FrameCounts {
         requires most { slice_index self.old block + frames ≤ 512 }
         ensures { self.new ≡ with_more self.old block frames }
     {
-        let before = self.get(block);
-        let count = before + frames;
+        let count = self.get(block) + frames;
         self.counts[block as usize] = count;
         if count == 512 {
             self.whole += 1;
-        }
-        if before == 0 {
-            self.counted.insert(block);
         }
     }
 
@@ -106,34 +92,33 @@ impl FrameCounts {
         requires most { slice_index self.old block ≤ 512 }
         ensures { self.new ≡ with_fewer self.old block frames }
     {
-        let before = self.get(block);
-        let count = before - frames;
-        self.counts[block as usize] = count;
-        if before == 512 {
+        let count = self.get(block);
+        self.counts[block as usize] = count - frames;
+        if count == 512 {
             self.whole -= 1;
-        }
-        if count == 0 {
-            self.counted.remove(block);
         }
     }
 
-    /// Whether some frame is counted in a pageblock that isn't marked. It looks only at pageblocks of which some frame is counted, up to
-    /// the first that isn't marked.
+    /// Whether some frame is counted in a pageblock that isn't marked.
     pub(crate) fn has_some_unmarked(&self, marked: &[bool]) -> bool
         requires { length self.now ≤ length marked.now }
         ensures { result ≡ some_below (λ block. not (true_at marked.now block) && nat_lt 0 (slice_index self.now block)) (length self.now) }
     {
-        let mut next = 0;
-        while next < self.len() {
-            let Some(block) = self.counted.at_or_after(next) else {
-                return false;
-            };
-            if !marked[block as usize] {
+        for block in 0..self.len() {
+            if self.is_counted_unmarked(block, marked) {
                 return true;
             }
-            next = block + 1;
         }
         false
+    }
+
+    /// Whether a pageblock isn't marked and a frame of it is counted.
+    fn is_counted_unmarked(&self, block: u32, marked: &[bool]) -> bool
+        requires within { block < length self.now }
+        requires marked { block < length marked.now }
+        ensures { result ≡ (not (true_at marked.now block) && nat_lt 0 (slice_index self.now block)) }
+    {
+        !marked[block as usize] && self.get(block) > 0
     }
 
     /// How many pageblocks have all of their 512 frames counted.

@@ -1,13 +1,6 @@
-use Rattle.std.proofs.Common.{ℕ, length, ap, arith}
-use Rattle.std.proofs.lemmas.List.{length-replicate}
-use Rattle.scan_core.proofs.SomeCounted.{all_are}
 use Rattle.scan_core.proofs.Wholes.{all_whole, few_long}
 use Rattle.scan_core.proofs.frame_counts.FrameCounts.full.Goals as goal
 
 pub invariant_of-result : goal.invariant_of-result
-invariant_of-result c = record {
-  few = few_long c.in_ok-counts.counts.items c.args.blocks 512 c.in_ok-counts.ensures.items c.requires;
-  room = omega (arith, ap length c.in_ok-counts.ensures.items, length-replicate {A = ℕ} c.args.blocks 512, c.in_ok-counted.ensures.enough);
-  counted = all_are c.in_ok-counted.counted.members c.args.blocks c.in_ok-counts.counts.items c.in_ok-counted.ensures.all c.in_ok-counts.ensures.items;
-  whole = all_whole c.in_ok-counts.counts.items c.args.blocks c.in_ok-counts.ensures.items;
-}
+invariant_of-result c =
+    (all_whole c.in_ok-counts.counts.items c.args.blocks c.in_ok-counts.ensures.items, few_long c.in_ok-counts.counts.items c.args.blocks 512 c.in_ok-counts.ensures.items c.requires)

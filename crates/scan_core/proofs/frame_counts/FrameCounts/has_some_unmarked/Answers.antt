@@ -1,25 +1,16 @@
-use Rattle.std.proofs.Common.{ℕ, false, ◌<◌, sym, ◌∙◌, subst, length, arith}
-use Rattle.std.proofs.lemmas.Option.{unwrap_or-slice_get}
-use Rattle.frame_core.proofs.Searches.{none_some}
-use Rattle.scan_core.specs.FrameCounts.{AreCounted}
-use Rattle.scan_core.proofs.SomeCounted.{none_unmarked, passed_marked, unmarked_here}
+use Rattle.std.proofs.Common.{ℕ, ◌<◌, not, sym, length, slice_index, below_more, arith}
+use Rattle.std.specs.Prelude.{◌&&◌, nat_lt}
+use Rattle.frame_core.proofs.Searches.{some_at, none_some}
+use Rattle.scan_core.specs.Frames.{true_at}
 use Rattle.scan_core.proofs.frame_counts.FrameCounts.has_some_unmarked.Goals as goal
 
-pub returns-in_default : goal.returns-in_default
-returns-in_default c =
-    let members = c.self.inside.counted.members in
-    sym (none_unmarked c.args.marked.now c.args.self.now members (subst (AreCounted members) c.self.view_is c.self.invariant.counted) c.loop-next.next c.loop-next.invariant c.in_default.ensures.next)
+pub returns-then-is_counted_unmarked : goal.returns-then-is_counted_unmarked
+returns-then-is_counted_unmarked c =
+    sym (some_at (λ block. not (true_at c.args.marked.now block) && nat_lt 0 (slice_index c.args.self.now block)) (length c.args.self.now) c.loop-block.block (omega (arith, c.loop-block-test.true, c.len-block-end.ensures.len)) (sym c.if-is_counted_unmarked.ensures))
 
-pub returns-then-not-marked-block : goal.returns-then-not-marked-block
-returns-then-not-marked-block c =
-    let members = c.self.inside.counted.members in
-    sym (unmarked_here c.args.marked.now c.args.self.now members (subst (AreCounted members) c.self.view_is c.self.invariant.counted) c.loop-next.next c.loop-next.invariant c.in-Some.block c.in-Some.ensures.next (unwrap_or-slice_get c.args.marked.now c.in-Some.block false ∙ c.if-not-marked-block.true))
-
-pub loop-next-preserved : goal.loop-next-preserved
-loop-next-preserved c =
-    let members = c.self.inside.counted.members in
-    passed_marked c.args.marked.now c.args.self.now members (subst (AreCounted members) c.self.view_is c.self.invariant.counted) c.loop-next.next c.loop-next.invariant c.in-Some.block c.in-Some.ensures.next (unwrap_or-slice_get c.args.marked.now c.in-Some.block false ∙ c.if-not-marked-block.false)
+pub loop-block-preserved : goal.loop-block-preserved
+loop-block-preserved c = below_more _ _ c.loop-block.invariant (sym c.if-is_counted_unmarked.ensures)
 
 pub returns : goal.returns
 returns c =
-    sym (none_some _ (length c.args.self.now) (λ (k : ℕ) (h : k < length c.args.self.now). c.loop-next.invariant k (omega (arith, h, c.loop-next-test.false, c.len.ensures.len))))
+    sym (none_some (λ block. not (true_at c.args.marked.now block) && nat_lt 0 (slice_index c.args.self.now block)) (length c.args.self.now) (λ (k : ℕ) (h : k < length c.args.self.now). c.loop-block.invariant k (omega (arith, h, c.loop-block-test.false, c.len-block-end.ensures.len))))
