@@ -25,9 +25,9 @@ none_of number entry other = ap (λ b. if b then entry ∷ [] else []) other
 
 -- a step of a round is no call
 no_call : (number : ℕ) (entry : Record) → is_of_round entry ≡ true → is_of number entry ≡ false
-no_call number (Isolate serial page) of_round = refl
+no_call number (Isolate page serial) of_round = refl
 no_call number (Moved serial) of_round = refl
-no_call number (Back serial cause) of_round = refl
+no_call number (Back cause serial) of_round = refl
 no_call number entry of_round = absurd (cc)
 
 -- the records of a client in a journal, without those that it had before

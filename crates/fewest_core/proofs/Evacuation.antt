@@ -28,7 +28,7 @@ module _ (z : ZoneState) (m : Move) (law : IsValidZone z) (is : IsMove z m) wher
 
   -- the records after the move
   abbrev records : List Record
-  records = Moved serial ∷ Isolate serial m.page ∷ z.records
+  records = Moved serial ∷ Isolate m.page serial ∷ z.records
 
   abbrev placement : map.FinMap nat_cmp Placement
   placement = map.insert z.placement m.page (At m.target)
@@ -59,7 +59,7 @@ module _ (z : ZoneState) (m : Move) (law : IsValidZone z) (is : IsMove z m) wher
   fresh : (s : ℕ) → is_out z.records s ≡ true → s ≢ serial
   fresh s e same = let below = out_below z.records law.journal.well_ended s e in absurd (omega (arith, below, same))
 
-  isolated_well : IsWellEnded (Isolate serial m.page ∷ z.records)
+  isolated_well : IsWellEnded (Isolate m.page serial ∷ z.records)
   isolated_well = (
     refl,
     (let used = law.agrees.in_use m.page (not_none _ (At m.source) is.here) in
@@ -67,33 +67,33 @@ module _ (z : ZoneState) (m : Move) (law : IsValidZone z) (is : IsMove z m) wher
     law.journal.well_ended,
   )
 
-  serial_out : is_out (Isolate serial m.page ∷ z.records) serial ≡ true
+  serial_out : is_out (Isolate m.page serial ∷ z.records) serial ≡ true
   serial_out = or_left _ _ (eq-eqb serial serial refl)
 
   well_ended : IsWellEnded records
   well_ended = (
     record {
       under_way = serial_out;
-      page = subst (λ (o : Option ℕ). IsSomeAnd o (λ page. pins (Isolate serial m.page ∷ z.records) page ≡ 0)) (sym (cond-true (nat_eq serial serial) (Some m.page) (page_of z.records serial) (eq-eqb serial serial refl))) (eqb-true (pins z.records m.page) 0 (and_parts _ _ is.movable).0);
+      page = subst (λ (o : Option ℕ). IsSomeAnd o (λ page. pins (Isolate m.page serial ∷ z.records) page ≡ 0)) (sym (cond-true (nat_eq serial serial) (Some m.page) (page_of z.records serial) (eq-eqb serial serial refl))) (eqb-true (pins z.records m.page) 0 (and_parts _ _ is.movable).0);
     },
     isolated_well,
   )
 
   -- as many pages are out as before, and the same ones
   pub as_many_out : length (out records) ≡ length (out z.records)
-  as_many_out = omega (arith, length_without (Isolate serial m.page ∷ z.records) isolated_well serial serial_out)
+  as_many_out = omega (arith, length_without (Isolate m.page serial ∷ z.records) isolated_well serial serial_out)
 
   out_now : (q s : ℕ) → IsOutWith z.records q s → IsOutWith records q s
   out_now q s way =
       let apart = fresh s way.0 in (
-        still_out serial s (out (Isolate serial m.page ∷ z.records)) apart ∙ or_right _ _ way.0,
+        still_out serial s (out (Isolate m.page serial ∷ z.records)) apart ∙ or_right _ _ way.0,
         cond-false _ (Some m.page) (page_of z.records s) (ne_eqb serial s (λ e. apart (sym e))) ∙ way.1,
       )
 
   out_before : (q s : ℕ) → IsOutWith records q s → IsOutWith z.records q s
   out_before q s way =
-      let apart : s ≢ serial = λ same. both_ways _ (ap (is_out records) same ∙ ended_out serial (out (Isolate serial m.page ∷ z.records))) way.0 in (
-        elim (or_cases (nat_eq s serial) _ (sym (still_out serial s (out (Isolate serial m.page ∷ z.records)) apart) ∙ way.0)) [ inl here ↦ absurd (apart (eqb-true s serial here)) | inr there ↦ there ],
+      let apart : s ≢ serial = λ same. both_ways _ (ap (is_out records) same ∙ ended_out serial (out (Isolate m.page serial ∷ z.records))) way.0 in (
+        elim (or_cases (nat_eq s serial) _ (sym (still_out serial s (out (Isolate m.page serial ∷ z.records)) apart) ∙ way.0)) [ inl here ↦ absurd (apart (eqb-true s serial here)) | inr there ↦ there ],
         sym (cond-false _ (Some m.page) (page_of z.records s) (ne_eqb serial s (λ e. apart (sym e)))) ∙ way.1,
       )
 

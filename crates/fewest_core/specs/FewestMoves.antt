@@ -90,7 +90,7 @@ pub record IsMove (z : ZoneState) (m : Move) : Type 0 where
 
 -- the zone while the page of a move is moving: it was isolated under the next serial
 abbrev pub under_way : ZoneState → Move → ZoneState
-under_way z m = relocated z (Isolate (isolated z.records) m.page) m.page (Moving (isolated z.records) m.source m.target)
+under_way z m = relocated z (Isolate m.page (isolated z.records)) m.page (Moving (isolated z.records) m.source m.target)
 
 -- the zone after a move: the page was isolated, and was moved to its target
 abbrev pub after_move : ZoneState → Move → ZoneState

@@ -55,10 +55,10 @@ as_stood m n P Q e stand = (λ h. e ∙ stand.0 h, λ h. e ∙ stand.1 h)
 
 stands_once : (records : List Record) → IsWellEnded records → (s : ℕ) → StandsOnce records s
 stands_once [] ended s = (λ h. absurd (omega arith), λ h. refl)
-stands_once (Isolate serial page ∷ older) ended s = stands_isolated serial s _ _ (out older) ended.0 (stands_once older ended.2 s)
+stands_once (Isolate page serial ∷ older) ended s = stands_isolated serial s _ _ (out older) ended.0 (stands_once older ended.2 s)
 stands_once (Moved serial ∷ older) ended s = as_stood _ _ _ _ (stands_ended serial s (out older) _ ended.0.under_way) (stands_once older ended.1 s)
-stands_once (Back serial Pinned ∷ older) ended s = as_stood _ _ _ _ (stands_ended serial s (out older) _ ended.0.under_way) (stands_once older ended.1 s)
-stands_once (Back serial NotCopied ∷ older) ended s = as_stood _ _ _ _ (stands_ended serial s (out older) _ ended.0.under_way) (stands_once older ended.1 s)
+stands_once (Back Pinned serial ∷ older) ended s = as_stood _ _ _ _ (stands_ended serial s (out older) _ ended.0.under_way) (stands_once older ended.1 s)
+stands_once (Back NotCopied serial ∷ older) ended s = as_stood _ _ _ _ (stands_ended serial s (out older) _ ended.0.under_way) (stands_once older ended.1 s)
 stands_once (_ ∷ older) ended s = stands_once older ended s
 
 at_most_once : (records : List Record) → ((s : ℕ) → StandsOnce records s) → ((s : ℕ) → is_out records s ≡ true → s < isolated records) → EndsAtMostOnce records
@@ -73,10 +73,10 @@ ends_at_most_once records ended = at_most_once records (stands_once records ende
 
 pub is_balanced : (records : List Record) → IsWellEnded records → IsBalanced records
 is_balanced [] ended = refl
-is_balanced (Isolate serial page ∷ older) ended = omega (arith, is_balanced older ended.2)
+is_balanced (Isolate page serial ∷ older) ended = omega (arith, is_balanced older ended.2)
 is_balanced (Moved serial ∷ older) ended = omega (arith, is_balanced older ended.1, length_without older ended.1 serial ended.0.under_way)
-is_balanced (Back serial Pinned ∷ older) ended = omega (arith, is_balanced older ended.1, length_without older ended.1 serial ended.0.under_way)
-is_balanced (Back serial NotCopied ∷ older) ended = omega (arith, is_balanced older ended.1, length_without older ended.1 serial ended.0.under_way)
+is_balanced (Back Pinned serial ∷ older) ended = omega (arith, is_balanced older ended.1, length_without older ended.1 serial ended.0.under_way)
+is_balanced (Back NotCopied serial ∷ older) ended = omega (arith, is_balanced older ended.1, length_without older ended.1 serial ended.0.under_way)
 is_balanced (_ ∷ older) ended = is_balanced older ended
 
 pub ended_once : (records : List Record) → IsWellEnded records → out records ≡ [] → AreEndedOnce records

@@ -57,10 +57,10 @@ falls_without serial n (x ∷ serials) falls =
 -- the serials that are out fall strictly, and the first is below the next one to be given
 falls_out : (records : List Record) → IsWellEnded records → Falls (isolated records) (out records)
 falls_out [] ended = tt
-falls_out (Isolate serial page ∷ older) ended = (omega (arith, ended.0), subst (λ n. Falls n (out older)) (sym ended.0) (falls_out older ended.2))
+falls_out (Isolate page serial ∷ older) ended = (omega (arith, ended.0), subst (λ n. Falls n (out older)) (sym ended.0) (falls_out older ended.2))
 falls_out (Moved serial ∷ older) ended = falls_without serial _ (out older) (falls_out older ended.1)
-falls_out (Back serial Pinned ∷ older) ended = falls_without serial _ (out older) (falls_out older ended.1)
-falls_out (Back serial NotCopied ∷ older) ended = falls_without serial _ (out older) (falls_out older ended.1)
+falls_out (Back Pinned serial ∷ older) ended = falls_without serial _ (out older) (falls_out older ended.1)
+falls_out (Back NotCopied serial ∷ older) ended = falls_without serial _ (out older) (falls_out older ended.1)
 falls_out (_ ∷ older) ended = falls_out older ended
 
 pub out_below : (records : List Record) → IsWellEnded records → (serial : ℕ) → is_out records serial ≡ true → serial < isolated records
@@ -69,7 +69,7 @@ out_below records ended serial at = falls_below serial _ (out records) (falls_ou
 -- each isolation has a record of its own
 pub isolated_within : (records : List Record) → isolated records ≤ length records
 isolated_within [] = omega arith
-isolated_within (Isolate serial page ∷ older) = omega (arith, isolated_within older)
+isolated_within (Isolate page serial ∷ older) = omega (arith, isolated_within older)
 isolated_within (_ ∷ older) = omega (arith, isolated_within older)
 
 -- whether a serial stands in a list without another one
@@ -126,14 +126,14 @@ not_moving records page none = any_fails (λ serial. is_page (page_of records se
 
 pub page_of_below : (records : List Record) → IsWellEnded records → (serial page : ℕ) → page_of records serial ≡ Some page → serial < isolated records
 page_of_below [] ended s page e = cc
-page_of_below (Isolate serial fresh ∷ older) ended s page e =
+page_of_below (Isolate fresh serial ∷ older) ended s page e =
     elim (eqb_tells serial s) [
       | inl same ↦ omega (arith, same.1, ended.0)
       | inr other ↦ omega (arith, page_of_below older ended.2 s page (sym (cond-false (nat_eq serial s) (Some fresh) (page_of older s) other.0) ∙ e))
     ]
 page_of_below (Moved serial ∷ older) ended s page e = page_of_below older ended.1 s page e
-page_of_below (Back serial Pinned ∷ older) ended s page e = page_of_below older ended.1 s page e
-page_of_below (Back serial NotCopied ∷ older) ended s page e = page_of_below older ended.1 s page e
+page_of_below (Back Pinned serial ∷ older) ended s page e = page_of_below older ended.1 s page e
+page_of_below (Back NotCopied serial ∷ older) ended s page e = page_of_below older ended.1 s page e
 page_of_below (_ ∷ older) ended s page e = page_of_below older ended s page e
 
 none_listed : (serials : List ℕ) → ((s : ℕ) → list_any (nat_eq s) serials ≡ false) → serials ≡ []

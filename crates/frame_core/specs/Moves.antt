@@ -10,7 +10,7 @@ use Rattle.frame_core.specs.History.{is_page, maps, pins}
 -- how many pages were isolated
 abbrev pub isolated : List Record → ℕ
 isolated [] = 0
-isolated (Isolate serial page ∷ older) = isolated older + 1
+isolated (Isolate page serial ∷ older) = isolated older + 1
 isolated (_ ∷ older) = isolated older
 
 -- how many pages were moved
@@ -22,14 +22,14 @@ moved (_ ∷ older) = moved older
 -- how many pages were put back
 abbrev pub put_back : List Record → ℕ
 put_back [] = 0
-put_back (Back serial cause ∷ older) = put_back older + 1
+put_back (Back cause serial ∷ older) = put_back older + 1
 put_back (_ ∷ older) = put_back older
 
 -- how often a serial has ended: as moved, or as put back
 abbrev pub ends_of : List Record → ℕ → ℕ
 ends_of [] s = 0
 ends_of (Moved serial ∷ older) s = one_if (nat_eq serial s) + ends_of older s
-ends_of (Back serial cause ∷ older) s = one_if (nat_eq serial s) + ends_of older s
+ends_of (Back cause serial ∷ older) s = one_if (nat_eq serial s) + ends_of older s
 ends_of (_ ∷ older) s = ends_of older s
 
 -- a list of serials without each that is equal to this one
@@ -39,9 +39,9 @@ without serial serials = filter (λ s. not (nat_eq s serial)) serials
 -- the serials that are out: isolated, and neither moved nor put back since
 abbrev pub out : List Record → List ℕ
 out [] = []
-out (Isolate serial page ∷ older) = serial ∷ out older
+out (Isolate page serial ∷ older) = serial ∷ out older
 out (Moved serial ∷ older) = without serial (out older)
-out (Back serial cause ∷ older) = without serial (out older)
+out (Back cause serial ∷ older) = without serial (out older)
 out (_ ∷ older) = out older
 
 -- whether a serial is out
@@ -51,7 +51,7 @@ is_out records serial = list_any (nat_eq serial) (out records)
 -- the page that was isolated under a serial, if the serial was given
 abbrev pub page_of : List Record → ℕ → Option ℕ
 page_of [] s = None
-page_of (Isolate serial page ∷ older) s = if nat_eq serial s then Some page else page_of older s
+page_of (Isolate page serial ∷ older) s = if nat_eq serial s then Some page else page_of older s
 page_of (_ ∷ older) s = page_of older s
 
 -- whether a page is out, under whichever serial
@@ -73,8 +73,8 @@ pub record EndsWith (older : List Record) (serial : ℕ) (P : ℕ → Type 0) : 
 -- is out: its page is moved without a pin, put back as Pinned with one, or put back as NotCopied in either case
 abbrev pub IsWellEnded : List Record → Type 0
 IsWellEnded [] = ⊤
-IsWellEnded (Isolate serial page ∷ older) = (serial ≡ isolated older) × CanIsolate older page × IsWellEnded older
+IsWellEnded (Isolate page serial ∷ older) = (serial ≡ isolated older) × CanIsolate older page × IsWellEnded older
 IsWellEnded (Moved serial ∷ older) = EndsWith older serial (λ n. n ≡ 0) × IsWellEnded older
-IsWellEnded (Back serial Pinned ∷ older) = EndsWith older serial (λ n. 0 < n) × IsWellEnded older
-IsWellEnded (Back serial NotCopied ∷ older) = EndsWith older serial (λ n. ⊤) × IsWellEnded older
+IsWellEnded (Back Pinned serial ∷ older) = EndsWith older serial (λ n. 0 < n) × IsWellEnded older
+IsWellEnded (Back NotCopied serial ∷ older) = EndsWith older serial (λ n. ⊤) × IsWellEnded older
 IsWellEnded (_ ∷ older) = IsWellEnded older

@@ -55,8 +55,8 @@ pub enum Record {
     },
     /// The page is isolated, under this serial.
     Isolate {
-        serial: Serial,
         page: PageNo,
+        serial: Serial,
     },
     /// The page is in its new frame: the move under this serial is committed.
     Moved {
@@ -64,8 +64,8 @@ pub enum Record {
     },
     /// The page was put back into the frame that it came from.
     Back {
-        serial: Serial,
         cause: Cause,
+        serial: Serial,
     },
     /// A block of this order was handed out.
     TakeHuge {

@@ -33,7 +33,7 @@ use Rattle.machine_core.proofs.Standing.{holds_at, none_held, Stands, stands, st
 -- a serial that is out has the page that was isolated under it
 out_page : (records : List Record) (s : ℕ) → is_out records s ≡ true → (page : ℕ) × (page_of records s ≡ Some page)
 out_page [] s e = cc
-out_page (Isolate serial page ∷ older) s e = elim (eqb_tells serial s) [
+out_page (Isolate page serial ∷ older) s e = elim (eqb_tells serial s) [
   | inl same ↦ (page, ap (λ (b : Bool). if b then Some page else page_of older s) same.0)
   | inr other ↦
       (let apart : nat_eq s serial ≡ false = ne_eqb s serial (λ same. other.1 (sym same)) in
@@ -41,7 +41,7 @@ out_page (Isolate serial page ∷ older) s e = elim (eqb_tells serial s) [
       (before.0, ap (λ (b : Bool). if b then Some page else page_of older s) other.0 ∙ before.1))
 ]
 out_page (Moved serial ∷ older) s e = out_page older s (and_parts (is_out older s) _ (sym (any_without serial s (out older)) ∙ e)).0
-out_page (Back serial cause ∷ older) s e = out_page older s (and_parts (is_out older s) _ (sym (any_without serial s (out older)) ∙ e)).0
+out_page (Back cause serial ∷ older) s e = out_page older s (and_parts (is_out older s) _ (sym (any_without serial s (out older)) ∙ e)).0
 out_page (_ ∷ older) s e = out_page older s e
 
 -- a page whose placement has a serial is moving

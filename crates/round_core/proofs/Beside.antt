@@ -37,11 +37,11 @@ added_more number before after entry own so_far = record {
 -- the scanner isolates a page, or stops
 pub added_scan : (number : ℕ) (before : List Record) (z : ZoneState) → IsValidZone z → IsAddedBeside number before z.records → IsAddedBeside number before (scan_step z).records
 added_scan number before z law so_far =
-    by_scan z law (λ w. IsAddedBeside number before w.records) (λ e. so_far) (λ pair t. added_more number before z.records (Isolate (isolated z.records) pair.page) refl so_far)
+    by_scan z law (λ w. IsAddedBeside number before w.records) (λ e. so_far) (λ pair t. added_more number before z.records (Isolate pair.page (isolated z.records)) refl so_far)
 
 -- the move of a page ends
 pub added_back : (number : ℕ) (before : List Record) (z : ZoneState) (page serial : ℕ) (cause : Cause) → IsAddedBeside number before z.records → IsAddedBeside number before (put_back_to_source z serial page cause).records
-added_back number before z page serial cause so_far = added_more number before z.records (Back serial cause) refl so_far
+added_back number before z page serial cause so_far = added_more number before z.records (Back cause serial) refl so_far
 
 pub added_commit : (number : ℕ) (before : List Record) (z : ZoneState) (page serial : ℕ) → IsAddedBeside number before z.records → IsAddedBeside number before (committed z serial page).records
 added_commit number before z page serial so_far =

@@ -24,11 +24,11 @@ use Rattle.round_core.specs.Calls.{is_of_round}
 module _ (told : List Record → Option Told) (none : (entry : Record) (records : List Record) → is_of_round entry ≡ true → told (entry ∷ records) ≡ told records) (z : ZoneState) where
   -- the scanner isolates a page, or stops
   pub scan_tells_none : IsValidZone z → told (scan_step z).records ≡ told z.records
-  scan_tells_none law = by_scan z law (λ w. told w.records ≡ told z.records) (λ e. refl) (λ pair t. none (Isolate (isolated z.records) pair.page) z.records refl)
+  scan_tells_none law = by_scan z law (λ w. told w.records ≡ told z.records) (λ e. refl) (λ pair t. none (Isolate pair.page (isolated z.records)) z.records refl)
 
   -- the move of a page ends
   pub back_tells_none : (serial page : ℕ) (cause : Cause) → told (put_back_to_source z serial page cause).records ≡ told z.records
-  back_tells_none serial page cause = none (Back serial cause) z.records refl
+  back_tells_none serial page cause = none (Back cause serial) z.records refl
 
   pub commit_tells_none : (serial page : ℕ) → told (committed z serial page).records ≡ told z.records
   commit_tells_none serial page =

@@ -29,7 +29,7 @@ module _ (start : ZoneState) where
       let under = keeps rest in
       let least = under.least in
       by_scan z law (IsAsQuiet start) (λ e. quiet rest) (λ pair t more same.
-      quiet_kept z.records (Isolate (isolated z.records) pair.page) z.round refl law.fingers.begun
+      quiet_kept z.records (Isolate pair.page (isolated z.records)) z.round refl law.fingers.begun
       ∙ elim (cases_eq (isolated z.records) (isolated start.records)) [
         | inl none ↦ ap is_quiet (under.fresh none) ∙ quiet_is_calm start
         | inr some ↦ quiet rest (omega (arith, least, some)) same

@@ -24,9 +24,9 @@ pub record IsCall (number : ℕ) (z z_new : ZoneState) : Type 0 where
 
 -- whether a record is of a step of a round: a page was isolated, moved or put back
 abbrev pub is_of_round : Record → Bool
-is_of_round (Isolate serial page) = true
+is_of_round (Isolate page serial) = true
 is_of_round (Moved serial) = true
-is_of_round (Back serial cause) = true
+is_of_round (Back cause serial) = true
 is_of_round _ = false
 
 -- a journal has all its records of before, in their places, and each newer one is of a step of a round or of a call of the client with this number

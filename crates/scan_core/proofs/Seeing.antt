@@ -8,6 +8,7 @@ use Rattle.std.proofs.lemmas.Option.{slice_get_past}
 use Rattle.frame_core.proofs.Lists.{slice_get_set_same, slice_get_set_other}
 use Rattle.frame_core.specs.declared.state.FrameState.{FrameState}
 use Rattle.frame_core.specs.declared.state.FrameState.TheVariants.{Free, Huge}
+use Rattle.scan_core.specs.Frames.{page_held}
 use Rattle.scan_core.specs.NumberSet.{in_run}
 use Rattle.scan_core.specs.Runs.{with_run}
 use Rattle.scan_core.specs.Seen.{seen_from}
@@ -115,3 +116,8 @@ seen_released h new kept first count within each free =
     seen_get new kept i ∙ ap (λ b. seen_state b (slice_get kept i)) (each i)
     ∙ free_where (in_run first count i) (slice_get kept i) (h i) (free i)
     ∙ sym (with_run_get (seen_from h 0 kept) first count Free i (omega (arith, length_seen h 0 kept)) ∙ ap (λ o. if in_run first count i then Some Free else o) (seen_get h kept i)))
+
+-- a frame that is held has no page, however it is kept
+pub page_seen : (held : Bool) (kept : Option (FrameState ℕ)) → (held ≡ true → kept ≡ Some Free) → page_held (seen_state held kept) ≡ page_held kept
+page_seen true kept free = ap (λ o. page_held (seen_state true o)) (free refl) ∙ sym (ap page_held (free refl))
+page_seen false kept free = refl

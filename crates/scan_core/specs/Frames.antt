@@ -1,5 +1,5 @@
 -- The frames of a zone.
-use Rattle.std.specs.Prelude.{ℕ, ◌*◌, ◌/◌, Bool, true, false, not, ◌&&◌, ◌||◌, List, length, replicate, nat_eq, slice_get, unwrap_or, Option, Some}
+use Rattle.std.specs.Prelude.{ℕ, ◌*◌, ◌/◌, Bool, true, false, not, ◌&&◌, ◌||◌, List, length, replicate, nat_eq, slice_get, unwrap_or, Option, Some, None}
 use Rattle.frame_core.specs.Below.{count_below, count_from}
 use Rattle.frame_core.specs.declared.state.FrameState.{FrameState}
 use Rattle.frame_core.specs.declared.state.FrameState.TheVariants.{Free, Holds, Huge, Source, Target}
@@ -24,6 +24,11 @@ is_free_state _ = false
 abbrev pub is_holding_state : Option (FrameState ℕ) → Bool
 is_holding_state (Some (Holds page)) = true
 is_holding_state _ = false
+
+-- the page that a frame holds, if there is a frame and it holds a page that isn't moving
+abbrev pub page_held : Option (FrameState ℕ) → Option ℕ
+page_held (Some (Holds page)) = Some page
+page_held _ = None
 
 -- whether there is a frame, and it is of a block that is handed out
 abbrev pub is_huge_state : Option (FrameState ℕ) → Bool

@@ -1,7 +1,7 @@
 ghost use Rattle.std.specs.Prelude.{◌≡◌, ◌*◌, ◌^◌, ◌<◌, ◌≤◌, is_some, length, slice_get, slice_set, true, Some, IfOk, IfSome};
 ghost use Rattle.frame_core.specs.declared.state.FrameState.TheVariants.{Free, Holds, Huge, Source, Target};
 ghost use Rattle.frame_core.specs.Below.{count_below, count_from, lowest, some_below};
-ghost use Rattle.scan_core.specs.Frames.{all_free, blocks_of, free_at, free_frames, holds_at, huge_at, is_open_at, is_whole, true_at, way_at};
+ghost use Rattle.scan_core.specs.Frames.{all_free, blocks_of, free_at, free_frames, holds_at, huge_at, is_open_at, is_whole, page_held, true_at, way_at};
 ghost use Rattle.scan_core.specs.NumberSet.{all_from};
 ghost use Rattle.scan_core.specs.Pairs.{after_step, is_stuck, next_step, Finds};
 ghost use Rattle.scan_core.specs.Runs.{first_run, has_block, is_run, with_run};
@@ -95,6 +95,15 @@ impl Frames {
             return FrameState::Huge;
         }
         kept.state()
+    }
+
+    /// The page that a frame holds, if it holds one that isn't moving.
+    #[inline(always)]
+    pub fn held_page(&self, frame: FrameNo) -> Option<PageNo>
+        requires { frame < length self.now.states }
+        ensures { result ≡ page_held (slice_get self.now.states frame) }
+    {
+        self.kept[frame.get() as usize].held_page()
     }
 
     /// Whether a frame is free.

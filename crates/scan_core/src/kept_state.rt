@@ -1,6 +1,6 @@
 ghost use Rattle.std.specs.Prelude.{◌≡◌, ℕ, Some};
 ghost use Rattle.frame_core.specs.declared.state.FrameState.{FrameState as State};
-ghost use Rattle.scan_core.specs.Frames.{is_free_state};
+ghost use Rattle.scan_core.specs.Frames.{is_free_state, page_held};
 ghost use Rattle.scan_core.specs.KeptState.{IsState, kind_of, page_of, state_by};
 
 use frame_core::{FrameState, PageNo, Tagged};
@@ -55,6 +55,17 @@ impl KeptState {
         ensures { result ≡ is_free_state (Some self) }
     {
         self.page.tag() == FREE
+    }
+
+    /// The page of a frame that holds one.
+    #[inline(always)]
+    pub(crate) fn held_page(self) -> Option<PageNo>
+        ensures { result ≡ page_held (Some self) }
+    {
+        if self.page.tag() != HOLDS {
+            return None;
+        }
+        PageNo::in_any_zone(self.page.number())
     }
 
     /// The state that is kept.

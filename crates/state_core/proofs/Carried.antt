@@ -111,7 +111,7 @@ own_ended z entry q frame p own_q ne words own =
     words own
 
 pub own_put_back : (z : ZoneState) (cause : Cause) (q p : IsolatedPage) → is_own z q ≡ true → q.serial ≢ p.serial → IsOwnCopy z p → IsOwnCopy (put_back_to_source z q.serial q.page.number cause) p
-own_put_back z cause q p own_q ne own = own_ended z (Back q.serial cause) q _ p own_q ne (λ w. refl) own
+own_put_back z cause q p own_q ne own = own_ended z (Back cause q.serial) q _ p own_q ne (λ w. refl) own
 
 pub own_committed : (z : ZoneState) (q p : IsolatedPage) → is_own z q ≡ true → q.serial ≢ p.serial → IsOwnCopy z p → IsOwnCopy (committed z q.serial q.page.number) p
 own_committed z q p own_q ne own = by_pins (nat_eq (pins z.records q.page.number) 0) where

@@ -105,11 +105,11 @@ module _ (v : ZoneState) (page serial source target : ℕ) (law : IsValidZone v)
         ways = omega (arith, out_fewer, ap ways_of at);
       }
 
-  ends_back : (cause : Cause) → HasCause cause (pins v.records page) → IsWellEnded (Back serial cause ∷ v.records)
+  ends_back : (cause : Cause) → HasCause cause (pins v.records page) → IsWellEnded (Back cause serial ∷ v.records)
   ends_back Pinned has = let E : Option ℕ → Type 0 = λ o. IsSomeAnd o (λ p. 0 < pins v.records p) in (record { under_way = known_out.0; page = subst E (sym known_out.1) has }, law.journal.well_ended)
   ends_back NotCopied has = let E : Option ℕ → Type 0 = λ o. IsSomeAnd o (λ p. ⊤) in (record { under_way = known_out.0; page = subst E (sym known_out.1) tt }, law.journal.well_ended)
 
-  pub back_recorded : (cause : Cause) → HasCause cause (pins v.records page) → IsRecorded v (Back serial cause) page (At source)
+  pub back_recorded : (cause : Cause) → HasCause cause (pins v.records page) → IsRecorded v (Back cause serial) page (At source)
   back_recorded cause has =
       let room = law.journal.room_left in
       record {

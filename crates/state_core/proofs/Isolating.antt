@@ -42,10 +42,10 @@ module _ (v : ZoneState) (pair : Pair) (law : IsValidZone v) (is : IsPair v pair
   }
 
   -- after a page was isolated, only its target differs in being free
-  pub isolated_others : (g : ℕ) → g ≢ pair.target → is_free (relocated v (Isolate serial_next pair.page) pair.page way_next) g ≡ is_free v g
+  pub isolated_others : (g : ℕ) → g ≢ pair.target → is_free (relocated v (Isolate pair.page serial_next) pair.page way_next) g ≡ is_free v g
   isolated_others g ne = free_same can_isolate g (sym (ap (λ b. nat_eq g pair.source || b) (ne_eqb g pair.target ne) ∙ or-false (nat_eq g pair.source)))
 
-  pub isolated_target : is_free (relocated v (Isolate serial_next pair.page) pair.page way_next) pair.target ≡ false
+  pub isolated_target : is_free (relocated v (Isolate pair.page serial_next) pair.page way_next) pair.target ≡ false
   isolated_target = free_new can_isolate pair.target (or_right (nat_eq pair.target pair.source) _ (eq-eqb pair.target pair.target refl))
 
   -- no serial that is out is of the page that is to be isolated
@@ -53,13 +53,13 @@ module _ (v : ZoneState) (pair : Pair) (law : IsValidZone v) (is : IsPair v pair
   at_rest serial e under = both_ways _ (ap (λ (o : Option Placement). is_under o serial) is.from.here) ((law.agrees.under_way pair.page serial).1 (e, under))
 
   -- a page that is out under another serial than the new one was out before
-  was_out : (q serial : ℕ) → serial_next ≢ serial → IsOutWith (Isolate serial_next pair.page ∷ v.records) q serial → IsOutWith v.records q serial
+  was_out : (q serial : ℕ) → serial_next ≢ serial → IsOutWith (Isolate pair.page serial_next ∷ v.records) q serial → IsOutWith v.records q serial
   was_out q serial ne way = (
     elim (or_cases (nat_eq serial serial_next) _ way.0) [ inl fresh ↦ absurd (ne (sym (eqb-true serial serial_next fresh))) | inr old ↦ old ],
     sym (cond-false _ (Some pair.page) (page_of v.records serial) (ne_eqb serial_next serial ne)) ∙ way.1,
   )
 
-  pub isolate_recorded : length (out v.records) + 1 < v.room → IsRecorded v (Isolate serial_next pair.page) pair.page way_next
+  pub isolate_recorded : length (out v.records) + 1 < v.room → IsRecorded v (Isolate pair.page serial_next) pair.page way_next
   isolate_recorded room = record {
     still = isolate_still v.records serial_next pair.page;
     truthful = law.journal.truthful;

@@ -30,13 +30,13 @@ pub record IsStill (records : List Record) (entry : Record) : Type 0 where
   pub handed : (first : ℕ) → handed_out_by (entry ∷ records) first ≡ handed_out_by records first
   pub marks : (block : ℕ) → is_marked_by (entry ∷ records) block ≡ is_marked_by records block
 
-pub isolate_still : (records : List Record) (serial page : ℕ) → IsStill records (Isolate serial page)
+pub isolate_still : (records : List Record) (serial page : ℕ) → IsStill records (Isolate page serial)
 isolate_still records serial page = record { names = λ a. refl; last = λ p w. refl; dirty = λ p. refl; pins = λ p. refl; maps = λ p. refl; handed = λ f. refl; marks = λ b. refl }
 
 pub moved_still : (records : List Record) (serial : ℕ) → IsStill records (Moved serial)
 moved_still records serial = record { names = λ a. refl; last = λ p w. refl; dirty = λ p. refl; pins = λ p. refl; maps = λ p. refl; handed = λ f. refl; marks = λ b. refl }
 
-pub back_still : (records : List Record) (serial : ℕ) (cause : Cause) → IsStill records (Back serial cause)
+pub back_still : (records : List Record) (serial : ℕ) (cause : Cause) → IsStill records (Back cause serial)
 back_still records serial cause = record { names = λ a. refl; last = λ p w. refl; dirty = λ p. refl; pins = λ p. refl; maps = λ p. refl; handed = λ f. refl; marks = λ b. refl }
 
 -- what the record of a move has to fulfil so that the zone stays valid

@@ -22,11 +22,11 @@ use Rattle.state_core.proofs.Quiet.{quiet_before, swept_ended}
 use Rattle.state_core.proofs.Sweeping.{swept_isolated, swept_arrived}
 
 pub swept_if_isolated : (v : ZoneState) (pair : Pair) → IsValidZone v → IsPair v pair.page pair.source pair.target → SweptIfQuiet (isolated_next v pair)
-swept_if_isolated v pair law is quiet = swept_isolated v pair law (law.fingers.swept (quiet_before v (Isolate (isolated v.records) pair.page) law refl quiet)) is
+swept_if_isolated v pair law is quiet = swept_isolated v pair law (law.fingers.swept (quiet_before v (Isolate pair.page (isolated v.records)) law refl quiet)) is
 
 pub valid_isolated : (v : ZoneState) (pair : Pair) → IsValidZone v → IsPair v pair.page pair.source pair.target → isolate_refusal v ≡ None → IsValidZone (isolated_next v pair)
 valid_isolated v pair law is accepted =
-    valid_settled (can_isolate v pair law is) (Isolate (isolated v.records) pair.page) (isolate_recorded v pair law is (room_for_two v accepted)) (pair.source + 1) pair.target
+    valid_settled (can_isolate v pair law is) (Isolate pair.page (isolated v.records)) (isolate_recorded v pair law is (room_for_two v accepted)) (pair.source + 1) pair.target
     (let low = is.to.low in let high = is.to.high in let fingers = law.fingers.ordered.1 in (omega arith, omega arith))
     (swept_if_isolated v pair law is)
 
@@ -34,8 +34,8 @@ module _ (v : ZoneState) (page serial source target : ℕ) (law : IsValidZone v)
   pub swept_if_moved : SweptIfQuiet (relocated v (Moved serial) page (At target))
   swept_if_moved quiet = swept_arrived v page serial source target law (law.fingers.swept (quiet_before v (Moved serial) law refl quiet)) at
 
-  pub swept_if_put_back : (cause : Cause) → SweptIfQuiet (relocated v (Back serial cause) page (At source))
-  swept_if_put_back cause = swept_ended v (relocated v (Back serial cause) page (At source)) (Back serial cause) law refl refl refl
+  pub swept_if_put_back : (cause : Cause) → SweptIfQuiet (relocated v (Back cause serial) page (At source))
+  swept_if_put_back cause = swept_ended v (relocated v (Back cause serial) page (At source)) (Back cause serial) law refl refl refl
 
 pub valid_moved : (v : ZoneState) (serial page source target : ℕ) → IsValidZone v → map.get v.placement page ≡ Some (Moving serial source target) → pins v.records page ≡ 0 → IsValidZone (moved_to_target v serial page)
 valid_moved v serial page source target law at none =
@@ -44,5 +44,5 @@ valid_moved v serial page source target law at none =
 
 pub valid_put_back : (v : ZoneState) (serial page source target : ℕ) (cause : Cause) → IsValidZone v → map.get v.placement page ≡ Some (Moving serial source target) → HasCause cause (pins v.records page) → IsValidZone (put_back_to_source v serial page cause)
 valid_put_back v serial page source target cause law at has =
-    subst (λ (frame : ℕ). IsValidZone (relocated v (Back serial cause) page (At frame))) (sym (ap source_of at))
-    (valid_settled (can_go_back v page serial source target law at) (Back serial cause) (back_recorded v page serial source target law at cause has) v.migrate v.free law.fingers.ordered (swept_if_put_back v page serial source target law at cause))
+    subst (λ (frame : ℕ). IsValidZone (relocated v (Back cause serial) page (At frame))) (sym (ap source_of at))
+    (valid_settled (can_go_back v page serial source target law at) (Back cause serial) (back_recorded v page serial source target law at cause has) v.migrate v.free law.fingers.ordered (swept_if_put_back v page serial source target law at cause))

@@ -44,7 +44,7 @@ moved_to_target z serial page = relocated z (WasMoved serial) page (At (target_o
 
 -- the zone after a page was put back: it is in its old frame again
 abbrev pub put_back_to_source : ZoneState → ℕ → ℕ → Cause → ZoneState
-put_back_to_source z serial page cause = relocated z (WasPutBack serial cause) page (At (source_of (map.get z.placement page)))
+put_back_to_source z serial page cause = relocated z (WasPutBack cause serial) page (At (source_of (map.get z.placement page)))
 
 -- the zone after a commit: a page with no pin is moved, and one with a pin is put back
 abbrev pub committed : ZoneState → ℕ → ℕ → ZoneState

@@ -29,7 +29,7 @@ isolate_refusal z = if has_room_for_two z then None else Some JournalFull
 abbrev pub isolated_next : ZoneState → Pair → ZoneState
 isolated_next z pair =
     let serial = isolated z.records in
-    record (relocated z (Isolate serial pair.page) pair.page (Moving serial pair.source pair.target)) { migrate = pair.source + 1; free = pair.target }
+    record (relocated z (Isolate pair.page serial) pair.page (Moving serial pair.source pair.target)) { migrate = pair.source + 1; free = pair.target }
 
 -- the answer of a scan: the page of the pair, or Met where there is no pair
 abbrev pub next_answer : ZoneState → Option Pair → Next IsolatedPage

@@ -115,7 +115,7 @@ noted z entry = record z { records = entry ∷ z.records; room = z.room - 1 }
 abbrev pub keeps_quiet : Record → Bool
 keeps_quiet (Load client address word value) = true
 keeps_quiet (Store client address word value) = true
-keeps_quiet (Isolate serial page) = true
+keeps_quiet (Isolate page serial) = true
 keeps_quiet (Moved serial) = true
 keeps_quiet _ = false
 

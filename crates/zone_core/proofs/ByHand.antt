@@ -138,7 +138,7 @@ some_more o false page e = e
 
 out_has_page : (rs : List Record) (s : ℕ) → is_out rs s ≡ true → IsSome (page_of rs s)
 out_has_page [] s e = cc
-out_has_page (Isolate serial page ∷ rs) s e = elim (eqb_tells serial s) [
+out_has_page (Isolate page serial ∷ rs) s e = elim (eqb_tells serial s) [
   | inl same ↦ ap (λ b. is_some (cond b (Some page) (page_of rs s))) same.0
   | inr other ↦ elim (or_cases (nat_eq s serial) (is_out rs s) e) [
     | inl here ↦ absurd (other.1 (sym (eqb-true s serial here)))
@@ -146,7 +146,7 @@ out_has_page (Isolate serial page ∷ rs) s e = elim (eqb_tells serial s) [
   ]
 ]
 out_has_page (Moved serial ∷ rs) s e = out_has_page rs s (and_parts _ _ (sym (any_without serial s (out rs)) ∙ e)).0
-out_has_page (Back serial cause ∷ rs) s e = out_has_page rs s (and_parts _ _ (sym (any_without serial s (out rs)) ∙ e)).0
+out_has_page (Back cause serial ∷ rs) s e = out_has_page rs s (and_parts _ _ (sym (any_without serial s (out rs)) ∙ e)).0
 out_has_page (_ ∷ rs) s e = out_has_page rs s e
 
 standing : (o : Option Placement) (s : ℕ) → is_under o s ≡ true → ((t a b : ℕ) → o ≡ Some (Moving t a b) → ⊥) → ⊥

@@ -28,7 +28,7 @@ use Rattle.zone_core.proofs.Scanner.{pair_same}
 -- the page of a serial without the ends of moves
 page_of-without_ends : (rs : List Record) (s : ℕ) → page_of (without_ends rs) s ≡ page_of rs s
 page_of-without_ends [] s = refl
-page_of-without_ends (Isolate serial page ∷ rs) s = ap (cond (nat_eq serial s) (Some page)) (page_of-without_ends rs s)
+page_of-without_ends (Isolate page serial ∷ rs) s = ap (cond (nat_eq serial s) (Some page)) (page_of-without_ends rs s)
 page_of-without_ends (_ ∷ rs) s = page_of-without_ends rs s
 
 module _ (z w : ZoneState) (same : IsSame z w) where
@@ -58,7 +58,7 @@ module _ (z w : ZoneState) (same : IsSame z w) where
 
   pub put_back_agrees : (serial page : ℕ) (cause : Cause) → IsSame (put_back_to_source z serial page cause) (put_back_to_source w serial page cause)
   put_back_agrees serial page cause =
-      relocated_agrees (Back serial cause) (Back serial cause) page _ _ (λ i. At (source_of (map.get (same.placement i) page)))
+      relocated_agrees (Back cause serial) (Back cause serial) page _ _ (λ i. At (source_of (map.get (same.placement i) page)))
       same.records (ap (λ n. n + 1) same.back) (ap (without serial) same.out_is)
 
   pub committed_agrees : (serial page : ℕ) → IsSame (committed z serial page) (committed w serial page)
@@ -121,8 +121,8 @@ module _ (z w : ZoneState) (alike : IsSameInRound z w) where
   next_agrees None = alike
   next_agrees (Some pair) =
       let serial = isolated_same z w alike.same in
-      let there = relocated_agrees z w alike.same (Isolate (isolated z.records) pair.page) (Isolate (isolated w.records) pair.page) pair.page _ _
-      (λ i. Moving (serial i) pair.source pair.target) (λ i. Isolate (serial i) pair.page ∷ alike.same.records i) alike.same.back (λ i. serial i ∷ alike.same.out_is i) in
+      let there = relocated_agrees z w alike.same (Isolate pair.page (isolated z.records)) (Isolate pair.page (isolated w.records)) pair.page _ _
+      (λ i. Moving (serial i) pair.source pair.target) (λ i. Isolate pair.page (serial i) ∷ alike.same.records i) alike.same.back (λ i. serial i ∷ alike.same.out_is i) in
       record { same = with_fingers _ _ there; migrate = refl; free = refl }
 
   pub isolated_agrees : IsSameInRound (next_state z (next_pair z)) (next_state w (next_pair w))

@@ -26,7 +26,7 @@ use Rattle.zone_core.proofs.Scanning.{by_scan, valid_scan, settled, within_frame
 -- the scanner leaves a round quiet
 
 quiet_scan : (z : ZoneState) → IsValidZone z → is_quiet z ≡ true → is_quiet (scan_step z) ≡ true
-quiet_scan z law quiet = by_scan z law (λ w. is_quiet w ≡ true) (λ e. quiet) (λ pair t. quiet_kept z.records (Isolate (isolated z.records) pair.page) z.round refl law.fingers.begun ∙ quiet)
+quiet_scan z law quiet = by_scan z law (λ w. is_quiet w ≡ true) (λ e. quiet) (λ pair t. quiet_kept z.records (Isolate pair.page (isolated z.records)) z.round refl law.fingers.begun ∙ quiet)
 
 quiet_steps : (n : ℕ) (z : ZoneState) → IsValidZone z → is_quiet z ≡ true → is_quiet (scan_steps n z) ≡ true
 quiet_steps zero z law quiet = quiet

@@ -25,7 +25,7 @@ pins-without_ends (_ ∷ rs) page = pins-without_ends rs page
 
 pub isolated-without_ends : (rs : List Record) → isolated (without_ends rs) ≡ isolated rs
 isolated-without_ends [] = refl
-isolated-without_ends (Isolate s p ∷ rs) = ap (λ n. n + 1) (isolated-without_ends rs)
+isolated-without_ends (Isolate p s ∷ rs) = ap (λ n. n + 1) (isolated-without_ends rs)
 isolated-without_ends (_ ∷ rs) = isolated-without_ends rs
 
 pub last-without_ends : (rs : List Record) (page w : ℕ) → last (without_ends rs) page w ≡ last rs page w

@@ -111,10 +111,10 @@ outcome_isolated z w pair some_z some_w same =
     let spare : z.room - length (out z.records) ≡ w.room - length (out w.records) = ap (λ (r : Outcome). r.room) same in
     let room : (z.room - 1) - length (isolated z.records ∷ out z.records) ≡ (w.room - 1) - length (isolated w.records ∷ out w.records) = omega arith in
     let both : length z.records + z.room ≡ length w.records + w.room = ap (λ (r : Outcome). r.places) same in
-    let places : length (Isolate (isolated z.records) pair.page ∷ z.records) + (z.room - 1) ≡ length (Isolate (isolated w.records) pair.page ∷ w.records) + (w.room - 1) = omega arith in
+    let places : length (Isolate pair.page (isolated z.records) ∷ z.records) + (z.room - 1) ≡ length (Isolate pair.page (isolated w.records) ∷ w.records) + (w.room - 1) = omega arith in
     let frame = λ (q : ℕ). both_placed final_frame z.placement w.placement pair.page q (Moving (isolated z.records) pair.source pair.target) (Moving (isolated w.records) pair.source pair.target) refl (ap (λ (r : Outcome). r.frame q) same) in
     λ i. record (same i) {
-      records = Isolate (serial i) pair.page ∷ records_same i;
+      records = Isolate pair.page (serial i) ∷ records_same i;
       room = room i;
       frame = λ q. frame q i;
       migrate = pair.source + 1;

@@ -126,7 +126,7 @@ module _ {t m b : ℕ} (client : ℕ) where
 module _ {t m b n : ℕ} {v u : ZoneState} (serial page : ℕ) (law : IsValidZone v) (books : AreBooks t m b v) where
   pub booked_back : {cause : Cause} → u ≡ put_back_to_source v serial page cause → n ≡ b + 1 → AreBooks t m n u
   booked_back {cause} step more =
-      booked_loud u (entry.Back serial cause) law.fingers.begun books (ap (λ (z : ZoneState). z.records) step) (ap (λ (z : ZoneState). z.round) step) refl
+      booked_loud u (entry.Back cause serial) law.fingers.begun books (ap (λ (z : ZoneState). z.records) step) (ap (λ (z : ZoneState). z.round) step) refl
       books.moved (more ∙ ap (λ (k : ℕ). k + 1) books.back) refl
 
   module _ (step : u ≡ committed v serial page) where

@@ -21,7 +21,7 @@ final_frame (Some (Moving serial source target)) = Some target
 abbrev pub without_ends : List Record → List Record
 without_ends [] = []
 without_ends (Moved serial ∷ older) = without_ends older
-without_ends (Back serial cause ∷ older) = without_ends older
+without_ends (Back cause serial ∷ older) = without_ends older
 without_ends (entry ∷ older) = entry ∷ without_ends older
 
 -- what is left of a zone if it doesn't matter which moving pages have been moved already

@@ -146,7 +146,7 @@ pub record Leaving {W : ℕ} (z changed : Inside W) (v : ZoneState) (m : Move) (
   pub words : changed.words ≡ with_words z.words m.target (words_of z.words m.source)
   pub notes : changed.notes ≡ slice_set z.notes m.page (record note { placement = Some (At m.target) })
   pub moves : changed.moves ≡ record z.moves { isolated = z.moves.isolated + 1; moved = z.moves.moved + 1 }
-  pub history : changed.history ≡ record (told (told z.history (Isolate (isolated v.records) m.page)) (Moved (isolated v.records))) { round = None }
+  pub history : changed.history ≡ record (told (told z.history (Isolate m.page (isolated v.records))) (Moved (isolated v.records))) { round = None }
   -- what stayed as it was
   pub frames_same : changed.tables.frames ≡ z.tables.frames
   pub size_same : changed.tables.entries.size ≡ z.tables.entries.size
@@ -234,7 +234,7 @@ module _ {W : ℕ} {z changed : Inside W} {v : ZoneState} {m : Move} {note : Pag
 
   entries_fit : EntriesFit changed.tables.entries after
   entries_fit =
-      let entries = entries_settled v m.page (At m.source) (At m.target) (can_settle v m known.sound.valid known.may_move) (Isolate (isolated v.records) m.page) (isolate_still v.records (isolated v.records) m.page) z.tables.entries changed.tables.entries known.sound.entries known.tables in
+      let entries = entries_settled v m.page (At m.source) (At m.target) (can_settle v m known.sound.valid known.may_move) (Isolate m.page (isolated v.records)) (isolate_still v.records (isolated v.records) m.page) z.tables.entries changed.tables.entries known.sound.entries known.tables in
       record {
         each = λ a range. entries.each a range ∙ ap (λ (p : map.FinMap nat_cmp Placement). entry_for (option_and_then (map.get p) (page_at v.records a))) (sym forgotten);
       }
@@ -275,7 +275,7 @@ module _ {W : ℕ} {z changed : Inside W} {v : ZoneState} {m : Move} {note : Pag
   -- a state after the page went, with its new place alone
   abbrev gone : ZoneState → ZoneState
   gone u = record u {
-    records = Moved (isolated v.records) ∷ Isolate (isolated v.records) m.page ∷ u.records;
+    records = Moved (isolated v.records) ∷ Isolate m.page (isolated v.records) ∷ u.records;
     room = u.room - 1 - 1;
     placement = map.insert u.placement m.page (At m.target);
     round = None;

@@ -166,13 +166,13 @@ module _ {W : ℕ} {z : Inside W} {v : ZoneState} (view : state_of z ≡ v) (inv
     names = λ address. refl;
   }
 
-  pub back_settled : (cause : Cause) → IsSettled v (relocated v (Back serial cause) page (At source)) page source target
+  pub back_settled : (cause : Cause) → IsSettled v (relocated v (Back cause serial) page (At source)) page source target
   back_settled cause = record {
-    here = at_page v page (Moving serial source target) (At source) (can_go_back v page serial source target sound.valid at) (Back serial cause);
-    freed = back_target v page serial source target sound.valid at (Back serial cause);
+    here = at_page v page (Moving serial source target) (At source) (can_go_back v page serial source target sound.valid at) (Back cause serial);
+    freed = back_target v page serial source target sound.valid at (Back cause serial);
     flags = refl;
     words = refl;
-    others = at_other v page (Moving serial source target) (At source) (can_go_back v page serial source target sound.valid at) (Back serial cause);
+    others = at_other v page (Moving serial source target) (At source) (can_go_back v page serial source target sound.valid at) (Back cause serial);
     names = λ address. refl;
   }
 

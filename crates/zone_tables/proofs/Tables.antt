@@ -1,6 +1,6 @@
 -- What the tables of a sound zone say of its state.
 use Rattle.std.proofs.Common.{get_or, ◌≡◌, ℕ, zero, suc, ◌+◌, ◌<◌, Bool, true, false, not, List, [], ◌∷◌, length, ◌⊎◌, inl, inr, refl, sym, ap, subst, ◌≢◌, ◌∙◌, arith}
-use Rattle.std.specs.Prelude.{Option, Some, None, IsSome, IsTrue, is_some, slice_get, slice_set, nat_eq, map as each, ◌&&◌, if◌then◌else◌}
+use Rattle.std.specs.Prelude.{Option, Some, None, IfSome, IsSome, IsTrue, is_some, slice_get, slice_set, nat_eq, map as each, ◌&&◌, if◌then◌else◌}
 use Rattle.std.specs.FinMap as map
 use Rattle.std.specs.FinSet as set
 use Rattle.std.proofs.lemmas.Bool.{eq-eqb, eqb-true, and_parts}
@@ -27,7 +27,7 @@ use Rattle.zone_tables.specs.Notes.{placement_of, is_unmovable_of, says_unmovabl
 use Rattle.state_core.specs.Valid.{IsValidZone, is_under}
 use Rattle.state_core.specs.Carrying.{words_now, flags_of}
 use Rattle.state_core.specs.Pairs.{holder, can_move}
-use Rattle.scan_core.specs.Frames.{true_at}
+use Rattle.scan_core.specs.Frames.{page_held, true_at}
 use Rattle.std.specs.List.{range_with_len}
 use Rattle.zone_tables.specs.Sound.{state_of, IsSound}
 use Rattle.state_core.proofs.Facts.{chosen, frame_within}
@@ -35,7 +35,7 @@ use Rattle.zone_tables.proofs.Facts.{held_by, is_sound}
 use Rattle.zone_tables.proofs.SearchesAndCounts.{placements_seen, takes_state}
 use Rattle.state_core.proofs.Placed.{untrue}
 use Rattle.zone_tables.proofs.Tabulating.{contains_gathered}
-use Rattle.state_core.proofs.Holding.{stands_at, when_not, holder_none}
+use Rattle.state_core.proofs.Holding.{stands_at, when_not, holder_at, holder_none}
 use Rattle.scan_core.proofs.Numbering.{gathered_in}
 use Rattle.zone_tables.proofs.NotedPages.{unmovable_past}
 
@@ -223,6 +223,24 @@ none_seen frames v fit frame state at none =
     holder_none v frame (λ page is.
     (let two : Some state ≡ Some (Holds page) = sym at ∙ held_by frames v fit page frame is in
     let same : state ≡ Holds page = cc in none page same))
+
+-- the page that a frame's state holds is the page of the frame
+module _ (frames : List (FrameState ℕ)) (v : ZoneState) (valid : IsValidZone v) (fit : FramesFit frames v) (frame : ℕ) (within : frame < frame_count v) where
+  pub held_seen : (state : Option (FrameState ℕ)) → slice_get frames frame ≡ state → page_held state ≡ holder v frame
+  held_seen None at = sym (holder_none v frame (λ page is. (let two = sym at ∙ held_by frames v fit page frame is in cc)))
+  held_seen (Some (Holds page)) at = sym (holder_at v valid page frame (holds_seen frames v fit frame page (Holds page) within at refl))
+  held_seen (Some Free) at = sym (none_seen frames v fit frame Free at (λ page is. cc))
+  held_seen (Some (Source page)) at = sym (none_seen frames v fit frame (Source page) at (λ page is. cc))
+  held_seen (Some (Target page)) at = sym (none_seen frames v fit frame (Target page) at (λ page is. cc))
+  held_seen (Some Huge) at = sym (none_seen frames v fit frame Huge at (λ page is. cc))
+
+  pub held_here : (state : Option (FrameState ℕ)) → slice_get frames frame ≡ state → IfSome (page_held state) (λ page. map.get v.placement page ≡ Some (At frame))
+  held_here None at = tt
+  held_here (Some (Holds page)) at = holds_seen frames v fit frame page (Holds page) within at refl
+  held_here (Some Free) at = tt
+  held_here (Some (Source page)) at = tt
+  held_here (Some (Target page)) at = tt
+  held_here (Some Huge) at = tt
 
 -- the note of a page says whether the page may be taken
 pub movable_seen : {W : ℕ} (z : Inside W) (v : ZoneState) (page : ℕ) (note : PageNote) → Noted z v page note →

@@ -14,7 +14,7 @@ ghost use Rattle.state_core.specs.declared.placement.Placement.TheVariants.{At};
 
 use crate::ending::Move;
 use crate::zone::ZoneTables;
-use frame_core::{FrameNo, FrameState, IsolatedOf, PageFlags, PageNo, Record};
+use frame_core::{FrameNo, IsolatedOf, PageFlags, PageNo, Record};
 use scan_core::{Fingers, Step};
 use state_core::{Pair, Placement};
 
@@ -25,10 +25,7 @@ impl<const W: usize> ZoneTables<W> {
         ensures holder { result ≡ holder self.now frame }
         ensures here { IfSome result (λ page. map.get self.now.placement page ≡ Some (At frame)) }
     {
-        match self.frames.state(frame) {
-            FrameState::Holds(page) => Some(page),
-            _ => None,
-        }
+        self.frames.held_page(frame)
     }
 
     /// The page that the round isolates next, with its frame and the one that it goes to, if there is such a pair.

@@ -17,7 +17,7 @@ pub returns-then-has_pin-clause-once : goal.returns-then-has_pin-clause-once
 returns-then-has_pin-clause-once g c =
     let z = c.deref_mut.result.now in
     ap (λ (v : ZoneState). is_own v c.args.copied) c.go_back.ensures.step
-    ∙ ended_once z (Back c.in-Some.way.serial Pinned) c.in-Some.way.page (source_of (map.get z.placement c.in-Some.way.page)) c.args.copied (ap (λ (p : Page). p.number) (sym c.page.ensures) ∙ sym c.in-Some.ensures.named.0)
+    ∙ ended_once z (Back Pinned c.in-Some.way.serial) c.in-Some.way.page (source_of (map.get z.placement c.in-Some.way.page)) c.args.copied (ap (λ (p : Page). p.number) (sym c.page.ensures) ∙ sym c.in-Some.ensures.named.0)
 
 pub returns-clause-once : goal.returns-clause-once
 returns-clause-once g c =

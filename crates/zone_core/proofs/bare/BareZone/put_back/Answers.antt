@@ -12,7 +12,7 @@ pub returns-clause-once : goal.returns-clause-once
 returns-clause-once g c =
     let z = c.deref_mut.result.now in
     ap (λ (v : ZoneState). is_own v c.args.isolated) c.go_back.ensures.step
-    ∙ ended_once z (Back c.in-Some.way.serial NotCopied) c.in-Some.way.page (source_of (map.get z.placement c.in-Some.way.page)) c.args.isolated (ap (λ (p : Page). p.number) (sym c.page.ensures) ∙ sym c.in-Some.ensures.named.0)
+    ∙ ended_once z (Back NotCopied c.in-Some.way.serial) c.in-Some.way.page (source_of (map.get z.placement c.in-Some.way.page)) c.args.isolated (ap (λ (p : Page). p.number) (sym c.page.ensures) ∙ sym c.in-Some.ensures.named.0)
 
 pub returns-clause-settled : goal.returns-clause-settled
 returns-clause-settled g c =

@@ -57,7 +57,7 @@ after c = record c.self.inside {
   history = c.note.new.self;
 }
 
-settling : {g : Over} (c : After-note g) → Settling c.self.inside (after c) c.args.self.now c.args.pair.page (At c.args.pair.source) (Moving (isolated c.args.self.now.records) c.args.pair.source c.args.pair.target) (Isolate (isolated c.args.self.now.records) c.args.pair.page) (note_of c.self.inside c.args.pair.page) (c.args.pair.source + 1) c.args.pair.target
+settling : {g : Over} (c : After-note g) → Settling c.self.inside (after c) c.args.self.now c.args.pair.page (At c.args.pair.source) (Moving (isolated c.args.self.now.records) c.args.pair.source c.args.pair.target) (Isolate c.args.pair.page (isolated c.args.self.now.records)) (note_of c.self.inside c.args.pair.page) (c.args.pair.source + 1) c.args.pair.target
 settling c =
     let z = c.self.inside in
     let v = c.args.self.now in
@@ -86,12 +86,12 @@ settling c =
       tables = c.to_migration.ensures.replaced;
       words = isolated_words z.words v sound.words (isolated v.records) pair.source pair.target (omega arith) target_in;
       notes = c.place.ensures _ (noted c) ∙ ap (λ (n : ℕ). slice_set z.notes pair.page (record (note_of z pair.page) { placement = Some (Moving n pair.source pair.target) })) serial;
-      moves = subst (λ (moves : Moves). MovesFit moves (Isolate (isolated v.records) pair.page ∷ v.records)) (sym c.isolate-serial.ensures.noted)
+      moves = subst (λ (moves : Moves). MovesFit moves (Isolate pair.page (isolated v.records) ∷ v.records)) (sym c.isolate-serial.ensures.noted)
           (record { isolated = ap (λ n. n + 1) sound.moves.isolated; moved = sound.moves.moved; back = sound.moves.back });
       fingers_are = λ i. record { migrate = c.get.ensures.value i + 1; free = c.get-self-inside.ensures.value i };
       fingers = (omega arith, omega arith);
       swept = swept_if_isolated v pair law is;
-      history = c.note.ensures ∙ ap (λ (n : ℕ). told z.history (Isolate n pair.page)) serial;
+      history = c.note.ensures ∙ ap (λ (n : ℕ). told z.history (Isolate pair.page n)) serial;
       frames_same = c.to_migration.ensures.frames;
       size_same = c.to_migration.ensures.size;
       rest_same = refl;

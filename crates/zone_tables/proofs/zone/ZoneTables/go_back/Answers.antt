@@ -49,7 +49,7 @@ after c = record c.self.inside {
 frames_are : {g : Over} (c : After-note g) → c.settle.new.self ≡ record { states = slice_set (slice_set c.self.inside.frames.states c.args.way.now.target Free) c.args.way.now.source (Holds c.args.way.now.page); movable = slice_set c.self.inside.frames.movable c.args.way.now.source c.can_move.result }
 frames_are c = left_settled c.self.inside.frames c.leave.new.self c.settle.new.self _ _ _ _ c.leave.ensures.state c.settle.ensures.page
 
-settling : {g : Over} (c : After-note g) → Settling c.self.inside (after c) c.args.self.now c.args.way.now.page (Moving c.args.way.now.serial c.args.way.now.source c.args.way.now.target) (At c.args.way.now.source) (Back c.args.way.now.serial c.args.cause) c.get-note.result c.args.self.now.migrate c.args.self.now.free
+settling : {g : Over} (c : After-note g) → Settling c.self.inside (after c) c.args.self.now c.args.way.now.page (Moving c.args.way.now.serial c.args.way.now.source c.args.way.now.target) (At c.args.way.now.source) (Back c.args.cause c.args.way.now.serial) c.get-note.result c.args.self.now.migrate c.args.self.now.free
 settling c =
     let z = c.self.inside in
     let v = c.args.self.now in
@@ -74,7 +74,7 @@ settling c =
       tables = c.to_present.ensures.replaced;
       words = back_words z.words v sound.words way.serial way.source way.target source_in;
       notes = c.place.ensures c.get-note.result c.get-note.ensures;
-      moves = subst (λ (moves : Moves). MovesFit moves (Back way.serial c.args.cause ∷ v.records)) (sym c.go_back.ensures)
+      moves = subst (λ (moves : Moves). MovesFit moves (Back c.args.cause way.serial ∷ v.records)) (sym c.go_back.ensures)
           (record { isolated = sound.moves.isolated; moved = sound.moves.moved; back = ap (λ n. n + 1) sound.moves.back });
       fingers_are = ap (λ (u : ZoneState). record { migrate = u.migrate; free = u.free }) c.self.view_is;
       fingers = law.fingers.ordered;
@@ -92,7 +92,7 @@ invariant_of-self g c = settle_invariant (settling c)
 pub returns-clause-step : goal.returns-clause-step
 returns-clause-step g c =
     settle_view (settling c)
-    ∙ ap (λ (frame : ℕ). relocated c.args.self.now (Back c.args.way.now.serial c.args.cause) c.args.way.now.page (At frame)) (sym (ap source_of c.requires.placed))
+    ∙ ap (λ (frame : ℕ). relocated c.args.self.now (Back c.args.cause c.args.way.now.serial) c.args.way.now.page (At frame)) (sym (ap source_of c.requires.placed))
 
 pub returns-clause-settled : goal.returns-clause-settled
 returns-clause-settled g c =

@@ -1,26 +1,22 @@
-use Rattle.std.proofs.Common.{sym, arith}
+use Rattle.std.proofs.Common.{◌≡◌, ◌∙◌, refl, subst, sym, arith, ℕ}
+use Rattle.std.specs.Prelude.{IfSome, Option, Some, slice_get}
+use Rattle.std.specs.FinMap as map
+use Rattle.state_core.specs.declared.placement.Placement.TheVariants.{At}
 use Rattle.zone_tables.proofs.Facts.{is_sound}
-use Rattle.zone_tables.proofs.Tables.{holds_seen, none_seen}
-use Rattle.state_core.proofs.Holding.{holder_at}
+use Rattle.zone_tables.proofs.Tables.{held_here, held_seen}
 use Rattle.zone_tables.proofs.zone.ZoneTables.holder.Goals as goal
 
-pub state-requires : goal.state-requires
-state-requires g c =
-    omega (arith, c.requires, (is_sound c.self.view_is c.self.invariant).frames.count)
+pub held_page-requires : goal.held_page-requires
+held_page-requires g c = omega (arith, c.requires, (is_sound c.self.view_is c.self.invariant).frames.count)
 
-pub returns-in-Holds-clause-holder : goal.returns-in-Holds-clause-holder
-returns-in-Holds-clause-holder g c =
+pub returns : goal.returns
+returns g c =
+    let v = c.args.self.now in
     let sound = is_sound c.self.view_is c.self.invariant in
-    sym (holder_at c.args.self.now sound.valid c.in-Holds.page c.args.frame
-    (holds_seen c.self.inside.frames.states c.args.self.now sound.frames c.args.frame c.in-Holds.page c.state.result c.requires c.state.ensures c.in-Holds.is))
-
-pub returns-in-Holds-clause-here : goal.returns-in-Holds-clause-here
-returns-in-Holds-clause-here g c =
-    holds_seen c.self.inside.frames.states c.args.self.now (is_sound c.self.view_is c.self.invariant).frames c.args.frame c.in-Holds.page c.state.result c.requires c.state.ensures c.in-Holds.is
-
-pub returns-in_default : goal.returns-in_default
-returns-in_default g c =
+    let states = c.self.inside.frames.states in
+    let state = slice_get states c.args.frame in
     record {
-      holder = sym (none_seen c.self.inside.frames.states c.args.self.now (is_sound c.self.view_is c.self.invariant).frames c.args.frame c.state.result c.state.ensures c.in_default.not-Holds);
-      here = tt;
+      holder = c.held_page.ensures ∙ held_seen states v sound.valid sound.frames c.args.frame c.requires state refl;
+      here = subst (λ (o : Option ℕ). IfSome o (λ page. map.get v.placement page ≡ Some (At c.args.frame))) (sym c.held_page.ensures)
+          (held_here states v sound.valid sound.frames c.args.frame c.requires state refl);
     }

@@ -93,7 +93,7 @@ leaving c =
       words = c.copy.ensures.copied;
       notes = c.place.ensures _ (noted c);
       moves = c.arrive.ensures ∙ ap (λ (ms : Moves). record ms { moved = ms.moved + 1 }) c.isolate-serial.ensures.noted;
-      history = c.forget_round.ensures ∙ (λ i. record (c.note-2.ensures i) { round = None }) ∙ (λ i. record (told (c.note.ensures i) (Moved (serial i))) { round = None }) ∙ (λ i. record (told (told z.history (Isolate (serial i) c.args.page)) (Moved (isolated c.args.self.now.records))) { round = None });
+      history = c.forget_round.ensures ∙ (λ i. record (c.note-2.ensures i) { round = None }) ∙ (λ i. record (told (c.note.ensures i) (Moved (serial i))) { round = None }) ∙ (λ i. record (told (told z.history (Isolate c.args.page (serial i))) (Moved (isolated c.args.self.now.records))) { round = None });
       frames_same = c.to_present.ensures.frames ∙ c.to_migration.ensures.frames;
       size_same = c.to_present.ensures.size ∙ c.to_migration.ensures.size;
       rest_same = refl;
