@@ -260,7 +260,7 @@ uint32_t compactd_open(compactd_pool *pool, uint32_t page_words, uint32_t blocks
 uint32_t compactd_open_journal(compactd_pool *pool, uint32_t page_words, uint32_t blocks, uint32_t places) COMPACTD_CALL;
 
 /* Opens a closed pool of any size, with 1 to 32,768 pageblocks, 1 to 256 spaces and 1 to 16,777,216 virtual pages a space. It has at most
- * 67,108,864 addresses in all, which are 4 for each frame of the largest pool; each takes 8 bytes of memory, whether or not it names a page.
+ * 67,108,864 addresses in all, which are 4 for each frame of the largest pool; each takes 4 bytes of memory, whether or not it names a page.
  * With 0 places it keeps no records, as by compactd_open. With 1 to 65,536 places it keeps a journal, as by compactd_open_journal.
  * Refused: OPEN; RANGE; MEMORY. */
 uint32_t compactd_open_sized(compactd_pool *pool, uint32_t page_words, uint32_t blocks, uint32_t spaces, uint32_t vpages, uint32_t places)

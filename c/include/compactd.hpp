@@ -47,7 +47,7 @@ struct Address {
 enum class PageSize : std::uint32_t { bytes64 = 8, bytes4096 = 512 };
 
 // How large a pool is: 1 to 32,768 pageblocks, 1 to 256 spaces and 1 to 16,777,216 virtual pages of each space; these are at most 67,108,864
-// addresses in all, and each takes 8 bytes of memory.
+// addresses in all, and each takes 4 bytes of memory.
 struct PoolSize {
     std::uint32_t blocks;
     std::uint32_t spaces;

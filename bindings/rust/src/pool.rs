@@ -27,7 +27,7 @@ impl PageSize {
     }
 }
 
-/// How large a pool is: how many pageblocks it has, and how many addresses. These are at most 67,108,864 in all, and each takes 8 bytes of
+/// How large a pool is: how many pageblocks it has, and how many addresses. These are at most 67,108,864 in all, and each takes 4 bytes of
 /// memory, whether or not it names a page.
 #[derive(Clone, Copy, Debug, PartialEq, Eq)]
 pub struct PoolSize {
