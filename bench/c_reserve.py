@@ -32,7 +32,7 @@ DRAWN = {
     LEAST: ("#0072b2", "reservation: proved to be the fewest", 430),
 }
 HEADS = {"uniform": "All pageblocks equally likely", "skewed": "Some pageblocks full, others emptier"}
-LOWEST, HIGHEST = 100, 100_000  # of the scale
+TICKS = {number: f"{number:,}" for number in (100, 1_000, 10_000, 100_000)}  # what the scale has, and how it is written
 WIDTH, HEIGHT, PANEL, PLOT, SCALE = 720, 360, 342, 80, 168
 TOP, ROW, GROUP = 122, 19, 68
 STYLE = """
@@ -92,33 +92,37 @@ def text(words, x, y, name=None):
     return f'<text{of_class} x="{x:g}" y="{y:g}">{html.escape(words)}</text>'
 
 
-def place(pages):
+def place(number, ticks):
     """Where a number stands on the scale of a panel."""
-    return round(PLOT + SCALE * math.log(pages / LOWEST, HIGHEST / LOWEST), 1)
+    return round(PLOT + SCALE * math.log(number / min(ticks), max(ticks) / min(ticks)), 1)
 
 
-def dot(x, y, policy):
-    return f'<circle cx="{x:g}" cy="{y:g}" r="5" fill="{DRAWN[policy][0]}"/>'
+def dot(x, y, color):
+    return f'<circle cx="{x:g}" cy="{y:g}" r="5" fill="{color}"/>'
 
 
-def legend():
-    for policy, (_, name, x) in DRAWN.items():
-        yield dot(x, 72, policy)
+def bar(left, right, y, color):
+    return f'<path d="M{left:g} {y:g}H{right:g}" stroke="{color}" stroke-width="3"/>'
+
+
+def legend(drawn):
+    for color, name, x in drawn.values():
+        yield dot(x, 72, color)
         yield text(name, x + 10, 76)
 
 
-def scale(bottom):
+def scale(bottom, ticks):
     """The lines of the powers of 10, with their numbers."""
-    for power in range(round(math.log10(LOWEST)), round(math.log10(HIGHEST)) + 1):
-        x = place(10**power)
+    for number, written in ticks.items():
+        x = place(number, ticks)
         yield f'<path class="line" d="M{x:g} {TOP - 12}V{bottom}"/>'
-        yield text(f"{10**power:,}", x, bottom + 15, "scale")
+        yield text(written, x, bottom + 15, "scale")
 
 
 def row(result, policy, y):
-    x = place(result.moved)
-    yield f'<path d="M{PLOT} {y:g}H{x:g}" stroke="{DRAWN[policy][0]}" stroke-width="3"/>'
-    yield dot(x, y, policy)
+    x, color = place(result.moved, TICKS), DRAWN[policy][0]
+    yield bar(PLOT, x, y, color)
+    yield dot(x, y, color)
     many = "" if policy == LEAST else f" ({result.ratio:.{0 if result.ratio >= 10 else 2}f} ×)"
     yield text(f"{result.moved:,.0f}{many}", x + 10, y + 4, "number")
 
@@ -128,7 +132,7 @@ def panel(found, load):
     groups = sorted({blocks for _, blocks, _ in found})
     bottom = TOP + GROUP * len(groups) - 14
     yield text(HEADS[load], 0, TOP - 20, "head")
-    yield from scale(bottom)
+    yield from scale(bottom, TICKS)
     for at, blocks in enumerate(groups):
         y = TOP + GROUP * at
         yield text(f"{blocks} block{'s' * (blocks > 1)}", 0, y + ROW + 4)
@@ -136,18 +140,24 @@ def panel(found, load):
             yield from row(found[load, blocks, policy], policy, y + ROW * policy_at)
 
 
+def sheet(height, title, pool, drawn, panels, told):
+    """An SVG of panels side by side, with what is told of the pool above them and of the numbers below."""
+    size = f'width="{WIDTH}" height="{height}" viewBox="0 0 {WIDTH} {height}"'
+    lines = [f'<svg xmlns="http://www.w3.org/2000/svg" role="img" {size}>', f"<title>{title}</title>", f"<style>{STYLE}</style>"]
+    lines += [f'<rect class="sheet" width="{WIDTH}" height="{height}" rx="6"/>', text(title, 20, 30, "title")]
+    lines += [text(pool, 20, 50, "told"), *legend(drawn)]
+    for at, lines_of_panel in enumerate(panels):
+        lines += [f'<g transform="translate({20 + PANEL * at},0)">', *lines_of_panel, "</g>"]
+    lines += [text(told, WIDTH / 2, height - 12, "scale"), "</svg>"]
+    return "\n".join(lines) + "\n"
+
+
 def picture(found):
     """The pages that were moved, as SVG."""
     title = "Pages moved until 1, 8 or 64 pageblocks are handed out"
-    size = f'width="{WIDTH}" height="{HEIGHT}" viewBox="0 0 {WIDTH} {HEIGHT}"'
-    lines = [f'<svg xmlns="http://www.w3.org/2000/svg" role="img" {size}>', f"<title>{title}</title>", f"<style>{STYLE}</style>"]
-    lines += [f'<rect class="sheet" width="{WIDTH}" height="{HEIGHT}" rx="6"/>', text(title, 20, 30, "title")]
-    lines += [text("A pool of 512 pageblocks with 512 frames each, of which 70 % hold a page", 20, 50, "told"), *legend()]
-    for at, load in enumerate(HEADS):
-        lines += [f'<g transform="translate({20 + PANEL * at},0)">', *panel(found, load), "</g>"]
+    pool = "A pool of 512 pageblocks with 512 frames each, of which 70 % hold a page"
     told = "pages moved, on a logarithmic scale; in brackets, how many times the fewest"
-    lines += [text(told, WIDTH / 2, HEIGHT - 12, "scale"), "</svg>"]
-    return "\n".join(lines) + "\n"
+    return sheet(HEIGHT, title, pool, DRAWN, [panel(found, load) for load in HEADS], told)
 
 
 def main():
