@@ -33,7 +33,7 @@ DRAWN = {
     "round that stops": (COLORS["round that stops"], "round that stops at a block", 222),
     "reservation": (COLORS["reservation"], "reservation of one block", 436),
 }
-PAGES = {10: "10", 100: "100", 1_000: "1,000", 10_000: "10,000", 100_000: "100,000"}
+PAGES = {10: "10", 100: "100", 1_000: "1,000", 10_000: "10,000", 100_000: ""}
 TIMES = {1: "1 µs", 1_000: "1 ms", 1_000_000: "1 s"}
 HEIGHT, GROUP = 420, 88
 
