@@ -6,12 +6,12 @@ use Rattle.std.specs.Ordering.{nat_cmp}
 use Rattle.std.proofs.lemmas.Bool.{lt-ltb, le-ltb, ltb-true, eqb-true, true_from_ne_false}
 use Rattle.std.proofs.lemmas.Bool.Decides.{leb_tells, nat_tests}
 use Rattle.std.proofs.lemmas.List.{length-replicate}
-use Rattle.frame_core.specs.Below.{count_below, count_from, lowest, one_if, some_below}
+use Rattle.frame_core.specs.Below.{count_below, count_from, lowest, one_if, some_below, sum_below}
 use Rattle.frame_core.specs.Order.{is_aligned}
 use Rattle.frame_core.proofs.Bounds.{count_from_short}
 use Rattle.frame_core.proofs.Lists.{slice_get_replicate}
-use Rattle.frame_core.proofs.Searches.{count_all, count_from_all, count_none, some_at, some_one, lowest_is, lowest_none}
-use Rattle.scan_core.specs.FrameCounts.{CountsEach, is_all_counted}
+use Rattle.frame_core.proofs.Searches.{count_all, count_from_all, count_from_same, count_none, some_at, some_one, lowest_is, lowest_none}
+use Rattle.scan_core.specs.FrameCounts.{CountsEach, is_all_counted, unmarked_count}
 use Rattle.scan_core.specs.FrameSet.{Counts, all_of_block, is_run_of}
 use Rattle.scan_core.specs.Frames.{true_at}
 use Rattle.scan_core.specs.NumberSet.{all_from, in_run}
@@ -94,6 +94,36 @@ unmarked_by_counts p marked counts each =
     let some = from_some p (512 * (found.0 / 512)) 512 found.0 (omega arith) (omega arith) parts.1 in
     some_at (λ block. not (true_at marked block) && nat_lt 0 (slice_index counts block)) (length counts) (found.0 / 512) low
     (λ i. parts.0 i && lt-ltb 0 (slice_index counts (found.0 / 512)) (omega (arith, counted counts p (found.0 / 512) each low, some)) i))
+
+none_within : (p : ℕ → Bool) (first n : ℕ) → ((k : ℕ) → first ≤ k → k < first + n → p k ≡ false) → count_from p first n ≡ 0
+unfolding count_from
+none_within p first n fails = count_none (λ k. p (first + k)) n (λ k h. fails (first + k) (omega arith) (omega (arith, h)))
+
+count_split : (p : ℕ → Bool) (first n : ℕ) → count_below p (first + n) ≡ count_below p first + count_from p first n
+unfolding count_from
+count_split p first zero = let same : first + 0 ≡ first = omega arith in ap (count_below p) same ∙ omega arith
+count_split p first (suc n) =
+    let same : first + suc n ≡ suc (first + n) = omega arith in
+    let next : count_below p (first + suc n) ≡ one_if (p (first + n)) + count_below p (first + n) = ap (count_below p) same in
+    omega (arith, next, count_split p first n)
+
+-- how many frames of unmarked pageblocks pass, read off the counts
+module _ (p : ℕ → Bool) (marked : List Bool) (counts : List ℕ) (each : CountsEach counts p) where
+  abbrev passes_unmarked : ℕ → Bool
+  passes_unmarked frame = not (is_marked marked frame) && p frame
+
+  of_block : (block : ℕ) → block < length counts → (b : Bool) → true_at marked block ≡ b → count_from passes_unmarked (512 * block) 512 ≡ (if b then 0 else slice_index counts block)
+  of_block block low true is =
+      none_within passes_unmarked (512 * block) 512 (λ k from to. let at : k / 512 ≡ block = omega (arith, from, to) in ap (λ b. not b && p k) (ap (true_at marked) at ∙ is))
+  of_block block low false is =
+      count_from_same passes_unmarked p (512 * block) 512 (λ k from to. let at : k / 512 ≡ block = omega (arith, from, to) in ap (λ b. not b && p k) (ap (true_at marked) at ∙ is))
+      ∙ sym (counted counts p block each low)
+
+  pub unmarked_sum : (n : ℕ) → n ≤ length counts → sum_below (unmarked_count marked counts) n ≡ count_below passes_unmarked (512 * n)
+  unmarked_sum zero few = refl
+  unmarked_sum (suc n) few =
+      let same : 512 * suc n ≡ 512 * n + 512 = omega arith in
+      omega (arith, unmarked_sum n (omega (arith, few)), of_block n (omega (arith, few)) (true_at marked n) refl, ap (count_below passes_unmarked) same, count_split passes_unmarked (512 * n) 512)
 
 pub full_by_counts : (p : ℕ → Bool) (counts : List ℕ) → CountsEach counts p → (block : ℕ) → block < length counts → is_all_counted counts block ≡ all_of_block p block
 full_by_counts p counts each block h = ap (λ n. nat_eq n 512) (counted counts p block each h)

@@ -14,5 +14,5 @@ pub mod SetSteps
 pub mod Sounding
 pub mod Spanning
 pub mod Steps
+pub mod Tallying
 pub mod WholeRuns
-pub mod Wholes

@@ -40,9 +40,6 @@ count_run p r first m n most adds = count_same r (λ k. in_run first m k || p k)
 pub counted : (counts : List ℕ) (p : ℕ → Bool) (block : ℕ) → CountsEach counts p → block < length counts → slice_index counts block ≡ count_in_block p block
 counted counts p block each within = get_or_from_slice_get counts block _ 0 (each block within)
 
-pub counted_most : (counts : List ℕ) (p : ℕ → Bool) (block : ℕ) → CountsEach counts p → block < length counts → slice_index counts block ≤ 512
-counted_most counts p block each within = omega (arith, counted counts p block each within, count_from_most p (512 * block) 512)
-
 -- a frame that doesn't pass leaves room for one more, and a frame that passes is counted
 pub counted_less : (counts : List ℕ) (p : ℕ → Bool) (frame : ℕ) → CountsEach counts p → frame / 512 < length counts → p frame ≡ false → slice_index counts (frame / 512) < 512
 counted_less counts p frame each within fails =

@@ -8,7 +8,7 @@ use Rattle.scan_core.specs.FrameSetInside.{IsCounted}
 use Rattle.scan_core.specs.WholeRuns.{HasWholeRuns, IsOpen}
 use Rattle.scan_core.specs.declared.frame_set.FrameSet.TheInside.{Inside}
 use Rattle.scan_core.specs.declared.whole_runs.WholeRuns.{WholeRuns}
-use Rattle.scan_core.proofs.RunCounts.{Adds, count_has, count_room, counted_most, counts_fewer, counts_more, room_fewer, room_more}
+use Rattle.scan_core.proofs.RunCounts.{Adds, count_has, count_room, counts_fewer, counts_more, room_fewer, room_more}
 
 module _ (s : Inside) (sound : IsCounted s) (numbers : Numbers) (first number m : ℕ) (low : first < 512 * length s.blocks) (within : first % 512 + m ≤ 512) (at : number ≡ first) where
   block_low : first / 512 < length s.blocks
@@ -53,6 +53,3 @@ module _ (s : Inside) (sound : IsCounted s) (numbers : Numbers) (first number m 
           runs_blocks = as_many ∙ sound.runs_blocks ∙ sym long;
           runs = whole;
         }
-
-  pub fewer_most : slice_index s.blocks (number / 512) ≤ 512
-  fewer_most = omega (arith, counted_most s.blocks _ (first / 512) sound.counts.each block_low, ap (λ n. slice_index s.blocks (n / 512)) at)

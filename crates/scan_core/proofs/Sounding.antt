@@ -12,7 +12,7 @@ use Rattle.frame_core.proofs.Searches.{lowest_same}
 use Rattle.scan_core.specs.FrameSet.{all_of_block, is_run_of}
 use Rattle.scan_core.specs.Frames.{Frames, blocks_of, free_at, free_frames, is_whole, stuck_at, true_at}
 use Rattle.scan_core.specs.NumberSet.{all_from}
-use Rattle.scan_core.specs.Pairs.{is_marked, is_stuck, next_source, next_target}
+use Rattle.scan_core.specs.Pairs.{is_marked, is_stuck, is_target, next_source, next_target}
 use Rattle.scan_core.specs.Runs.{first_run, is_run}
 use Rattle.scan_core.specs.Seen.{seen}
 use Rattle.scan_core.specs.Sound.{frames_of, IsSound}
@@ -68,6 +68,9 @@ module _ (z : Inside) (sound : IsSound z) where
 
   pub free_counted : count_below (set.contains z.free.members) z.free.bound ≡ free_frames (seen z.held.members z.kept.items)
   free_counted = λ i. count_below (free_is i) (bound_is i)
+
+  pub vacant_by_set : (marked : List Bool) → count_below (λ frame. not (is_marked marked frame) && set.contains z.free.members frame) z.free.bound ≡ count_below (is_target (seen z.held.members z.kept.items) marked) (length (seen z.held.members z.kept.items))
+  vacant_by_set marked = λ i. count_below (λ frame. not (is_marked marked frame) && free_is i frame) (bound_is i)
 
   pub lowest_counted : lowest (set.contains z.free.members) z.free.bound ≡ lowest (free_at (seen z.held.members z.kept.items)) (length (seen z.held.members z.kept.items))
   lowest_counted = λ i. lowest (free_is i) (bound_is i)

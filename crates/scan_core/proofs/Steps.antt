@@ -24,7 +24,7 @@ use Rattle.scan_core.proofs.FrameSets.{all_pass, insert_if, none_counted, remove
 use Rattle.scan_core.proofs.Masking.{clash}
 use Rattle.scan_core.proofs.Numbering.{member_insert, member_remove}
 use Rattle.scan_core.proofs.Orders.{one_block, some_frames}
-use Rattle.scan_core.proofs.RunCounts.{Adds, counted_less, counted_most, counted_some, each_fewer, each_more, length_recounted, recount, room_fewer, room_more}
+use Rattle.scan_core.proofs.RunCounts.{Adds, counted_less, counted_some, each_fewer, each_more, length_recounted, recount, room_fewer, room_more}
 use Rattle.scan_core.proofs.Seeing.{length_seen, same_items, seen_get, seen_put, seen_held, seen_released, seen_none_held, seen_state, with_run_get, skipped, taken}
 use Rattle.scan_core.proofs.Spanning.{both}
 
@@ -298,9 +298,6 @@ module _ {now : Frames} (z : Inside) (sound : IsSound z) (view : frames_of z ≡
     pub in_block : frame / 512 < length z.candidates.stuck
     in_block = frame_block z sound frame within
 
-    pub stuck_most : slice_index z.candidates.stuck (frame / 512) ≤ 512
-    stuck_most = counted_most z.candidates.stuck _ (frame / 512) sound.stuck in_block
-
     pub stuck_less : stuck_at (seen z.held.members z.kept.items) z.movable.items frame ≡ false → slice_index z.candidates.stuck (frame / 512) < 512
     stuck_less fails = counted_less z.candidates.stuck _ frame sound.stuck in_block fails
 
@@ -440,9 +437,6 @@ module _ {now : Frames} (z : Inside) (sound : IsSound z) (view : frames_of z ≡
   module _ (low : 3 ≤ order) (high : order ≤ 9) where
     pub run_counted : has_block now.states order first ≡ true → first / 512 < length z.candidates.stuck
     run_counted here = frame_block z sound first (omega (arith, block_within here, some_frames order low high))
-
-    pub run_most : has_block now.states order first ≡ true → slice_index z.candidates.stuck (first / 512) ≤ 512
-    run_most here = counted_most z.candidates.stuck _ (first / 512) sound.stuck (run_counted here)
 
     -- a block of which no frame is stuck leaves room for its frames in its pageblock's count
     pub run_room : is_run now.states order first ≡ true → slice_index z.candidates.stuck (first / 512) + 2 ^ order ≤ 512

@@ -1,6 +1,7 @@
 -- Counts of frames, one for each pageblock.
-use Rattle.std.specs.Prelude.{◌≡◌, ℕ, ◌+◌, ◌-◌, ◌*◌, ◌<◌, Bool, true, false, List, length, nat_eq, slice_get, slice_index, slice_set, Some}
+use Rattle.std.specs.Prelude.{◌≡◌, ℕ, ◌+◌, ◌-◌, ◌*◌, ◌<◌, Bool, true, false, List, length, nat_eq, nat_lt, slice_get, slice_index, slice_set, Some, if◌then◌else◌}
 use Rattle.frame_core.specs.Below.{count_from}
+use Rattle.scan_core.specs.Frames.{true_at}
 
 -- how many frames of a pageblock pass
 abbrev pub count_in_block : (ℕ → Bool) → ℕ → ℕ
@@ -13,6 +14,14 @@ CountsEach counts p = (block : ℕ) → block < length counts → slice_get coun
 -- whether all 512 frames of a pageblock are counted
 abbrev pub is_all_counted : List ℕ → ℕ → Bool
 is_all_counted counts block = nat_eq (slice_index counts block) 512
+
+-- whether some frame of a pageblock is counted
+abbrev pub is_some_counted : List ℕ → ℕ → Bool
+is_some_counted counts block = nat_lt 0 (slice_index counts block)
+
+-- how many frames of a pageblock are counted, or none where it is marked
+abbrev pub unmarked_count : List Bool → List ℕ → ℕ → ℕ
+unmarked_count marked counts block = if true_at marked block then 0 else slice_index counts block
 
 -- the counts with this many more frames in a pageblock
 abbrev pub with_more : List ℕ → ℕ → ℕ → List ℕ

@@ -1,5 +1,6 @@
 pub mod BlockCounts
 pub mod FrameCounts
+pub mod FrameCountsInside
 pub mod FrameSet
 pub mod FrameSetInside
 pub mod Frames

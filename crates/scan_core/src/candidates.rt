@@ -54,7 +54,6 @@ impl Candidates {
         requires room { frame < self.old.sources.bound }
         requires block { frame / 512 < length self.old.stuck }
         requires some { movable ≡ false → 0 < slice_index self.old.stuck (frame / 512) }
-        requires most { slice_index self.old.stuck (frame / 512) ≤ 512 }
         requires is { set.contains self.old.sources.members frame ≡ movable }
         ensures sources { (n : ℕ) → set.contains self.new.sources.members n ≡ (if nat_eq n frame then false else set.contains self.old.sources.members n) }
         ensures room { self.new.sources.bound ≡ self.old.sources.bound }
@@ -74,7 +73,6 @@ impl Candidates {
         requires block { frame / 512 < length self.old.stuck }
         requires some { movable ≡ true → 0 < slice_index self.old.stuck (frame / 512) }
         requires less { movable ≡ false → slice_index self.old.stuck (frame / 512) < 512 }
-        requires most { slice_index self.old.stuck (frame / 512) ≤ 512 }
         requires is { set.contains self.old.sources.members frame ≡ not movable }
         ensures sources { (n : ℕ) → set.contains self.new.sources.members n ≡ (if nat_eq n frame then movable else set.contains self.old.sources.members n) }
         ensures room { self.new.sources.bound ≡ self.old.sources.bound }

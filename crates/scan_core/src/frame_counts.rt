@@ -1,31 +1,32 @@
 //! Counts of frames, one for each pageblock.
 
-ghost use Rattle.std.specs.Prelude.{◌≡◌, ◌+◌, ◌<◌, ◌≤◌, ◌&&◌, not, length, nat_lt, replicate, slice_index, IfOk};
-ghost use Rattle.frame_core.specs.Below.{count_below, some_below};
+ghost use Rattle.std.specs.Prelude.{◌≡◌, ◌+◌, ◌<◌, ◌≤◌, ◌&&◌, not, length, replicate, slice_index, IfOk};
+ghost use Rattle.frame_core.specs.Below.{count_below, some_below, sum_below};
 ghost use Rattle.scan_core.specs.Frames.{true_at};
-ghost use Rattle.scan_core.specs.FrameCounts.{is_all_counted, with_fewer, with_more};
+ghost use Rattle.scan_core.specs.FrameCounts.{is_all_counted, is_some_counted, unmarked_count, with_fewer, with_more};
 
+use crate::marks::Marks;
 use frame_core::FixedVec;
 use std::alloc::{AllocError, Global};
 use std::marker::Model;
 
-/// How many frames of each pageblock are counted, and of how many pageblocks all 512 frames are.
+/// How many frames of each pageblock are counted, of how many pageblocks some frame is, and of how many all 512 are.
 #[derive(Drop)]
 pub(crate) struct FrameCounts {
     counts: FixedVec<u32>,
+    some: u32,
     whole: u32,
 }
 
 impl Model for FrameCounts {
-    ghost use Rattle.std.specs.Prelude.{◌≡◌, ◌≤◌, ℕ, List, length};
-    ghost use Rattle.frame_core.specs.Below.{count_below};
-    ghost use Rattle.scan_core.specs.FrameCounts.{is_all_counted};
+    ghost use Rattle.std.specs.Prelude.{ℕ, List};
+    ghost use Rattle.scan_core.specs.FrameCountsInside.{IsTallied};
 
     ghost Value = { List ℕ };
 
     ghost view = { λ c. c.counts.items };
 
-    ghost invariant = { λ c. (c.whole ≡ count_below (is_all_counted c.counts.items) (length c.counts.items)) × (length c.counts.items ≤ 32768) };
+    ghost invariant = { IsTallied };
 }
 
 impl FrameCounts {
@@ -35,7 +36,11 @@ impl FrameCounts {
         ensures { IfOk result (λ counts. counts ≡ replicate blocks 0) }
     {
         let counts = FixedVec::filled(alloc, 0, blocks as usize)?;
-        Ok(FrameCounts { counts, whole: 0 })
+        Ok(FrameCounts {
+            counts,
+            some: 0,
+            whole: 0,
+        })
     }
 
     /// The counts of pageblocks in each of which all frames are counted, or an error where there is no memory for them.
@@ -46,6 +51,7 @@ impl FrameCounts {
         let counts = FixedVec::filled(alloc, 512, blocks as usize)?;
         Ok(FrameCounts {
             counts,
+            some: blocks,
             whole: blocks,
         })
     }
@@ -63,7 +69,8 @@ impl FrameCounts {
     #[inline(always)]
     pub(crate) fn get(&self, block: u32) -> u32
         requires { block < length self.now }
-        ensures { result ≡ slice_index self.now block }
+        ensures count { result ≡ slice_index self.now block }
+        ensures most { result ≤ 512 }
     {
         self.counts[block as usize]
     }
@@ -76,11 +83,11 @@ impl FrameCounts {
         requires most { slice_index self.old block + frames ≤ 512 }
         ensures { self.new ≡ with_more self.old block frames }
     {
-        let count = self.get(block) + frames;
+        let before = self.get(block);
+        let count = before + frames;
         self.counts[block as usize] = count;
-        if count == 512 {
-            self.whole += 1;
-        }
+        self.some += u32::from(before == 0);
+        self.whole += u32::from(count == 512);
     }
 
     /// Counts fewer frames in a pageblock. At least as many have to be counted.
@@ -89,23 +96,34 @@ impl FrameCounts {
         requires within { block < length self.old }
         requires some { 0 < frames }
         requires counted { frames ≤ slice_index self.old block }
-        requires most { slice_index self.old block ≤ 512 }
         ensures { self.new ≡ with_fewer self.old block frames }
     {
-        let count = self.get(block);
-        self.counts[block as usize] = count - frames;
-        if count == 512 {
-            self.whole -= 1;
-        }
+        let before = self.get(block);
+        let count = before - frames;
+        self.counts[block as usize] = count;
+        self.some -= u32::from(count == 0);
+        self.whole -= u32::from(before == 512);
     }
 
-    /// Whether some frame is counted in a pageblock that isn't marked.
-    pub(crate) fn has_some_unmarked(&self, marked: &[bool]) -> bool
-        requires { length self.now ≤ length marked.now }
-        ensures { result ≡ some_below (λ block. not (true_at marked.now block) && nat_lt 0 (slice_index self.now block)) (length self.now) }
+    /// Whether some frame is counted in a pageblock that isn't marked. It looks at the pageblocks only where as many are marked as have a
+    /// counted frame.
+    pub(crate) fn has_some_unmarked(&self, marks: &Marks) -> bool
+        requires { length self.now ≤ length marks.now }
+        ensures { result ≡ some_below (λ block. not (true_at marks.now block) && is_some_counted self.now block) (length self.now) }
+    {
+        if self.some == 0 {
+            return false;
+        }
+        self.some > marks.count() || self.finds_some_unmarked(marks)
+    }
+
+    /// Whether a look at all pageblocks finds one that isn't marked, of which some frame is counted.
+    fn finds_some_unmarked(&self, marks: &Marks) -> bool
+        requires { length self.now ≤ length marks.now }
+        ensures { result ≡ some_below (λ block. not (true_at marks.now block) && is_some_counted self.now block) (length self.now) }
     {
         for block in 0..self.len() {
-            if self.is_counted_unmarked(block, marked) {
+            if self.is_counted_unmarked(block, marks) {
                 return true;
             }
         }
@@ -113,12 +131,37 @@ impl FrameCounts {
     }
 
     /// Whether a pageblock isn't marked and a frame of it is counted.
-    fn is_counted_unmarked(&self, block: u32, marked: &[bool]) -> bool
+    fn is_counted_unmarked(&self, block: u32, marks: &Marks) -> bool
         requires within { block < length self.now }
-        requires marked { block < length marked.now }
-        ensures { result ≡ (not (true_at marked.now block) && nat_lt 0 (slice_index self.now block)) }
+        requires marks { block < length marks.now }
+        ensures { result ≡ (not (true_at marks.now block) && is_some_counted self.now block) }
     {
-        !marked[block as usize] && self.get(block) > 0
+        !marks.is_marked(block) && self.get(block) > 0
+    }
+
+    /// How many frames are counted in pageblocks that aren't marked.
+    pub(crate) fn count_unmarked(&self, marks: &Marks) -> u32
+        requires { length self.now ≤ length marks.now }
+        ensures { result ≡ sum_below (unmarked_count marks.now self.now) (length self.now) }
+    {
+        let mut frames = 0;
+        for block in 0..self.len() {
+            frames += self.unmarked_count(block, marks);
+        }
+        frames
+    }
+
+    /// How many frames of a pageblock are counted, or none where it is marked.
+    fn unmarked_count(&self, block: u32, marks: &Marks) -> u32
+        requires within { block < length self.now }
+        requires marks { block < length marks.now }
+        ensures count { result ≡ unmarked_count marks.now self.now block }
+        ensures most { result ≤ 512 }
+    {
+        if marks.is_marked(block) {
+            return 0;
+        }
+        self.get(block)
     }
 
     /// How many pageblocks have all of their 512 frames counted.

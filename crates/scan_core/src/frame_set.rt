@@ -1,13 +1,15 @@
 //! A set of frames with counts of them.
 
-ghost use Rattle.std.specs.Prelude.{◌≡◌, ℕ, ◌+◌, ◌*◌, ◌/◌, ◌^◌, ◌<◌, ◌≤◌, ◌&&◌, ◌||◌, not, true, false, nat_lt, IfOk, IfSome};
+ghost use Rattle.std.specs.Prelude.{◌≡◌, ℕ, ◌+◌, ◌*◌, ◌/◌, ◌^◌, ◌<◌, ◌≤◌, ◌&&◌, ◌||◌, not, true, false, length, nat_lt, IfOk, IfSome};
 ghost use Rattle.std.specs.FinSet as set;
 ghost use Rattle.frame_core.specs.Below.{count_below, count_from, lowest};
 ghost use Rattle.frame_core.specs.Order.{is_aligned};
 ghost use Rattle.scan_core.specs.FrameSet.{all_of_block, is_run_of};
 ghost use Rattle.scan_core.specs.NumberSet.{in_run};
+ghost use Rattle.scan_core.specs.Pairs.{is_marked};
 
 use crate::frame_counts::FrameCounts;
+use crate::marks::Marks;
 use crate::whole_runs::WholeRuns;
 use frame_core::{FrameNo, Order};
 use number_set::NumberSet;
@@ -134,6 +136,14 @@ impl FrameSet {
         ensures { result ≡ count_below (set.contains self.now.members) self.now.bound }
     {
         self.count
+    }
+
+    /// How many frames of pageblocks that aren't marked are members. It looks at a count of each pageblock.
+    pub(crate) fn count_unmarked(&self, marks: &Marks) -> u32
+        requires { self.now.bound ≤ 512 * length marks.now }
+        ensures { result ≡ count_below (λ frame. not (is_marked marks.now frame) && set.contains self.now.members frame) self.now.bound }
+    {
+        self.blocks.count_unmarked(marks)
     }
 
     /// How many frames of a block of this order are members.

@@ -3,13 +3,14 @@ ghost use Rattle.frame_core.specs.declared.state.FrameState.TheVariants.{Free, H
 ghost use Rattle.frame_core.specs.Below.{count_below, count_from, lowest, some_below};
 ghost use Rattle.scan_core.specs.Frames.{all_free, blocks_of, free_at, free_frames, holds_at, huge_at, is_open_at, is_whole, page_held, true_at, way_at};
 ghost use Rattle.scan_core.specs.NumberSet.{all_from};
-ghost use Rattle.scan_core.specs.Pairs.{after_step, is_stuck, next_step, Finds};
+ghost use Rattle.scan_core.specs.Pairs.{after_step, is_stuck, is_target, next_step, Finds};
 ghost use Rattle.scan_core.specs.Runs.{first_run, has_block, is_run, with_run};
 
 use crate::candidates::Candidates;
 use crate::fingers::{Fingers, Step};
 use crate::frame_set::FrameSet;
 use crate::kept_state::KeptState;
+use crate::marks::Marks;
 use crate::scanners;
 use frame_core::{FixedVec, FrameNo, FrameState, Order, PageNo};
 use number_set::NumberSet;
@@ -195,6 +196,14 @@ impl Frames {
         self.free.count()
     }
 
+    /// How many frames of pageblocks that aren't marked are free. It looks at a count of each pageblock.
+    pub fn vacant(&self, marks: &Marks) -> u32
+        requires { length self.now.states ≤ 512 * length marks.now }
+        ensures { result ≡ count_below (is_target self.now.states marks.now) (length self.now.states) }
+    {
+        self.free.count_unmarked(marks)
+    }
+
     /// The lowest free frame, if there is one.
     pub fn lowest_free(&self) -> Option<FrameNo>
         ensures lowest { result ≡ lowest (free_at self.now.states) (length self.now.states) }
@@ -286,35 +295,35 @@ impl Frames {
 
     /// The next pair between the fingers. After it the fingers stand one above its source and at its target; where there
     /// is no pair they stay. They have to be in order, and in the zone;
-    /// `marked` has a place for each pageblock.
+    /// there is a mark for each pageblock.
     #[inline(always)]
-    pub fn next_pair(&self, marked: &[bool], fingers: &mut Fingers) -> Step
-        requires marked { length self.now.states ≤ 512 * length marked.now }
+    pub fn next_pair(&self, marks: &Marks, fingers: &mut Fingers) -> Step
+        requires marks { length self.now.states ≤ 512 * length marks.now }
         requires low { fingers.old.migrate ≤ fingers.old.free }
         requires high { fingers.old.free ≤ length self.now.states }
 
-        ensures pair { Finds self.now.states self.now.movable marked.now fingers.old result }
-        ensures step { result ≡ next_step self.now.states self.now.movable marked.now fingers.old }
+        ensures pair { Finds self.now.states self.now.movable marks.now fingers.old result }
+        ensures step { result ≡ next_step self.now.states self.now.movable marks.now fingers.old }
 
         ensures fingers { fingers.new ≡ after_step fingers.old result }
         ensures low { fingers.new.migrate ≤ fingers.new.free }
         ensures high { fingers.new.free ≤ length self.now.states }
     {
-        let Some(source) = scanners::next_source(&self.candidates.sources, marked, *fingers) else {
+        let Some(source) = scanners::next_source(&self.candidates.sources, marks, *fingers) else {
             return Step::Met;
         };
         let free = self.free.numbers();
-        let Some(target) = scanners::next_target(free, marked, *fingers, source) else {
+        let Some(target) = scanners::next_target(free, marks, *fingers, source) else {
             return Step::Met;
         };
         fingers.pass(source, target)
     }
 
     /// Whether a frame of an unmarked pageblock is handed out, or holds a page that may not be taken from it.
-    pub fn is_any_stuck(&self, marked: &[bool]) -> bool
-        requires { length self.now.states ≤ 512 * length marked.now }
-        ensures { result ≡ some_below (is_stuck self.now.states self.now.movable marked.now) (length self.now.states) }
+    pub fn is_any_stuck(&self, marks: &Marks) -> bool
+        requires { length self.now.states ≤ 512 * length marks.now }
+        ensures { result ≡ some_below (is_stuck self.now.states self.now.movable marks.now) (length self.now.states) }
     {
-        self.candidates.stuck.has_some_unmarked(marked)
+        self.candidates.stuck.has_some_unmarked(marks)
     }
 }

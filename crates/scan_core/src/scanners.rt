@@ -7,16 +7,16 @@ ghost use Rattle.number_set.specs.Finds.{IsPrevious, NoneBelow};
 ghost use Rattle.scan_core.specs.Pairs.{is_marked};
 
 use crate::fingers::Fingers;
-use crate::lists::is_marked;
+use crate::marks::Marks;
 use frame_core::FrameNo;
 use number_set::NumberSet;
 
 /// The lowest source between the fingers, in an unmarked pageblock. It passes over the rest of a marked pageblock at once.
-pub(crate) fn next_source(sources: &NumberSet, marked: &[bool], fingers: Fingers) -> Option<FrameNo>
+pub(crate) fn next_source(sources: &NumberSet, marks: &Marks, fingers: Fingers) -> Option<FrameNo>
     requires few { fingers.free ≤ 16777216 }
     requires room { fingers.free ≤ sources.now.bound }
-    requires marked { fingers.free ≤ 512 * length marked.now }
-    ensures { result ≡ lowest (λ frame. nat_le fingers.migrate frame && (not (is_marked marked.now frame) && set.contains sources.now.members frame)) fingers.free }
+    requires marks { fingers.free ≤ 512 * length marks.now }
+    ensures { result ≡ lowest (λ frame. nat_le fingers.migrate frame && (not (is_marked marks.now frame) && set.contains sources.now.members frame)) fingers.free }
 {
     let mut next = fingers.migrate;
     while next < fingers.free {
@@ -24,7 +24,7 @@ pub(crate) fn next_source(sources: &NumberSet, marked: &[bool], fingers: Fingers
         if frame >= fingers.free {
             return None;
         }
-        if !is_marked(marked, frame as usize) {
+        if !marks.is_marked(frame / 512) {
             return FrameNo::in_any_zone(frame);
         }
         next = (frame / 512 + 1) * 512;
@@ -36,14 +36,14 @@ pub(crate) fn next_source(sources: &NumberSet, marked: &[bool], fingers: Fingers
 /// pageblock at once.
 pub(crate) fn next_target(
     free: &NumberSet,
-    marked: &[bool],
+    marks: &Marks,
     fingers: Fingers,
     source: FrameNo,
 ) -> Option<FrameNo>
     requires few { fingers.free ≤ 16777216 }
     requires room { fingers.free ≤ free.now.bound }
-    requires marked { fingers.free ≤ 512 * length marked.now }
-    ensures { result ≡ highest (λ frame. nat_lt source frame && (not (is_marked marked.now frame) && set.contains free.now.members frame)) fingers.free }
+    requires marks { fingers.free ≤ 512 * length marks.now }
+    ensures { result ≡ highest (λ frame. nat_lt source frame && (not (is_marked marks.now frame) && set.contains free.now.members frame)) fingers.free }
 {
     let mut end = fingers.free;
     while end > source.get() + 1 {
@@ -51,7 +51,7 @@ pub(crate) fn next_target(
         if frame <= source.get() {
             return None;
         }
-        if !is_marked(marked, frame as usize) {
+        if !marks.is_marked(frame / 512) {
             return FrameNo::in_any_zone(frame);
         }
         end = frame / 512 * 512;

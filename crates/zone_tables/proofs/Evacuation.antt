@@ -250,7 +250,7 @@ module _ {W : ℕ} {z changed : Inside W} {v : ZoneState} {m : Move} {note : Pag
         cleared = ap (λ (y : Inside W). length y.cleared) known.rest_same ∙ sound.cleared;
         tables = known.frames_same ∙ sound.tables;
         size = known.size_same ∙ sound.size;
-        marks = ap (λ (y : Inside W). length y.marked.items) known.rest_same ∙ sound.marks;
+        marks = ap (λ (y : Inside W). length y.marks) known.rest_same ∙ sound.marks;
         frames = frames_fit v after m.page old new gets z.frames.states changed.frames.states sound.frames frames_placed;
         movable = movable_fit v after m.page old new gets z.frames.movable changed.frames.movable (can_move v m.page) sound.movable movable_placed refl (λ q ne. refl);
         entries = entries_fit;
@@ -293,7 +293,7 @@ module _ {W : ℕ} {z changed : Inside W} {v : ZoneState} {m : Move} {note : Pag
         records = (known.history i).records;
         room = (known.history i).room;
         unmovable = unmovable_new i;
-        marked = gathered (true_at (known.rest_same i).marked.items) (length (known.rest_same i).marked.items);
+        marked = gathered (true_at (known.rest_same i).marks) (length (known.rest_same i).marks);
         handed_out = tabulated (order_of (known.rest_same i).handed_out) (length (known.rest_same i).handed_out);
         contents = contents_same i;
         placement = placement_new i;

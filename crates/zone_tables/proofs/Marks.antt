@@ -5,7 +5,6 @@ use Rattle.std.specs.Prelude.{Option, slice_set, slice_index_or, unwrap_or, if�
 use Rattle.std.proofs.lemmas.List.{length-set}
 use Rattle.std.proofs.lemmas.Option.{slice_get_past}
 use Rattle.frame_core.specs.declared.record.Record.TheVariants.{Mark, Unmark}
-use Rattle.frame_core.specs.FixedVec.{with_item}
 use Rattle.frame_core.specs.Moves.{out}
 use Rattle.zone_tables.specs.declared.zone.ZoneTables.TheInside.{Inside}
 use Rattle.zone_tables.specs.History.{History, told}
@@ -29,9 +28,13 @@ marks_put marks block mark small =
     ∙ gathered_put (true_at marks) (true_at (slice_set marks block mark)) (length marks) block mark (no_mark marks (length marks) refl) (no_mark (slice_set marks block mark) (length marks) (length-set marks block mark))
     (flag_here marks block mark (omega arith)) (λ q. flag_there marks block q mark)
 
+-- the fields with these marks
+abbrev pub with_marks : {W : ℕ} → Inside W → List Bool → History → Inside W
+with_marks z marks history = record z { marks = marks; history = history }
+
 -- the fields after a mark was set or taken off
-abbrev pub after_mark : {W : ℕ} → Inside W → ℕ → Bool → History → Inside W
-after_mark z block mark history = record z { marked = with_item z.marked block mark; history = history }
+abbrev after_mark : {W : ℕ} → Inside W → ℕ → Bool → History → Inside W
+after_mark z block mark history = with_marks z (slice_set z.marks block mark) history
 
 module _ {W : ℕ} (z : Inside W) (v : ZoneState) (sound : IsSound z v) (view : state_of z ≡ v) (block : ℕ) (small : block < v.blocks) (spare : length (out v.records) < v.room) (history : History) where
   mark_sound : IsSound (after_mark z block true history) (block_marked v block)
@@ -39,7 +42,7 @@ module _ {W : ℕ} (z : Inside W) (v : ZoneState) (sound : IsSound z v) (view : 
     valid = valid_marked v sound.valid spare block;
     orders = sound.orders;
     cleared = sound.cleared;
-    marks = length-set z.marked.items block true ∙ sound.marks;
+    marks = length-set z.marks block true ∙ sound.marks;
     tables = sound.tables;
     size = sound.size;
     frames = record { count = sound.frames.count; of_page = sound.frames.of_page; of_block = sound.frames.of_block; of_none = sound.frames.of_none };
@@ -55,7 +58,7 @@ module _ {W : ℕ} (z : Inside W) (v : ZoneState) (sound : IsSound z v) (view : 
     valid = valid_unmarked v sound.valid spare block;
     orders = sound.orders;
     cleared = sound.cleared;
-    marks = length-set z.marked.items block false ∙ sound.marks;
+    marks = length-set z.marks block false ∙ sound.marks;
     tables = sound.tables;
     size = sound.size;
     frames = record { count = sound.frames.count; of_page = sound.frames.of_page; of_block = sound.frames.of_block; of_none = sound.frames.of_none };
@@ -68,26 +71,20 @@ module _ {W : ℕ} (z : Inside W) (v : ZoneState) (sound : IsSound z v) (view : 
 
   mark_view : history ≡ told z.history (Mark block) → state_of (after_mark z block true history) ≡ block_marked v block
   mark_view is =
-      let marked = marks_put z.marked.items block true (omega (arith, small, sound.marks)) in
+      let marked = marks_put z.marks block true (omega (arith, small, sound.marks)) in
       let here : state_of (after_mark z block true history) ≡ block_marked (state_of z) block =
       λ i. record (state_of z) { records = (is i).records; room = (is i).room; round = (is i).round; marked = marked i } in
       here ∙ ap (λ (s : ZoneState). block_marked s block) view
 
   unmark_view : history ≡ told z.history (Unmark block) → state_of (after_mark z block false history) ≡ block_unmarked v block
   unmark_view is =
-      let marked = marks_put z.marked.items block false (omega (arith, small, sound.marks)) in
+      let marked = marks_put z.marks block false (omega (arith, small, sound.marks)) in
       let here : state_of (after_mark z block false history) ≡ block_unmarked (state_of z) block =
       λ i. record (state_of z) { records = (is i).records; room = (is i).room; round = (is i).round; marked = marked i } in
       here ∙ ap (λ (s : ZoneState). block_unmarked s block) view
 
-  pub mark_holds : {place : ℕ} → place ≡ block → history ≡ told z.history (Mark block) → Becomes (after_mark z place true history) (block_marked v block)
-  mark_holds at is = becomes {ideal = after_mark z block true history} (λ i. after_mark z (at i) true history) (mark_view is) mark_sound
+  pub mark_holds : {place : ℕ} {marks : List Bool} → place ≡ block → marks ≡ slice_set z.marks place true → history ≡ told z.history (Mark block) → Becomes (with_marks z marks history) (block_marked v block)
+  mark_holds at set is = becomes {ideal = after_mark z block true history} (ap (λ (ms : List Bool). with_marks z ms history) (set ∙ ap (λ k. slice_set z.marks k true) at)) (mark_view is) mark_sound
 
-  pub unmark_holds : {place : ℕ} → place ≡ block → history ≡ told z.history (Unmark block) → Becomes (after_mark z place false history) (block_unmarked v block)
-  unmark_holds at is = becomes {ideal = after_mark z block false history} (λ i. after_mark z (at i) false history) (unmark_view is) unmark_sound
-
--- a mark, as it is read from the list
-pub mark_read : (marks : List Bool) (block : ℕ) (mark : Bool) → block < length marks → mark ≡ slice_index_or marks block mark → mark ≡ true_at marks block
-mark_read [] block mark within is = let none : ⊥ = omega (arith, within) in absurd none
-mark_read (m ∷ rest) zero mark within is = is
-mark_read (m ∷ rest) (suc block) mark within is = mark_read rest block mark (omega (arith, within)) is
+  pub unmark_holds : {place : ℕ} {marks : List Bool} → place ≡ block → marks ≡ slice_set z.marks place false → history ≡ told z.history (Unmark block) → Becomes (with_marks z marks history) (block_unmarked v block)
+  unmark_holds at set is = becomes {ideal = after_mark z block false history} (ap (λ (ms : List Bool). with_marks z ms history) (set ∙ ap (λ k. slice_set z.marks k false) at)) (unmark_view is) unmark_sound

@@ -46,7 +46,7 @@ pub record IsFresh {W : ℕ} (z : Inside W) (number : ℕ) (size : ZoneSize) (pl
   pub notes : z.notes ≡ replicate (512 * size.blocks) unused_note
   pub handed_out : z.handed_out ≡ replicate (512 * size.blocks) None
   pub cleared : z.cleared ≡ replicate (512 * size.blocks) false
-  pub marked : z.marked.items ≡ replicate size.blocks false
+  pub marked : z.marks ≡ replicate size.blocks false
   pub fingers : z.fingers ≡ record { migrate = 0; free = 0 }
   pub moves : z.moves ≡ record { isolated = 0; moved = 0; back = 0 }
   pub history : z.history ≡ record { records = []; room = places; round = None }
@@ -55,8 +55,8 @@ pub opened_view : {W : ℕ} (z : Inside W) (number : ℕ) (size : ZoneSize) (pla
 opened_view {W} z number size places fresh =
     let u : gathered (is_unmovable_of z.notes) (length z.notes) ≡ set.empty =
     gathered_none (is_unmovable_of z.notes) (length z.notes) (λ page. ap (λ (ns : List PageNote). is_unmovable_of ns page) fresh.notes ∙ all_movable (512 * size.blocks) page) in
-    let m : gathered (true_at z.marked.items) (length z.marked.items) ≡ set.empty =
-    gathered_none (true_at z.marked.items) (length z.marked.items) (λ block. ap (λ (bs : List Bool). true_at bs block) fresh.marked ∙ all_false size.blocks block) in
+    let m : gathered (true_at z.marks) (length z.marks) ≡ set.empty =
+    gathered_none (true_at z.marks) (length z.marks) (λ block. ap (λ (bs : List Bool). true_at bs block) fresh.marked ∙ all_false size.blocks block) in
     let h : tabulated (order_of z.handed_out) (length z.handed_out) ≡ map.empty =
     tabulated_none (order_of z.handed_out) (length z.handed_out) (λ first. ap (λ (os : List (Option ℕ)). order_of os first) fresh.handed_out ∙ no_order (512 * size.blocks) first) in
     let c : tabulated (contents_at W z.words z.cleared z.handed_out) (length z.handed_out) ≡ map.empty =

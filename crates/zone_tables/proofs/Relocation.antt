@@ -190,7 +190,7 @@ module _ {W : ℕ} {z changed : Inside W} {v : ZoneState} {page : ℕ} {old new 
         cleared = ap (λ (y : Inside W). length y.cleared) known.rest_same ∙ sound.cleared;
         tables = known.frames_same ∙ sound.tables;
         size = known.size_same ∙ sound.size;
-        marks = ap (λ (y : Inside W). length y.marked.items) known.rest_same ∙ sound.marks;
+        marks = ap (λ (y : Inside W). length y.marks) known.rest_same ∙ sound.marks;
         frames = frames_fit v after page (Some old) (Some new) gets z.frames.states changed.frames.states sound.frames known.frames;
         movable = movable_fit v after page (Some old) (Some new) gets z.frames.movable changed.frames.movable (can_move v page) sound.movable known.movable (sym (can_still page)) (λ q ne. can_still q);
         entries = record { each = entries.each };
@@ -223,7 +223,7 @@ module _ {W : ℕ} {z changed : Inside W} {v : ZoneState} {page : ℕ} {old new 
         records = (known.history i).records;
         room = (known.history i).room;
         unmovable = unmovable_new i;
-        marked = gathered (true_at (known.rest_same i).marked.items) (length (known.rest_same i).marked.items);
+        marked = gathered (true_at (known.rest_same i).marks) (length (known.rest_same i).marks);
         handed_out = tabulated (order_of (known.rest_same i).handed_out) (length (known.rest_same i).handed_out);
         contents = known.contents_same i;
         placement = placement_new i;

@@ -3,8 +3,8 @@ use Rattle.std.proofs.Common.{◌≡◌, ℕ, zero, suc, ◌/◌, ◌<◌, Bool,
 use Rattle.std.specs.Prelude.{Option, Some, None, nat_le, nat_lt, slice_get, unwrap_or, ◌&&◌, ◌||◌, if◌then◌else◌}
 use Rattle.std.specs.FinMap as map
 use Rattle.std.proofs.lemmas.Option.{slice_get-get_or}
-use Rattle.frame_core.proofs.Searches.{lowest_same, some_same}
-use Rattle.frame_core.specs.Below.{highest, some_below}
+use Rattle.frame_core.proofs.Searches.{count_same, lowest_same, some_same}
+use Rattle.frame_core.specs.Below.{count_below, highest, some_below}
 use Rattle.frame_core.specs.declared.state.FrameState.{FrameState}
 use Rattle.frame_core.specs.declared.state.FrameState.TheVariants.{Free, Holds, Source, Target, Huge}
 use Rattle.scan_core.specs.Frames.{true_at, is_holding_state, is_huge_state}
@@ -14,6 +14,7 @@ use Rattle.scan_core.specs.declared.fingers.Step.TheVariants.{Pair, Met}
 use Rattle.state_core.proofs.Holding.{at_takes, holder_at}
 use Rattle.state_core.proofs.Pairing.{no_target_pair}
 use Rattle.state_core.specs.declared.placement.Placement.TheVariants.{At}
+use Rattle.state_core.specs.Packed.{unmarked_free}
 use Rattle.state_core.specs.Valid.{IsValidZone}
 use Rattle.state_core.specs.Pairs.{is_marked, can_move_if_some, stays_if_some, holder, holds_movable, is_free_unmarked, is_stuck, next_source, next_target, next_pair, pair_at}
 use Rattle.state_core.specs.ZoneState.{ZoneState, frame_count, is_held}
@@ -60,7 +61,7 @@ module _ {W : ℕ} {z : Inside W} {v : ZoneState} (view : state_of z ≡ v) (inv
   abbrev movable : List Bool
   movable = z.frames.movable
 
-  marked_seen : (frame : ℕ) → frame < frame_count v → scan.is_marked z.marked.items frame ≡ is_marked v frame
+  marked_seen : (frame : ℕ) → frame < frame_count v → scan.is_marked z.marks frame ≡ is_marked v frame
   marked_seen frame h = mark_seen z v view (frame / 512) (omega (arith, h, sound.marks))
 
   held_page : (frame page : ℕ) → frame < frame_count v → slice_get states frame ≡ Some (Holds page) → map.get v.placement page ≡ Some (At frame)
@@ -94,43 +95,48 @@ module _ {W : ℕ} {z : Inside W} {v : ZoneState} (view : state_of z ≡ v) (inv
       let holds = holder_at v law page frame here in
       ap (λ (o : Option Bool). not (unwrap_or o false)) (sound.movable.each page frame here) ∙ sym (λ i. clear i || stays_if_some v (holds i))
 
-  pub source_seen : (frame : ℕ) → frame < frame_count v → scan.is_source states movable z.marked.items frame ≡ holds_movable v frame
+  pub source_seen : (frame : ℕ) → frame < frame_count v → scan.is_source states movable z.marks frame ≡ holds_movable v frame
   source_seen frame h = λ i. not (marked_seen frame h i) && by_state frame h (slice_get states frame) refl i
 
-  pub target_seen : (frame : ℕ) → frame < frame_count v → scan.is_target states z.marked.items frame ≡ is_free_unmarked v frame
+  pub target_seen : (frame : ℕ) → frame < frame_count v → scan.is_target states z.marks frame ≡ is_free_unmarked v frame
   target_seen frame h = λ i. not (marked_seen frame h i) && free_seen states v fit frame h i
 
-  pub stuck_seen : (frame : ℕ) → frame < frame_count v → scan.is_stuck states movable z.marked.items frame ≡ is_stuck v frame
+  pub stuck_seen : (frame : ℕ) → frame < frame_count v → scan.is_stuck states movable z.marks frame ≡ is_stuck v frame
   stuck_seen frame h = λ i. not (marked_seen frame h i) && stuck_by_state frame h (slice_get states frame) refl i
 
-  pub any_stuck_seen : some_below (scan.is_stuck states movable z.marked.items) (length states) ≡ some_below (is_stuck v) (frame_count v)
+  pub any_stuck_seen : some_below (scan.is_stuck states movable z.marks) (length states) ≡ some_below (is_stuck v) (frame_count v)
   any_stuck_seen =
-      sym (some_same (scan.is_stuck states movable z.marked.items) (is_stuck v) (length states) (λ frame h. stuck_seen frame (omega (arith, h, fit.count))))
+      sym (some_same (scan.is_stuck states movable z.marks) (is_stuck v) (length states) (λ frame h. stuck_seen frame (omega (arith, h, fit.count))))
       ∙ ap (some_below (is_stuck v)) fit.count
+
+  pub vacant_seen : count_below (scan.is_target states z.marks) (length states) ≡ unmarked_free v
+  vacant_seen =
+      count_same (scan.is_target states z.marks) (is_free_unmarked v) (length states) (λ frame h. target_seen frame (omega (arith, h, fit.count)))
+      ∙ ap (count_below (is_free_unmarked v)) fit.count
 
   abbrev fingers : Fingers
   fingers = record { migrate = v.migrate; free = v.free }
 
-  pub next_source_seen : scan.next_source states movable z.marked.items fingers ≡ next_source v
+  pub next_source_seen : scan.next_source states movable z.marks fingers ≡ next_source v
   next_source_seen =
-      lowest_same (λ frame. nat_le v.migrate frame && scan.is_source states movable z.marked.items frame) (λ frame. nat_le v.migrate frame && holds_movable v frame) v.free
+      lowest_same (λ frame. nat_le v.migrate frame && scan.is_source states movable z.marks frame) (λ frame. nat_le v.migrate frame && holds_movable v frame) v.free
       (λ frame h. let high = law.fingers.ordered.1 in ap (λ b. nat_le v.migrate frame && b) (source_seen frame (omega (arith, h, high))))
 
-  pub next_target_seen : (source : ℕ) → scan.next_target states z.marked.items fingers source ≡ next_target v source
+  pub next_target_seen : (source : ℕ) → scan.next_target states z.marks fingers source ≡ next_target v source
   next_target_seen source =
-      highest_same (λ frame. nat_lt source frame && scan.is_target states z.marked.items frame) (λ frame. nat_lt source frame && is_free_unmarked v frame) v.free
+      highest_same (λ frame. nat_lt source frame && scan.is_target states z.marks frame) (λ frame. nat_lt source frame && is_free_unmarked v frame) v.free
       (λ frame h. let high = law.fingers.ordered.1 in ap (λ b. nat_lt source frame && b) (target_seen frame (omega (arith, h, high))))
 
-  pub pair_seen : {source target : ℕ} → Pair source target ≡ scan.next_step states movable z.marked.items z.fingers → (next_source v ≡ Some source) × (next_target v source ≡ Some target)
-  pair_seen {source} {target} e = by_source (scan.next_source states movable z.marked.items fingers) refl (e ∙ ap (scan.next_step states movable z.marked.items) (fingers_seen z v view)) where
-    by_source : (o : Option ℕ) → scan.next_source states movable z.marked.items fingers ≡ o → Pair source target ≡ scan.step_from states z.marked.items fingers o → (next_source v ≡ Some source) × (next_target v source ≡ Some target)
+  pub pair_seen : {source target : ℕ} → Pair source target ≡ scan.next_step states movable z.marks z.fingers → (next_source v ≡ Some source) × (next_target v source ≡ Some target)
+  pair_seen {source} {target} e = by_source (scan.next_source states movable z.marks fingers) refl (e ∙ ap (scan.next_step states movable z.marks) (fingers_seen z v view)) where
+    by_source : (o : Option ℕ) → scan.next_source states movable z.marks fingers ≡ o → Pair source target ≡ scan.step_from states z.marks fingers o → (next_source v ≡ Some source) × (next_target v source ≡ Some target)
     by_source None is e = cc
     by_source (Some s) is e =
-        let both = pair_to s source target (scan.next_target states z.marked.items fingers s) e in
+        let both = pair_to s source target (scan.next_target states z.marks fingers s) e in
         (sym next_source_seen ∙ is ∙ ap Some both.0, ap (next_target v) (sym both.0) ∙ sym (next_target_seen s) ∙ both.1)
 
-  pub met_seen : Met ≡ scan.next_step states movable z.marked.items z.fingers → next_pair v ≡ None
-  met_seen e = by_source (scan.next_source states movable z.marked.items fingers) refl (e ∙ ap (scan.next_step states movable z.marked.items) (fingers_seen z v view)) where
-    by_source : (o : Option ℕ) → scan.next_source states movable z.marked.items fingers ≡ o → Met ≡ scan.step_from states z.marked.items fingers o → next_pair v ≡ None
+  pub met_seen : Met ≡ scan.next_step states movable z.marks z.fingers → next_pair v ≡ None
+  met_seen e = by_source (scan.next_source states movable z.marks fingers) refl (e ∙ ap (scan.next_step states movable z.marks) (fingers_seen z v view)) where
+    by_source : (o : Option ℕ) → scan.next_source states movable z.marks fingers ≡ o → Met ≡ scan.step_from states z.marks fingers o → next_pair v ≡ None
     by_source None is e = ap (pair_at v) (sym next_source_seen ∙ is)
-    by_source (Some s) is e = no_target_pair v s (sym next_source_seen ∙ is) (sym (next_target_seen s) ∙ met_to s (scan.next_target states z.marked.items fingers s) e)
+    by_source (Some s) is e = no_target_pair v s (sym next_source_seen ∙ is) (sym (next_target_seen s) ∙ met_to s (scan.next_target states z.marks fingers s) e)

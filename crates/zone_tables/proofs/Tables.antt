@@ -66,10 +66,10 @@ words_seen rows v fit law page placement at =
       zone k = omega arith
 
 -- the marks of pageblocks are those of the state
-pub mark_seen : {W : ℕ} (z : Inside W) (v : ZoneState) → state_of z ≡ v → (block : ℕ) → block < length z.marked.items →
-    true_at z.marked.items block ≡ set.contains v.marked block
+pub mark_seen : {W : ℕ} (z : Inside W) (v : ZoneState) → state_of z ≡ v → (block : ℕ) → block < length z.marks →
+    true_at z.marks block ≡ set.contains v.marked block
 mark_seen z v view block h =
-    sym (gathered_in (true_at z.marked.items) (length z.marked.items) block h)
+    sym (gathered_in (true_at z.marks) (length z.marks) block h)
     ∙ ap (λ (u : ZoneState). set.contains u.marked block) view
 
 pub placement_seen : {W : ℕ} (z : Inside W) (v : ZoneState) → state_of z ≡ v → (page : ℕ) →

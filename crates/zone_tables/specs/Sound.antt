@@ -22,7 +22,7 @@ state_of {W} z = record {
   records = z.history.records;
   room = z.history.room;
   unmovable = gathered (is_unmovable_of z.notes) (length z.notes);
-  marked = gathered (true_at z.marked.items) (length z.marked.items);
+  marked = gathered (true_at z.marks) (length z.marks);
   handed_out = tabulated (order_of z.handed_out) (length z.handed_out);
   contents = tabulated (contents_at W z.words z.cleared z.handed_out) (length z.handed_out);
   placement = tabulated (placement_of z.notes) (length z.notes);
@@ -36,7 +36,7 @@ pub record IsSound {W : ℕ} (z : Inside W) (v : ZoneState) : Type 0 where
   pub valid : IsValidZone v
   pub orders : length z.handed_out ≡ frame_count v
   pub cleared : length z.cleared ≡ frame_count v
-  pub marks : length z.marked.items ≡ v.blocks
+  pub marks : length z.marks ≡ v.blocks
   pub frames : FramesFit z.frames.states v
   pub movable : MovableFit z.frames.movable v
   pub tables : z.tables.frames ≡ frame_count v

@@ -6,6 +6,7 @@ ghost use Rattle.fewest_core.specs.FewestMoves.{IsMove, cost, is_open};
 ghost use Rattle.fewest_core.specs.Reservation.{has_room_to_reserve};
 ghost use Rattle.state_core.specs.HandingOut.{has_block};
 ghost use Rattle.state_core.specs.Isolating.{isolate_refusal};
+ghost use Rattle.state_core.specs.Packed.{unmarked_free};
 ghost use Rattle.state_core.specs.Pairs.{is_free_unmarked};
 ghost use Rattle.state_core.specs.Valid.{IsValidZone};
 ghost use Rattle.state_core.specs.ZoneState.{frame_count};
@@ -33,6 +34,13 @@ impl<const W: usize> ZoneTables<W> {
         ensures { result ≡ is_free_unmarked self.now frame }
     {
         !self.is_marked(block_of(frame)) && self.is_free(frame)
+    }
+
+    /// How many frames of unmarked pageblocks are free. It looks at a count of each pageblock.
+    pub fn vacant(&self) -> u32
+        ensures { result ≡ unmarked_free self.now }
+    {
+        self.frames.vacant(&self.marks)
     }
 
     /// Whether the journal has room for so many isolations and their ends.

@@ -36,7 +36,7 @@ impl<const W: usize> ZoneTables<W> {
         ensures none { IfNone result ((page source target : ℕ) → IsPair self.now page source target → ⊥) }
     {
         let mut fingers = self.fingers;
-        let Step::Pair { source, target } = self.frames.next_pair(&self.marked, &mut fingers) else {
+        let Step::Pair { source, target } = self.frames.next_pair(&self.marks, &mut fingers) else {
             return None;
         };
         let page = self.holder(source)?;
@@ -112,7 +112,7 @@ impl<const W: usize> ZoneTables<W> {
     fn is_calm(&self) -> bool
         ensures { result ≡ is_calm self.now }
     {
-        self.moves.out() == 0 && !self.frames.is_any_stuck(&self.marked)
+        self.moves.out() == 0 && !self.frames.is_any_stuck(&self.marks)
     }
 
     /// The fingers with which a round begins: the migrate finger at the bottom of the zone, and the free finger above its top.

@@ -22,7 +22,7 @@ impl<const W: usize> ZoneTables<W> {
         requires { block < self.now.blocks }
         ensures { result ≡ set.contains self.now.marked block }
     {
-        self.marked[block.get() as usize]
+        self.marks.is_marked(block.get())
     }
 
     /// Marks a pageblock.
@@ -32,7 +32,7 @@ impl<const W: usize> ZoneTables<W> {
         ensures step { self.new ≡ block_marked self.old block }
         ensures valid { IsValidZone self.new }
     {
-        self.marked[block.get() as usize] = true;
+        self.marks.set(block.get(), true);
         self.history.note(Record::Mark { block });
     }
 
@@ -43,7 +43,7 @@ impl<const W: usize> ZoneTables<W> {
         ensures step { self.new ≡ block_unmarked self.old block }
         ensures valid { IsValidZone self.new }
     {
-        self.marked[block.get() as usize] = false;
+        self.marks.set(block.get(), false);
         self.history.note(Record::Unmark { block });
     }
 }

@@ -13,8 +13,8 @@ use crate::history::History;
 use crate::moves::Moves;
 use crate::notes::Notes;
 use crate::zone::ZoneTables;
-use frame_core::{FixedVec, WordsOf, ZoneNo};
-use scan_core::{Fingers, Frames};
+use frame_core::{WordsOf, ZoneNo};
+use scan_core::{Fingers, Frames, Marks};
 use state_core::{ZoneError, ZoneSize};
 use std::alloc::{AllocError, Global};
 use table_core::Tables;
@@ -57,7 +57,7 @@ impl<const W: usize> ZoneTables<W> {
         ensures ok { IfOk result (λ zone. zone ≡ opened_sized W number size history.room) }
         ensures valid { IfOk result (λ zone. IsValidZone zone) }
     {
-        let (handed_out, cleared, marked) = open_blocks(alloc, size.blocks)?;
+        let (handed_out, cleared, marks) = open_blocks(alloc, size.blocks)?;
         let notes = Notes::open(alloc, 512 * size.blocks)?;
         let (frames, tables, words) = open_memory(alloc, size)?;
         Ok(ZoneTables {
@@ -70,7 +70,7 @@ impl<const W: usize> ZoneTables<W> {
             moves: Moves::none(),
             handed_out,
             cleared,
-            marked,
+            marks,
             fingers: Fingers::new(),
             history,
         })
@@ -99,15 +99,15 @@ fn open_memory<const W: usize>(
 fn open_blocks(
     alloc: Global,
     blocks: u32,
-) -> Result<(HandedOut, Cleared, FixedVec<bool>), AllocError>
+) -> Result<(HandedOut, Cleared, Marks), AllocError>
     requires { blocks ≤ 32768 }
     ensures handed_out { IfOk result (λ held. held.0 ≡ replicate (512 * blocks) None) }
     ensures cleared { IfOk result (λ held. held.1 ≡ replicate (512 * blocks) false) }
-    ensures marked { IfOk result (λ held. held.2.items ≡ replicate blocks false) }
+    ensures marks { IfOk result (λ held. held.2 ≡ replicate blocks false) }
 {
     let frames = 512 * blocks;
     let handed_out = HandedOut::open(alloc, frames)?;
     let cleared = Cleared::open(alloc, frames)?;
-    let marked = FixedVec::filled(alloc, false, blocks as usize)?;
-    Ok((handed_out, cleared, marked))
+    let marks = Marks::none(alloc, blocks)?;
+    Ok((handed_out, cleared, marks))
 }

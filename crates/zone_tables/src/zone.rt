@@ -5,8 +5,8 @@ use crate::handed_out::HandedOut;
 use crate::history::History;
 use crate::moves::Moves;
 use crate::notes::Notes;
-use frame_core::{FixedVec, WordsOf, ZoneNo};
-use scan_core::{Fingers, Frames};
+use frame_core::{WordsOf, ZoneNo};
+use scan_core::{Fingers, Frames, Marks};
 use state_core::ZoneSize;
 use std::marker::Model;
 use table_core::Tables;
@@ -23,8 +23,7 @@ pub struct ZoneTables<const W: usize> {
     pub(crate) moves: Moves,
     pub(crate) handed_out: HandedOut,
     pub(crate) cleared: Cleared,
-    /// Whether each pageblock is marked.
-    pub(crate) marked: FixedVec<bool>,
+    pub(crate) marks: Marks,
     pub(crate) fingers: Fingers,
     pub(crate) history: History,
 }

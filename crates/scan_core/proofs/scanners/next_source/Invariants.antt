@@ -7,7 +7,7 @@ use Rattle.scan_core.proofs.scanners.next_source.Given as goal
 abbrev pub invariant-loop-next : goal.invariant-loop-next
 invariant-loop-next l = record {
   low : l.fn.fingers.migrate ≤ l.next;
-  before : (k : ℕ) → k < l.next → (nat_le l.fn.fingers.migrate k && (not (is_marked l.marked k) && set.contains l.sources.members k)) ≡ false;
+  before : (k : ℕ) → k < l.next → (nat_le l.fn.fingers.migrate k && (not (is_marked l.marks k) && set.contains l.sources.members k)) ≡ false;
 }
 
 abbrev pub decreases-loop-next : goal.decreases-loop-next

@@ -6,7 +6,7 @@ use Rattle.scan_core.proofs.scanners.next_target.Given as goal
 
 abbrev pub invariant-loop-end : goal.invariant-loop-end
 invariant-loop-end l = record {
-  above : (k : ℕ) → l.end ≤ k → k < l.fn.fingers.free → (nat_lt l.source k && (not (is_marked l.marked k) && set.contains l.free.members k)) ≡ false;
+  above : (k : ℕ) → l.end ≤ k → k < l.fn.fingers.free → (nat_lt l.source k && (not (is_marked l.marks k) && set.contains l.free.members k)) ≡ false;
   high : l.end ≤ l.fn.fingers.free;
 }
 

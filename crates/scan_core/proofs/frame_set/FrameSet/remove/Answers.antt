@@ -4,7 +4,7 @@ use Rattle.std.specs.FinSet as set
 use Rattle.number_set.specs.Numbers.{Numbers}
 use Rattle.scan_core.proofs.FrameSets.{removes_one}
 use Rattle.scan_core.proofs.Numbering.{member_remove}
-use Rattle.scan_core.proofs.SetSteps.{fewer_has, fewer_most, fewer_room, set_fewer}
+use Rattle.scan_core.proofs.SetSteps.{fewer_has, fewer_room, set_fewer}
 use Rattle.scan_core.proofs.frame_set.FrameSet.remove.Goals as goal
 
 pub overflow_sub-self : goal.overflow_sub-self
@@ -18,12 +18,6 @@ fewer-requires-clause-counted c =
     let low : c.args.frame < 512 * length c.self.inside.blocks = omega (arith, ap (λ (s : Numbers). s.bound) c.self.view_is, c.requires.within) in
     let adds = removes_one c.self.inside.numbers.members c.remove.new.self.members c.args.frame c.get-2.result c.get-2.ensures.value (ap (λ (s : Numbers). set.contains s.members c.args.frame) c.self.view_is ∙ c.requires.member) (ap (λ (s : Numbers). s.members) c.remove.ensures) in
     fewer_room c.self.inside c.self.invariant c.remove.new.self c.args.frame c.get-3.result 1 low (omega arith) c.get-3.ensures.value adds
-
-pub fewer-requires-clause-most : goal.fewer-requires-clause-most
-fewer-requires-clause-most c =
-    let low : c.args.frame < 512 * length c.self.inside.blocks = omega (arith, ap (λ (s : Numbers). s.bound) c.self.view_is, c.requires.within) in
-    let adds = removes_one c.self.inside.numbers.members c.remove.new.self.members c.args.frame c.get-2.result c.get-2.ensures.value (ap (λ (s : Numbers). set.contains s.members c.args.frame) c.self.view_is ∙ c.requires.member) (ap (λ (s : Numbers). s.members) c.remove.ensures) in
-    fewer_most c.self.inside c.self.invariant c.remove.new.self c.args.frame c.get-3.result 1 low (omega arith) c.get-3.ensures.value
 
 pub remove_frame-requires : goal.remove_frame-requires
 remove_frame-requires c =

@@ -8,7 +8,7 @@ use Rattle.scan_core.specs.WholeRuns.{Empties}
 use Rattle.scan_core.proofs.HeapSteps.{run_went}
 use Rattle.scan_core.proofs.Orders.{no_rest, one_block, some_frames}
 use Rattle.scan_core.proofs.FrameSets.{removes_run}
-use Rattle.scan_core.proofs.SetSteps.{fewer_has, fewer_most, fewer_room, set_fewer}
+use Rattle.scan_core.proofs.SetSteps.{fewer_has, fewer_room, set_fewer}
 use Rattle.scan_core.proofs.frame_set.FrameSet.remove_run.Goals as goal
 
 pub remove_run-requires : goal.remove_run-requires
@@ -39,16 +39,6 @@ fewer-requires-clause-counted c =
     (λ k e. ap (λ (s : Numbers). set.contains s.members k) c.self.view_is ∙ c.requires.all k (ap (λ m. in_run c.args.first m k) (sym c.frames-frames.ensures.value) ∙ e))
     (λ k. c.remove_run.ensures.run k ∙ ap (λ m. not (in_run c.get.result m k) && set.contains c.self.inside.numbers.members k) count) in
     fewer_room c.self.inside c.self.invariant c.remove_run.new.self c.args.first c.get-3.result c.frames-frames.result low within c.get-3.ensures.value adds
-
-pub fewer-requires-clause-most : goal.fewer-requires-clause-most
-fewer-requires-clause-most c =
-    let low : c.args.first < 512 * length c.self.inside.blocks = omega (arith, ap (λ (s : Numbers). s.bound) c.self.view_is, c.requires.within, some_frames c.args.order c.frames-frames.ensures.low c.frames-frames.ensures.high) in
-    let within : c.args.first % 512 + c.frames-frames.result ≤ 512 = omega (arith, c.frames-frames.ensures.value, one_block c.args.order c.frames-frames.ensures.low c.frames-frames.ensures.high c.args.first c.requires.aligned) in
-    let count = ap (λ o. 2 ^ o) c.get-2.ensures.value ∙ sym c.frames-frames.ensures.value in
-    let adds = removes_run c.self.inside.numbers.members c.remove_run.new.self.members c.args.first c.get.result c.frames-frames.result c.get.ensures.value
-    (λ k e. ap (λ (s : Numbers). set.contains s.members k) c.self.view_is ∙ c.requires.all k (ap (λ m. in_run c.args.first m k) (sym c.frames-frames.ensures.value) ∙ e))
-    (λ k. c.remove_run.ensures.run k ∙ ap (λ m. not (in_run c.get.result m k) && set.contains c.self.inside.numbers.members k) count) in
-    fewer_most c.self.inside c.self.invariant c.remove_run.new.self c.args.first c.get-3.result c.frames-frames.result low within c.get-3.ensures.value
 
 pub remove-requires : goal.remove-requires
 remove-requires c =

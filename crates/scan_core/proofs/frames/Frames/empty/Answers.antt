@@ -25,7 +25,6 @@ remove-requires c =
       room = step.in_sources c.self.inside c.self.invariant c.self.view_is c.args.frame within;
       block = step.in_block c.self.inside c.self.invariant c.self.view_is c.args.frame within;
       some = λ e. step.stuck_some c.self.inside c.self.invariant c.self.view_is c.args.frame within (step.page_is_stuck c.self.inside c.self.invariant c.self.view_is c.args.frame c.requires ∙ ap not (sym read ∙ e));
-      most = step.stuck_most c.self.inside c.self.invariant c.self.view_is c.args.frame within;
       is = step.page_is_source c.self.inside c.self.invariant c.self.view_is c.args.frame c.requires ∙ sym read;
     }
 

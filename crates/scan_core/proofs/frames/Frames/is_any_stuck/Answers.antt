@@ -10,5 +10,5 @@ has_some_unmarked-requires c = omega (arith, c.requires, stuck_frames c.self.ins
 
 pub returns : goal.returns
 returns c =
-    c.has_some_unmarked.ensures ∙ stuck_by_counts c.self.inside c.self.invariant c.args.marked.now
-    ∙ ap (λ (frames : Frames). some_below (is_stuck frames.states frames.movable c.args.marked.now) (length frames.states)) c.self.view_is
+    c.has_some_unmarked.ensures ∙ stuck_by_counts c.self.inside c.self.invariant c.args.marks.now
+    ∙ ap (λ (frames : Frames). some_below (is_stuck frames.states frames.movable c.args.marks.now) (length frames.states)) c.self.view_is

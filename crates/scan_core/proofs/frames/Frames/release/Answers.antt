@@ -25,10 +25,6 @@ pub fewer-requires-clause-counted : goal.fewer-requires-clause-counted
 fewer-requires-clause-counted c =
     omega (arith, step.run_stuck c.self.inside c.self.invariant c.self.view_is c.args.first c.args.order c.frames.ensures.low c.frames.ensures.high c.requires.block c.requires.huge, c.frames.ensures.value, ap (λ n. slice_index c.self.inside.candidates.stuck (n / 512)) c.get-3.ensures.value)
 
-pub fewer-requires-clause-most : goal.fewer-requires-clause-most
-fewer-requires-clause-most c =
-    omega (arith, step.run_most c.self.inside c.self.invariant c.self.view_is c.args.first c.args.order c.frames.ensures.low c.frames.ensures.high c.requires.block, ap (λ n. slice_index c.self.inside.candidates.stuck (n / 512)) c.get-3.ensures.value)
-
 pub insert_run-requires : goal.insert_run-requires
 insert_run-requires c =
     record {

@@ -20,7 +20,6 @@ turn-requires c =
       block = step.in_block c.self.inside c.self.invariant c.self.view_is c.args.frame within;
       some = λ e. step.stuck_some c.self.inside c.self.invariant c.self.view_is c.args.frame within (step.page_is_stuck c.self.inside c.self.invariant c.self.view_is c.args.frame c.requires ∙ ap not flag ∙ ap (λ b. not (not b)) e);
       less = λ e. step.stuck_less c.self.inside c.self.invariant c.self.view_is c.args.frame within (step.page_is_stuck c.self.inside c.self.invariant c.self.view_is c.args.frame c.requires ∙ ap not flag ∙ ap (λ b. not (not b)) e);
-      most = step.stuck_most c.self.inside c.self.invariant c.self.view_is c.args.frame within;
       is = step.page_is_source c.self.inside c.self.invariant c.self.view_is c.args.frame c.requires ∙ flag;
     }
 

@@ -13,8 +13,7 @@ use Rattle.std.proofs.lemmas.Bool.{eq-eqb, ne_eqb}
 pub returns-then-out-eq0 : goal.returns-then-out-eq0
 returns-then-out-eq0 g c =
     let out = out_seen c.self.view_is c.self.invariant c.out.ensures in
-    let marks = ap (λ (marks : List Bool). some_below (scan.is_stuck c.self.inside.frames.states c.self.inside.frames.movable marks) (length c.self.inside.frames.states)) c.deref.ensures.value in
-    let stuck = c.is_any_stuck.ensures ∙ marks ∙ any_stuck_seen c.self.view_is c.self.invariant in
+    let stuck = c.is_any_stuck.ensures ∙ any_stuck_seen c.self.view_is c.self.invariant in
     ap not stuck ∙ sym (ap (λ b. b && not (some_below (is_stuck c.args.self.now) (frame_count c.args.self.now))) (eq-eqb (length (out_now c.args.self.now.records)) 0 (sym out ∙ c.if-out-eq0.true)))
 
 pub returns-else-out-eq0 : goal.returns-else-out-eq0

@@ -8,40 +8,36 @@ use Rattle.zone_tables.proofs.Facts.{is_sound}
 use Rattle.zone_tables.proofs.Scanning.{pair_seen, met_seen}
 use Rattle.zone_tables.proofs.zone.ZoneTables.next_pair.Goals as goal
 
--- the step that was found is that of the zone's own marks
-marked_step : {W : ℕ} (z : Inside W) (marks : List Bool) (step : Step) → marks ≡ z.marked.items → step ≡ next_step z.frames.states z.frames.movable marks z.fingers → step ≡ next_step z.frames.states z.frames.movable z.marked.items z.fingers
-marked_step z marks step same is = is ∙ ap (λ (ms : List Bool). next_step z.frames.states z.frames.movable ms z.fingers) same
-
 pub returns-in_default-clause-pair : goal.returns-in_default-clause-pair
-returns-in_default-clause-pair g c = sym (met_seen c.self.view_is c.self.invariant (sym c.in_default.is ∙ marked_step c.self.inside c.deref.result.now c.next_pair.result c.deref.ensures.value c.next_pair.ensures.step))
+returns-in_default-clause-pair g c = sym (met_seen c.self.view_is c.self.invariant (sym c.in_default.is ∙ c.next_pair.ensures.step))
 
 pub returns-in_default-clause-none : goal.returns-in_default-clause-none
 returns-in_default-clause-none g c =
-    none_found c.args.self.now (is_sound c.self.view_is c.self.invariant).valid None refl (met_seen c.self.view_is c.self.invariant (sym c.in_default.is ∙ marked_step c.self.inside c.deref.result.now c.next_pair.result c.deref.ensures.value c.next_pair.ensures.step))
+    none_found c.args.self.now (is_sound c.self.view_is c.self.invariant).valid None refl (met_seen c.self.view_is c.self.invariant (sym c.in_default.is ∙ c.next_pair.ensures.step))
 
 pub holder-requires : goal.holder-requires
 holder-requires g c =
-    let found = pair_seen c.self.view_is c.self.invariant (sym c.in-Pair.is ∙ marked_step c.self.inside c.deref.result.now c.next_pair.result c.deref.ensures.value c.next_pair.ensures.step) in
+    let found = pair_seen c.self.view_is c.self.invariant (sym c.in-Pair.is ∙ c.next_pair.ensures.step) in
     (omega arith, source_within c.args.self.now (is_sound c.self.view_is c.self.invariant).valid c.in-Pair.source found.0)
 
 pub returns-in_err-page-clause-pair : goal.returns-in_err-page-clause-pair
 returns-in_err-page-clause-pair g c =
-    let found = pair_seen c.self.view_is c.self.invariant (sym c.in-Pair.is ∙ marked_step c.self.inside c.deref.result.now c.next_pair.result c.deref.ensures.value c.next_pair.ensures.step) in
+    let found = pair_seen c.self.view_is c.self.invariant (sym c.in-Pair.is ∙ c.next_pair.ensures.step) in
     c.from_residual.ensures ∙ sym (no_page_pair c.args.self.now c.in-Pair.source found.0 (sym c.holder.ensures.holder ∙ c.in_err-page.was))
 
 pub returns-in_err-page-clause-none : goal.returns-in_err-page-clause-none
 returns-in_err-page-clause-none g c =
-    let found = pair_seen c.self.view_is c.self.invariant (sym c.in-Pair.is ∙ marked_step c.self.inside c.deref.result.now c.next_pair.result c.deref.ensures.value c.next_pair.ensures.step) in
+    let found = pair_seen c.self.view_is c.self.invariant (sym c.in-Pair.is ∙ c.next_pair.ensures.step) in
     none_found c.args.self.now (is_sound c.self.view_is c.self.invariant).valid c.from_residual.result c.from_residual.ensures
     (no_page_pair c.args.self.now c.in-Pair.source found.0 (sym c.holder.ensures.holder ∙ c.in_err-page.was))
 
 pub returns-clause-pair : goal.returns-clause-pair
 returns-clause-pair g c =
-    let found = pair_seen c.self.view_is c.self.invariant (sym c.in-Pair.is ∙ marked_step c.self.inside c.deref.result.now c.next_pair.result c.deref.ensures.value c.next_pair.ensures.step) in
+    let found = pair_seen c.self.view_is c.self.invariant (sym c.in-Pair.is ∙ c.next_pair.ensures.step) in
     sym (pair_of c.args.self.now c.in-Pair.source c.in_ok-page.page c.in-Pair.target found.0 found.1 (sym c.holder.ensures.holder ∙ c.in_ok-page.was))
 
 pub returns-clause-is_pair : goal.returns-clause-is_pair
 returns-clause-is_pair g c =
-    let found = pair_seen c.self.view_is c.self.invariant (sym c.in-Pair.is ∙ marked_step c.self.inside c.deref.result.now c.next_pair.result c.deref.ensures.value c.next_pair.ensures.step) in
+    let found = pair_seen c.self.view_is c.self.invariant (sym c.in-Pair.is ∙ c.next_pair.ensures.step) in
     pair_found c.args.self.now (is_sound c.self.view_is c.self.invariant).valid (record { page = c.in_ok-page.page; source = c.in-Pair.source; target = c.in-Pair.target })
     (pair_of c.args.self.now c.in-Pair.source c.in_ok-page.page c.in-Pair.target found.0 found.1 (sym c.holder.ensures.holder ∙ c.in_ok-page.was))

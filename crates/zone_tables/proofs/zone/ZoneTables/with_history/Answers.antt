@@ -19,7 +19,7 @@ new_zone c = record {
   moves = c.none.result;
   handed_out = c.in_ok-handed_out.handed_out;
   cleared = c.in_ok-handed_out.cleared;
-  marked = c.in_ok-handed_out.marked;
+  marks = c.in_ok-handed_out.marks;
   fingers = c.new.result;
   history = c.args.history;
 }
@@ -38,7 +38,7 @@ fresh c = record {
   notes = c.in_ok-notes.ensures;
   handed_out = c.in_ok-handed_out.ensures.handed_out;
   cleared = c.in_ok-handed_out.ensures.cleared;
-  marked = c.in_ok-handed_out.ensures.marked;
+  marked = c.in_ok-handed_out.ensures.marks;
   fingers = c.new.ensures;
   moves = c.none.ensures;
   history = c.requires.none;
