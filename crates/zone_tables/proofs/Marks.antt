@@ -1,7 +1,7 @@
 -- A pageblock is marked, or its mark is taken off: the zone stays sound.
-use Rattle.std.proofs.Common.{◌≡◌, ℕ, zero, suc, ◌<◌, ◌≤◌, Bool, true, false, [], ◌∷◌, List, length, refl, ap, ◌∙◌, arith}
+use Rattle.std.proofs.Common.{◌≡◌, ℕ, ◌<◌, ◌≤◌, Bool, true, false, List, length, refl, ap, ◌∙◌, arith}
 use Rattle.std.specs.FinSet as set
-use Rattle.std.specs.Prelude.{Option, slice_set, slice_index_or, unwrap_or, if◌then◌else◌}
+use Rattle.std.specs.Prelude.{Option, slice_set, unwrap_or, if◌then◌else◌}
 use Rattle.std.proofs.lemmas.List.{length-set}
 use Rattle.std.proofs.lemmas.Option.{slice_get_past}
 use Rattle.frame_core.specs.declared.record.Record.TheVariants.{Mark, Unmark}

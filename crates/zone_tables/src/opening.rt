@@ -96,10 +96,7 @@ fn open_memory<const W: usize>(
 }
 
 /// Which blocks are handed out, whether each of them is clear of words of pages, and which pageblocks are marked.
-fn open_blocks(
-    alloc: Global,
-    blocks: u32,
-) -> Result<(HandedOut, Cleared, Marks), AllocError>
+fn open_blocks(alloc: Global, blocks: u32) -> Result<(HandedOut, Cleared, Marks), AllocError>
     requires { blocks ≤ 32768 }
     ensures handed_out { IfOk result (λ held. held.0 ≡ replicate (512 * blocks) None) }
     ensures cleared { IfOk result (λ held. held.1 ≡ replicate (512 * blocks) false) }

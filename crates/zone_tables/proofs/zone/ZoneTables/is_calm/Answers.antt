@@ -1,8 +1,7 @@
-use Rattle.std.proofs.Common.{◌∙◌, Bool, List, not, length, ap, sym}
+use Rattle.std.proofs.Common.{◌∙◌, not, length, ap, sym}
 use Rattle.std.specs.Prelude.{nat_eq, ◌&&◌}
 use Rattle.frame_core.specs.Below.{some_below}
 use Rattle.frame_core.specs.Moves.{out as out_now}
-use Rattle.scan_core.specs.Pairs as scan
 use Rattle.state_core.specs.Pairs.{is_stuck}
 use Rattle.state_core.specs.ZoneState.{frame_count}
 use Rattle.zone_tables.proofs.Scanning.{any_stuck_seen}

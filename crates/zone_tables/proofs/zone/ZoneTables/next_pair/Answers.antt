@@ -1,7 +1,4 @@
-use Rattle.std.proofs.Common.{ℕ, ◌≡◌, ◌∙◌, Bool, List, ap, refl, sym, arith}
-use Rattle.scan_core.specs.Pairs.{next_step}
-use Rattle.scan_core.specs.declared.fingers.Step.{Step}
-use Rattle.zone_tables.specs.declared.zone.ZoneTables.TheInside.{Inside}
+use Rattle.std.proofs.Common.{◌∙◌, refl, sym, arith}
 use Rattle.std.specs.Prelude.{None}
 use Rattle.state_core.proofs.Pairing.{pair_found, pair_of, source_within, none_found, no_page_pair}
 use Rattle.zone_tables.proofs.Facts.{is_sound}
