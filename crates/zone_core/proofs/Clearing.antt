@@ -25,11 +25,12 @@ use Rattle.fewest_core.proofs.Costs.{cost_of_same}
 use Rattle.fewest_core.proofs.Counts.{count_within, none_counted, taken}
 use Rattle.fewest_core.proofs.Ranks.{picks_from, picks_parts, rank_alone}
 use Rattle.fewest_core.proofs.Reached.{is_spare, past}
-use Rattle.zone_core.proofs.Emptying.{HasEnough, IsEmptying, emptying_begins, frames_beside, goes_on_emptying, in_run, none_above, pages_below, passes_over, run_bounds, stays_emptying}
+use Rattle.zone_core.specs.Emptying.{HasEnough, IsEmptying, frames_beside, pages_below}
+use Rattle.zone_core.proofs.Emptying.{emptying_begins, goes_on_emptying, in_run, none_above, passes_over, run_bounds, stays_emptying}
 use Rattle.fewest_core.proofs.OpenRuns.{aligned, block_within}
 
 -- two tests that imply each other are the same
-both_same : (a b : Bool) → (a ≡ true → b ≡ true) → (b ≡ true → a ≡ true) → a ≡ b
+pub both_same : (a b : Bool) → (a ≡ true → b ≡ true) → (b ≡ true → a ≡ true) → a ≡ b
 both_same true b up down = sym (up refl)
 both_same false true up down = down refl
 both_same false false up down = refl
@@ -159,7 +160,7 @@ module _ (z : ZoneState) (order : ℕ) (firsts : List ℕ) (picked : ArePicked z
       let same : first a / size ≡ first b / size = sym (number_of a frame before here) ∙ number_of b frame h there in
       absurd (omega (arith, low, sym (picked.ranked a before) ∙ ap (rank z size) same ∙ picked.ranked b h)))
 
-  unshut : (frame : ℕ) → is_in frame ≡ true → is_shut z frame ≡ false
+  pub unshut : (frame : ℕ) → is_in frame ≡ true → is_shut z frame ≡ false
   unshut frame there =
       let at = any_found (λ k. is_in_run k size frame) firsts there in
       let bounds = run_bounds (first at.0) size frame at.2 in
@@ -250,10 +251,10 @@ pub record IsPartCleared (is_in : ℕ → Bool) (old z : ZoneState) (number top 
   pub low : top ≤ frame_count z
   pub above : (frame : ℕ) → top ≤ frame → frame < frame_count z → is_beside is_in z frame ≡ false
 
-pub clearing_begins : (z : ZoneState) (order : ℕ) (firsts : List ℕ) → ArePicked z order firsts → IsValidZone z → (top : ℕ) → top ≡ frame_count z → IsPartCleared (is_in_runs firsts (2 ^ order)) z z 0 top
-clearing_begins z order firsts picked law top at = record {
+pub clearing_begins : (is_in : ℕ → Bool) (z : ZoneState) → ((frame : ℕ) → is_in frame ≡ true → is_shut z frame ≡ false) → IsValidZone z → (top : ℕ) → top ≡ frame_count z → IsPartCleared is_in z z 0 top
+clearing_begins is_in z unshut law top at = record {
   same = refl;
-  emptying = emptying_begins (is_in_runs firsts (2 ^ order)) z (unshut z order firsts picked);
+  emptying = emptying_begins is_in z unshut;
   valid = law;
   low = omega (arith, at);
   above = λ frame from below. absurd (omega (arith, from, below, at));
@@ -308,3 +309,14 @@ module _ (is_in : ℕ → Bool) (old z : ZoneState) (number top : ℕ) (is : IsP
       low = subst (λ (u : ZoneState). target ≤ frame_count u) (sym step) (omega (arith, below));
       above = subst (λ (u : ZoneState). (frame : ℕ) → target ≤ frame → frame < frame_count u → is_beside is_in u frame ≡ false) (sym step) (none_above is_in old z number is.emptying in_it is.valid within enough page holds target found);
     })
+
+-- where none of the frames from `number` up to `last` passes
+pub clears_past : (is_in : ℕ → Bool) (old z : ZoneState) (number top last : ℕ) → IsPartCleared is_in old z number top → number ≤ last → ((frame : ℕ) → number ≤ frame → frame < last → is_in frame ≡ false) → IsPartCleared is_in old z last top
+clears_past is_in old z number top last is low none =
+    let all : number + (last - number) ≡ last = omega (arith, low) in
+    subst (λ (k : ℕ). IsPartCleared is_in old z k top) all (by_frames (last - number) (λ frame from below. none frame from (omega (arith, below, all)))) where
+  by_frames : (d : ℕ) → ((frame : ℕ) → number ≤ frame → frame < number + d → is_in frame ≡ false) → IsPartCleared is_in old z (number + d) top
+  by_frames zero none = let same : number ≡ number + 0 = omega arith in subst (λ (k : ℕ). IsPartCleared is_in old z k top) same is
+  by_frames (suc d) none =
+      let next : number + d + 1 ≡ number + suc d = omega arith in
+      subst (λ (k : ℕ). IsPartCleared is_in old z k top) next (clears_over is_in old z (number + d) top (by_frames d (λ frame from below. none frame from (omega (arith, below)))) (none (number + d) (omega arith) (omega arith)))

@@ -17,13 +17,14 @@ use Rattle.state_core.specs.declared.error.ZoneError.TheVariants.{JournalFull}
 use Rattle.state_core.proofs.Holding.{holder_at, holder_found}
 use Rattle.state_core.proofs.Packing.{count_mono}
 use Rattle.state_core.proofs.Runs.{count_from_none, count_split}
-use Rattle.fewest_core.specs.Evacuation.{emptied, highest_spare, is_beside, is_in_run, moved_away, moved_out, IsCarriedFrom}
+use Rattle.fewest_core.specs.Evacuation.{is_beside, is_in_run, moved_away}
 use Rattle.fewest_core.specs.Reservation.{highest_beside}
 use Rattle.fewest_core.specs.FewestMoves.{Move, IsMove, has_to_stay, is_immovable, is_moving, is_shut}
 use Rattle.fewest_core.proofs.Counts.{count_but_one, none_counted}
 use Rattle.fewest_core.proofs.Evacuation.{as_many_out}
 use Rattle.fewest_core.proofs.Moves.{others_same, shut_once, stays_free, stays_used, target_used, used_at, used_not_free}
 use Rattle.fewest_core.proofs.Reached.{own_if_valid, rests_at, source_unused, stays_vacant, used_before}
+use Rattle.zone_core.specs.Emptying.{HasEnough, IsEmptying, frames_beside, pages_below}
 
 pub in_run : (first size frame : ℕ) → first ≤ frame → frame < first + size → is_in_run first size frame ≡ true
 in_run first size frame low high = and_from (nat_le first frame) _ (le-leb first frame low) (lt-ltb frame (first + size) high)
@@ -107,34 +108,6 @@ module _ (z : ZoneState) (law : IsValidZone z) (frame : ℕ) where
 -- the frame that takes a page is in the zone
 pub found_within : (is_in : ℕ → Bool) (z : ZoneState) (target : ℕ) → highest_beside is_in z ≡ Some target → target < frame_count z
 found_within is_in z target found = (highest_found (is_beside is_in z) (frame_count z) target found).0
-
--- how many of the first n frames that pass are taken up by a page
-abbrev pub pages_below : (ℕ → Bool) → ZoneState → ℕ → ℕ
-pages_below is_in z n = count_below (λ frame. is_in frame && is_used z frame) n
-
--- how many frames may take a page of those that pass
-abbrev pub frames_beside : (ℕ → Bool) → ZoneState → ℕ
-frames_beside is_in z = count_below (is_beside is_in z) (frame_count z)
-
--- while the frames that pass are emptied, the lowest first: those below a frame are done
-pub record IsEmptying (is_in : ℕ → Bool) (old z : ZoneState) (n : ℕ) : Type 0 where
-  pub number : z.number ≡ old.number
-  pub blocks : z.blocks ≡ old.blocks
-  -- none of them is shut; those that are done are empty, and the others hold what they held
-  pub unshut : (frame : ℕ) → is_in frame ≡ true → is_shut z frame ≡ false
-  pub empty : (frame : ℕ) → is_in frame ≡ true → frame < n → is_used z frame ≡ false
-  pub rest : (frame : ℕ) → is_in frame ≡ true → n ≤ frame → is_used z frame ≡ is_used old frame
-  -- each page that went took a spare frame and two places of the journal
-  pub spare : frames_beside is_in old ≤ frames_beside is_in z + pages_below is_in old n
-  pub out_same : length (out z.records) ≡ length (out old.records)
-  pub room : z.room + 2 * pages_below is_in old n ≡ old.room
-  pub moved : moved z.records ≡ moved old.records + pages_below is_in old n
-  pub carried : IsCarriedFrom is_in old z
-
--- there is enough of all for their pages
-pub record HasEnough (is_in : ℕ → Bool) (old : ZoneState) : Type 0 where
-  pub spare : pages_below is_in old (frame_count old) ≤ frames_beside is_in old
-  pub room : length (out old.records) + 2 * pages_below is_in old (frame_count old) ≤ old.room
 
 pub emptying_begins : (is_in : ℕ → Bool) (z : ZoneState) → ((frame : ℕ) → is_in frame ≡ true → is_shut z frame ≡ false) → IsEmptying is_in z z 0
 emptying_begins is_in z unshut = record {
@@ -282,50 +255,12 @@ module _ (is_in : ℕ → Bool) (old z : ZoneState) (frame : ℕ) (is : IsEmptyi
               (and_from (not (is_in g)) (is_free_unmarked z g) both.0 (stays_free z m may_move_here g apart both.1)))
         ]
 
--- the zone between two frames of a run that is emptied
-pub record IsPartEmptied (first size : ℕ) (old z : ZoneState) (n : ℕ) : Type 0 where
-  pub same : z ≡ emptied first size old n
-  pub emptying : IsEmptying (is_in_run first size) old z (first + n)
-  pub valid : IsValidZone z
-
-module _ (first size : ℕ) (old z : ZoneState) (n : ℕ) (is : IsPartEmptied first size old z n) (within : n < size) where
-  pub in_it : is_in_run first size (first + n) ≡ true
-  in_it = in_run first size (first + n) (omega arith) (omega (arith, within))
-
-  one_more_frame : suc n ≡ n + 1
-  one_more_frame = omega arith
-
-  next_frame : suc (first + n) ≡ first + suc n
-  next_frame = omega arith
-
-  -- what emptying the next frame leaves
-  left_by : moved_out z (holder z (first + n)) (first + n) (highest_spare first size z) ≡ emptied first size old (suc n)
-  left_by = ap (λ (u : ZoneState). moved_out u (holder u (first + n)) (first + n) (highest_spare first size u)) is.same
-
-  pub part_stays : holder z (first + n) ≡ None → IsPartEmptied first size old z (n + 1)
-  part_stays none = subst (IsPartEmptied first size old z) one_more_frame (record {
-    same = sym (ap (λ (o : Option ℕ). moved_out z o (first + n) (highest_spare first size z)) none) ∙ left_by;
-    emptying = subst (IsEmptying (is_in_run first size) old z) next_frame (stays_emptying (is_in_run first size) old z (first + n) is.emptying in_it is.valid none);
-    valid = is.valid;
-  })
-
-  pub part_goes : first + size ≤ frame_count old → HasEnough (is_in_run first size) old → (page target : ℕ) → holder z (first + n) ≡ Some page → highest_spare first size z ≡ Some target → (next : ZoneState) → next ≡ moved_away z (record { page = page; source = first + n; target = target }) → IsValidZone next → IsPartEmptied first size old next (n + 1)
-  part_goes fits enough page target holds found next step law = subst (IsPartEmptied first size old next) one_more_frame (record {
-    same = step ∙ sym (λ i. moved_out z (holds i) (first + n) (found i)) ∙ left_by;
-    emptying = subst (λ (u : ZoneState). IsEmptying (is_in_run first size) old u (first + suc n)) (sym step)
-        (subst (IsEmptying (is_in_run first size) old _) next_frame (goes_on_emptying (is_in_run first size) old z (first + n) is.emptying in_it is.valid (omega (arith, within, fits)) enough page holds target found));
-    valid = law;
-  })
-
 -- the pages below a run aren't in it, and all pages of it are below its end
 pub pages_of_run : (first size : ℕ) (z : ZoneState) → pages_below (is_in_run first size) z (first + size) ≡ count_from (is_used z) first size
 pages_of_run first size z =
     let p = λ (g : ℕ). is_in_run first size g && is_used z g in
     let low = count_none p first (λ g h. and_left (is_in_run first size g) _ (false_from_ne_true _ (λ e. absurd (omega (arith, h, (run_bounds first size g e).0))))) in
     omega (arith, count_split p first size, low, count_from_same p (is_used z) first size (λ g from below. ap (λ (b : Bool). b && is_used z g) (in_run first size g from below)))
-
-pub none_below_run : (first size : ℕ) (z : ZoneState) → pages_below (is_in_run first size) z first ≡ 0
-none_below_run first size z = count_none (λ g. is_in_run first size g && is_used z g) first (λ g h. and_left (is_in_run first size g) _ (false_from_ne_true _ (λ e. absurd (omega (arith, h, (run_bounds first size g e).0)))))
 
 pub none_above_run : (first size m : ℕ) (z : ZoneState) → first + size ≤ m → pages_below (is_in_run first size) z m ≡ pages_below (is_in_run first size) z (first + size)
 none_above_run first size m z h =

@@ -12,6 +12,7 @@ mod InTurn
 mod MadeAs
 mod MaximalRuns
 pub mod Moves
+mod NextIn
 mod OneThread
 pub mod Packed
 pub mod Records

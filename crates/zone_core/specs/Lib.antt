@@ -2,6 +2,7 @@ pub mod Alone
 pub mod Books
 pub mod ByHand
 pub mod Counted
+pub mod Emptying
 pub mod Fingers
 pub mod FreeRuns
 pub mod Made

@@ -1,5 +1,5 @@
 -- The walk over the open runs of a zone, in the order of their ranks.
-use Rattle.std.specs.Prelude.{◌≡◌, ℕ, ◌+◌, ◌<◌, Bool, true, nat_eq, nat_lt, ◌&&◌, ◌||◌, Option, Some, None}
+use Rattle.std.specs.Prelude.{◌≡◌, ℕ, ◌+◌, ◌<◌, ◌≤◌, Bool, true, false, nat_eq, nat_lt, ◌&&◌, ◌||◌, min, Option, Some, None}
 use Rattle.fewest_core.specs.FewestMoves.{cost, is_open, run_count}
 use Rattle.fewest_core.specs.Reservation.{rank}
 use Rattle.state_core.specs.ZoneState.{ZoneState}
@@ -29,3 +29,20 @@ is_after run (Some last) = is_before last run
 abbrev pub is_ahead : OpenRun → Option OpenRun → Bool
 is_ahead run None = true
 is_ahead run (Some next) = is_before run next
+
+-- the lowest frame from one on that passes
+pub record IsNextIn (is_in : ℕ → Bool) (from frame : ℕ) : Type 0 where
+  pub passes : is_in frame ≡ true
+  pub least : from ≤ frame
+  pub between : (k : ℕ) → from ≤ k → k < frame → is_in k ≡ false
+
+-- the same, or that there is none
+abbrev pub IsNext : (ℕ → Bool) → ℕ → Option ℕ → Type 0
+IsNext is_in from None = (k : ℕ) → from ≤ k → is_in k ≡ false
+IsNext is_in from (Some frame) = IsNextIn is_in from frame
+
+-- the lower of two frames, of which each may be none
+abbrev pub lower : Option ℕ → Option ℕ → Option ℕ
+lower None other = other
+lower (Some one) None = Some one
+lower (Some one) (Some other) = Some (min one other)

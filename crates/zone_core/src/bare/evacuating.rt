@@ -1,13 +1,12 @@
 //! Evacuations: the pages of a run of frames go out of it, and then all of its frames are free.
 
-ghost use Rattle.std.specs.Prelude.{◌≡◌, ◌+◌, ◌/◌, ◌^◌, ◌<◌, None, IsTrue, IfOk, OnOk, OnErr};
+ghost use Rattle.std.specs.Prelude.{◌≡◌, ◌+◌, ◌/◌, ◌^◌, true, nat_le, IsTrue, IfOk, OnOk, OnErr};
 ghost use Rattle.std.specs.Result.{result_err};
-ghost use Rattle.fewest_core.specs.Evacuation.{evacuate_refusal, evacuated, highest_spare, is_in_run, is_spare, spare_frames, IsCarriedOut};
-ghost use Rattle.fewest_core.specs.FewestMoves.{cost};
+ghost use Rattle.fewest_core.specs.Evacuation.{evacuate_refusal, evacuated, is_in_run, spare_frames, IsCarriedOut};
+ghost use Rattle.fewest_core.specs.FewestMoves.{cost, is_open};
 ghost use Rattle.frame_core.specs.Moves.{moved};
-ghost use Rattle.state_core.specs.HandingOut.{is_run};
+ghost use Rattle.state_core.specs.HandingOut.{has_block, is_run};
 ghost use Rattle.state_core.specs.Valid.{IsValidZone};
-ghost use Rattle.state_core.specs.ZoneState.{frame_count};
 ghost use Rattle.zone_core.specs.ZoneIdentity.{HasIdentity};
 
 use crate::bare::BareZone;
@@ -36,16 +35,7 @@ impl<const W: usize> BareZone<W> {
         ensures valid { IsValidZone self.new }
     {
         let pages = self.pages_to_go(first, order)?;
-        for place in 0..order.frames() {
-            let source = frame_at(first, place);
-            let Some(page) = self.tables.holder(source) else {
-                continue;
-            };
-            let Some(target) = self.highest_spare(first, order) else {
-                unreachable!();
-            };
-            self.tables.move_page(page, source, target);
-        }
+        self.clear(order, &[first]);
         Ok(pages)
     }
 
@@ -61,7 +51,7 @@ impl<const W: usize> BareZone<W> {
         let Some(pages) = self.tables.pages_of(first, order) else {
             return Err(ZoneError::NoBlock);
         };
-        if self.count_spare(first, order) < pages {
+        if !self.has_spare_frames(first, order) {
             return Err(ZoneError::NoBlock);
         }
         if !self.tables.has_room_for_moves(pages) {
@@ -70,55 +60,15 @@ impl<const W: usize> BareZone<W> {
         Ok(pages)
     }
 
-    /// How many frames may take a page of a run.
-    fn count_spare(&self, first: FrameNo, order: Order) -> u32
-        ensures { result ≡ spare_frames first (2 ^ order) self.now }
+    /// Whether as many frames may take a page of an open run as it has pages. Then as many are free in all, in unmarked pageblocks, as it
+    /// has frames.
+    fn has_spare_frames(&self, first: FrameNo, order: Order) -> bool
+        requires block { IsTrue (has_block self.now order first) }
+        requires open { is_open self.now (2 ^ order) (first / 2 ^ order) ≡ true }
+        ensures { result ≡ nat_le (cost self.now (2 ^ order) (first / 2 ^ order)) (spare_frames first (2 ^ order) self.now) }
     {
-        let mut spare = 0;
-        for frame in 0..512 * self.blocks() {
-            if self.is_spare(first, order, frame) {
-                spare += 1;
-            }
-        }
-        spare
+        self.tables.vacant() >= order.frames()
     }
-
-    /// The highest frame that may take a page of a run, if there is one.
-    fn highest_spare(&self, first: FrameNo, order: Order) -> Option<FrameNo>
-        ensures { result ≡ highest_spare first (2 ^ order) self.now }
-    {
-        let frames = 512 * self.blocks();
-        for above in 0..frames {
-            let frame = frames - 1 - above;
-            if self.is_spare(first, order, frame) {
-                return FrameNo::in_any_zone(frame);
-            }
-        }
-        None
-    }
-
-    /// Whether a frame may take a page of a run: it is outside of the run, and free, in an unmarked pageblock.
-    fn is_spare(&self, first: FrameNo, order: Order, frame: u32) -> bool
-        requires within { frame < frame_count self.now }
-        requires few { frame < 16777216 }
-        ensures { result ≡ is_spare first (2 ^ order) self.now frame }
-    {
-        let Some(frame) = FrameNo::in_any_zone(frame) else {
-            unreachable!();
-        };
-        !is_in_run(first, order, frame) && self.tables.is_vacant(frame)
-    }
-}
-
-/// The frame at a place of a run.
-fn frame_at(first: FrameNo, place: u32) -> FrameNo
-    requires { first + place < 16777216 }
-    ensures { result ≡ first + place }
-{
-    let Some(frame) = FrameNo::in_any_zone(first.get() + place) else {
-        unreachable!();
-    };
-    frame
 }
 
 /// Whether a frame is in a run.

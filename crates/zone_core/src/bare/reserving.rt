@@ -1,18 +1,18 @@
 //! Reservations: the cheapest open runs are emptied and handed out.
 
-ghost use Rattle.std.specs.Prelude.{◌≡◌, ◌+◌, ◌*◌, ◌/◌, ◌^◌, ◌<◌, ◌≤◌, ℕ, None, Some, true, false, is_some, length, nat_le, nat_lt, slice_index, IfOk, IfSome, OnOk, OnErr};
+ghost use Rattle.std.specs.Prelude.{◌≡◌, ◌+◌, ◌*◌, ◌^◌, ◌<◌, ◌≤◌, ℕ, Some, true, false, is_some, length, nat_le, nat_lt, slice_index, IfOk, IfSome, OnOk, OnErr};
 ghost use Rattle.std.specs.FinMap as map;
 ghost use Rattle.std.specs.Result.{result_err};
 ghost use Rattle.fewest_core.specs.Evacuation.{is_beside, is_in_run, IsCarriedFrom};
-ghost use Rattle.fewest_core.specs.FewestMoves.{costs, least};
+ghost use Rattle.fewest_core.specs.FewestMoves.{costs, is_shut, least};
 ghost use Rattle.fewest_core.specs.Reservation.{blocks_taken, cleared, is_in_runs, rank, reserve_refusal, reserved, ArePicked};
 ghost use Rattle.frame_core.specs.Below.{highest};
 ghost use Rattle.frame_core.specs.Moves.{moved, out};
 ghost use Rattle.state_core.specs.HandingOut.{is_run};
-ghost use Rattle.state_core.specs.Packed.{unmarked_free};
 ghost use Rattle.state_core.specs.Valid.{IsValidZone};
-ghost use Rattle.state_core.specs.ZoneState.{frame_count, is_free};
-ghost use Rattle.zone_core.specs.Reserving.{is_after, is_ahead, is_before, next_rank, IsOpenRun};
+ghost use Rattle.state_core.specs.ZoneState.{frame_count};
+ghost use Rattle.zone_core.specs.Emptying.{HasEnough, IsEmptying};
+ghost use Rattle.zone_core.specs.Reserving.{is_after, is_ahead, is_before, lower, next_rank, IsNext, IsOpenRun};
 ghost use Rattle.zone_core.specs.ZoneIdentity.{HasIdentity};
 
 use crate::bare::BareZone;
@@ -92,7 +92,7 @@ impl<const W: usize> BareZone<W> {
         ensures pages { IfOk result (λ pages. pages ≡ least blocks self.now (2 ^ order)) }
         ensures valid { IsValidZone self.now }
     {
-        let vacant = self.count_vacant();
+        let vacant = self.tables.vacant();
         let Some(pages) = self.least_pages(order, blocks) else {
             return Err(ZoneError::NoBlock);
         };
@@ -104,20 +104,6 @@ impl<const W: usize> BareZone<W> {
             return Err(ZoneError::JournalFull);
         }
         Ok(pages)
-    }
-
-    /// How many frames of unmarked pageblocks are free.
-    fn count_vacant(&self) -> u32
-        ensures count { result ≡ unmarked_free self.now }
-        ensures valid { IsValidZone self.now }
-    {
-        let mut vacant = 0;
-        for number in 0..512 * self.blocks() {
-            if self.tables.is_vacant(frame_no(number)) {
-                vacant += 1;
-            }
-        }
-        vacant
     }
 
     /// The open run that is next in rank after a run, or the first one of all, if there is one.
@@ -174,24 +160,19 @@ impl<const W: usize> BareZone<W> {
     }
 
     /// Moves each page of these runs to the highest free frame of an unmarked pageblock outside of them, the lowest page first.
-    fn clear(&mut self, order: Order, firsts: &[FrameNo])
-        requires accepted { reserve_refusal self.old (length firsts.now) order ≡ None }
-        requires picked { ArePicked self.old order firsts.now }
+    pub(crate) fn clear(&mut self, order: Order, firsts: &[FrameNo])
+        requires within { (frame : ℕ) → is_in_runs firsts.now (2 ^ order) frame ≡ true → frame < frame_count self.old }
+        requires open { (frame : ℕ) → is_in_runs firsts.now (2 ^ order) frame ≡ true → is_shut self.old frame ≡ false }
+        requires enough { HasEnough (is_in_runs firsts.now (2 ^ order)) self.old }
         ensures cleared { self.new ≡ cleared (is_in_runs firsts.now (2 ^ order)) self.old (frame_count self.old) }
-        ensures free { (frame : ℕ) → is_in_runs firsts.now (2 ^ order) frame ≡ true → is_free self.new frame ≡ true }
-        ensures room { length (out self.new.records) + length firsts.now ≤ self.new.room }
-        ensures moved { moved self.new.records ≡ moved self.old.records + least (length firsts.now) self.old (2 ^ order) }
-        ensures carried { IsCarriedFrom (is_in_runs firsts.now (2 ^ order)) self.old self.new }
-        ensures identity { HasIdentity self.old.number self.old.blocks self.new }
+        ensures emptied { IsEmptying (is_in_runs firsts.now (2 ^ order)) self.old self.new (frame_count self.old) }
         ensures valid { IsValidZone self.new }
     {
-        let frames = 512 * self.blocks();
-        let mut top = frames;
-        for number in 0..frames {
+        let mut top = 512 * self.blocks();
+        let mut from = 0;
+        while let Some(number) = next_in_runs(firsts, order, from) {
+            from = number + 1;
             let source = frame_no(number);
-            if !is_in_runs(firsts, order, source) {
-                continue;
-            }
             let Some(page) = self.tables.holder(source) else {
                 continue;
             };
@@ -250,6 +231,37 @@ fn is_in_runs(firsts: &[FrameNo], order: Order, frame: FrameNo) -> bool
         }
     }
     false
+}
+
+/// The lowest frame from one on that is in one of the runs with these first frames, if there is one.
+fn next_in_runs(firsts: &[FrameNo], order: Order, from: u32) -> Option<u32>
+    ensures { IsNext (is_in_runs firsts.now (2 ^ order)) from result }
+{
+    let mut next = None;
+    for place in 0..firsts.len() {
+        next = lower(next, next_in_run(firsts[place], order, from));
+    }
+    next
+}
+
+/// The lowest frame from one on that is in a run, if there is one.
+fn next_in_run(first: FrameNo, order: Order, from: u32) -> Option<u32>
+    ensures { IsNext (is_in_run first (2 ^ order)) from result }
+{
+    if from >= first.get() + order.frames() {
+        return None;
+    }
+    Some(from.max(first.get()))
+}
+
+/// The lower of two frames, of which each may be none.
+fn lower(one: Option<u32>, other: Option<u32>) -> Option<u32>
+    ensures { result ≡ lower one other }
+{
+    match (one, other) {
+        (Some(one), Some(other)) => Some(one.min(other)),
+        (one, other) => one.or(other),
+    }
 }
 
 /// The frame with a number.
