@@ -5,6 +5,7 @@ mod calls;
 mod contents;
 mod counts;
 mod draws;
+mod emptying;
 mod lists;
 mod many_addresses;
 mod many_pageblocks;

@@ -6,6 +6,7 @@ use super::collecting::collector;
 use super::gates::{Plan, Until, Watch};
 use super::names::Shared;
 use super::opening::{Opening, open_zone};
+use frame_core::Record;
 use huge_core::{Stop, reserve_alone};
 use round_core::{Gate, Point, ZoneIdentity, compact_alone};
 use std::marker::Brand;
@@ -20,6 +21,16 @@ const PAGES: u32 = 64;
 enum Way {
     Compact,
     Reserve,
+}
+
+/// These records end moves in the order of their serials.
+fn assert_in_order(rt: &impl Abort, records: &[Record]) {
+    let mut serials = 0..u64::from(PAGES);
+    for entry in records {
+        if let Record::Moved { serial } = entry {
+            assert!(rt; serials.next() == Some(*serial));
+        }
+    }
 }
 
 /// Runs a round with one copier, and room for three pages, over a zone that nobody else has.
@@ -49,7 +60,8 @@ fn run_alone<
     }
 }
 
-/// The gate is told of each step of each page. While it holds the committer, pages are in five places of the round, three in each.
+/// The gate is told of each step of each page. While it holds the committer, pages are in five places of the round, three in each. Their
+/// moves end in the order in which they were isolated.
 fn is_watched_in<
     K: ZoneIdentity + Send + Sync,
     I: Ledger + Send + Sync,
@@ -73,6 +85,7 @@ fn is_watched_in<
     let zone = run_alone(rt, way, zone.into_zone(), &mut seats, &watch);
     watch.assert_let_go(rt);
     assert!(rt; watch.ahead() == 15 && zone.ended() == u64::from(PAGES));
+    assert_in_order(rt, zone.journal().kept().expect(rt, "a kept journal"));
     for point in 0..4 {
         assert!(rt; watch.told.number(point) == u64::from(PAGES), "{point}");
     }

@@ -488,7 +488,7 @@ pub fn rounds() -> &'static [Case<'static>] {
     &ROUNDS
 }
 
-static ROUNDS: [Case<'static>; 8] = [
+static ROUNDS: [Case<'static>; 9] = [
     Case {
         name: "a round moves two pages up, and a pageblock is whole",
         script: b"zone 0 2\nmapat 0 0 0 0\nmapat 0 0 1 512\ninfo 0\ncompact 0\nlook 0 0 0\nlook 0 0 1\ninfo 0\n",
@@ -511,6 +511,13 @@ static ROUNDS: [Case<'static>; 8] = [
         name: "an unmovable page at the top of each pageblock",
         script: b"zone 0 8\nmapat 0 0 0 511 unmovable\nmapat 0 0 1 1023 unmovable\nmapat 0 0 2 1535 unmovable\nmapat 0 0 3 2047 unmovable\nmapat 0 0 4 2559 unmovable\nmapat 0 0 5 3071 unmovable\nmapat 0 0 6 3583 unmovable\nmapat 0 0 7 4095 unmovable\nhuge 0\ncompact 0\ninfo 0\n",
         replies: b"ok\nok\nok\nok\nok\nok\nok\nok\nok\nrefused 11\nisolated=0 moved=0 back=0 stopped=met\nfree=4088 pages=8 moving=0 huge=0 whole=0\n",
+        ..NOTHING
+    },
+    Case {
+        name: "one copier moves two pages, in which nothing is stored",
+        arguments: &["--copiers", "1"],
+        script: b"zone 0 1\nfill 0 0 0 2\ncompact 0\nlook 0 0 0\nload 0 0 0 0\n",
+        replies: b"ok\ndone=2\nisolated=2 moved=2 back=0 stopped=met\nframe=511 dirty=0 unmovable=0 pins=0 maps=1\nvalue=0\n",
         ..NOTHING
     },
     Case {

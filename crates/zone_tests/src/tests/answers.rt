@@ -4,7 +4,7 @@ use super::calls::Name;
 use frame_core::{BlockNo, FrameNo, Serial};
 use machine_core::{Finished, Scanned, WorldError};
 use std::process::Abort;
-use zone_core::{Audit, Ended, Look, ZoneAnswer, ZoneError};
+use zone_core::{Answered, Audit, Ended, Look, ZoneAnswer, ZoneError};
 
 /// What a step with a zone or a world answers.
 #[derive(Clone, Copy, PartialEq, Eq)]
@@ -143,6 +143,16 @@ impl Shown for Scanned {
         match self {
             Scanned::Serial(serial) => Answer::Serial(serial),
             Scanned::Met => Answer::Met,
+        }
+    }
+}
+
+impl Shown for Answered {
+    fn shown(self) -> Answer {
+        match self {
+            Answered::Page => Answer::Page,
+            Answered::Met => Answer::Met,
+            Answered::JournalFull => ZoneError::JournalFull.shown(),
         }
     }
 }

@@ -3,7 +3,7 @@
 ghost use Rattle.std.specs.Prelude.{◌<◌, ◌≤◌};
 
 use super::answers::{Answer, Shown, assert_answer};
-use super::calls::{Call, PAGE, told, value_of};
+use super::calls::{Call, Name, PAGE, told, value_of};
 use super::{address, block, client, frame, order};
 use frame_core::ZoneNo;
 use std::process::Abort;
@@ -25,7 +25,7 @@ fn opened(rt: &(impl Abort + AllocGlobal), blocks: u32) -> BareZone<1> {
     BareZone::<1>::open_unrecorded(rt.alloc(), number, blocks).expect(rt, "a zone")
 }
 
-fn plays(rt: &impl Abort, zone: &mut BareZone<1>, name: &str, rows: &[(Call, Answer)]) {
+pub fn plays(rt: &impl Abort, zone: &mut BareZone<1>, name: &str, rows: &[(Call, Answer)]) {
     for (number, row) in rows.iter().enumerate() {
         let (call, want) = *row;
         let answer = zone.make(client(rt), value_of(rt, call));
@@ -33,9 +33,9 @@ fn plays(rt: &impl Abort, zone: &mut BareZone<1>, name: &str, rows: &[(Call, Ans
     }
 }
 
-/// The frame of the page.
-fn frame_of(rt: &impl Abort, zone: &BareZone<1>) -> u32 {
-    match zone.look(address(rt, PAGE)).shown() {
+/// The frame of a page.
+pub fn frame_of(rt: &impl Abort, zone: &BareZone<1>, name: Name) -> u32 {
+    match zone.look(address(rt, name)).shown() {
         Answer::At { frame, .. } => frame,
         _ => panic!(rt; "there is no page"),
     }
@@ -59,7 +59,7 @@ fn uses_the_last_frame(rt: &(impl Abort + AllocGlobal), blocks: u32)
         (Call::Mark(blocks - 1), Answer::Done),
     ];
     plays(rt, &mut zone, "the last frame", &rows);
-    assert!(rt; frame_of(rt, &zone) == last);
+    assert!(rt; frame_of(rt, &zone, PAGE) == last);
     assert!(rt; zone.marked(block(rt, blocks - 1)) == Some(true));
 }
 
@@ -89,9 +89,9 @@ fn moves_a_page(rt: &(impl Abort + AllocGlobal), blocks: u32)
     let mut zone = opened(rt, blocks);
     let last = 512 * blocks - 1;
     assert!(rt; zone.map(client(rt), address(rt, PAGE), false).is_ok());
-    assert!(rt; zone.compact() == Answered::Met && frame_of(rt, &zone) == last);
+    assert!(rt; zone.compact() == Answered::Met && frame_of(rt, &zone, PAGE) == last);
     assert!(rt; zone.evacuate(frame(rt, last - 7), order(rt, 3)) == Ok(1));
-    assert!(rt; frame_of(rt, &zone) == last - 8);
+    assert!(rt; frame_of(rt, &zone, PAGE) == last - 8);
 }
 
 fn tries_zone(rt: &(impl Abort + AllocGlobal), blocks: u32)

@@ -31,6 +31,30 @@ const MOVES_ITS_WORDS: &[Part<'static>] = &[Part {
     ],
 }];
 
+/// A round on one thread moves three pages to the highest frames, each with its word. The next one stops after a page, since the journal
+/// is full.
+const RUNS_A_ROUND: &[Part<'static>] = &[Part {
+    times: 1,
+    rows: &[
+        (Step::Call(Call::Map((0, 1))), Answer::Frame(1)),
+        (Step::Call(Call::Map((0, 2))), Answer::Frame(2)),
+        (Step::Call(Call::Store(PAGE, 1, 5)), Answer::Done),
+        (Step::Call(Call::Store((0, 1), 2, 6)), Answer::Done),
+        (Step::Call(Call::Store((0, 2), 3, 7)), Answer::Done),
+        (Step::Compact, Answer::Met),
+        (Step::Audit, Answer::Audited(3, 3, 0)),
+        (Step::Call(Call::Load(PAGE, 1)), Answer::Value(5)),
+        (Step::Call(Call::Load((0, 1), 2)), Answer::Value(6)),
+        (Step::Call(Call::Load((0, 2), 3)), Answer::Value(7)),
+        (Step::Call(Call::Unmap((0, 2))), Answer::Done),
+        (Step::Call(Call::MapAt((0, 2), 509)), Answer::Done),
+        (Step::Call(Call::Map((0, 3))), Answer::Frame(0)),
+        (Step::Call(Call::Map((0, 4))), Answer::Frame(1)),
+        (Step::Compact, Answer::Refused(ZoneError::JournalFull)),
+        (Step::Audit, Answer::Audited(4, 4, 0)),
+    ],
+}];
+
 /// Pages of another zone, under another serial or with another number are strangers, and so is the page once it has ended.
 const REFUSES_STRANGERS: &[Part<'static>] = &[Part {
     times: 1,
@@ -129,6 +153,7 @@ const TAKES_PINS: &[Part<'static>] = &[
 fn moves_are_made_and_ended(rt: HostRuntime) {
     for (name, places, parts) in [
         ("a page moves with its words", 64, MOVES_ITS_WORDS),
+        ("a round on one thread", 21, RUNS_A_ROUND),
         ("strangers are refused", 64, REFUSES_STRANGERS),
         ("a seat is split", 4, SPLITS_ITS_SEAT),
         ("a journal is filled", 65536, FILLS_ITS_JOURNAL),

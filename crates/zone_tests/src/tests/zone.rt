@@ -12,7 +12,7 @@ use super::client;
 use frame_core::{IsolatedOf, Serial, ZoneNo};
 use std::process::Abort;
 use std::sync::ledger::Ledger;
-use zone_core::{Blanks, EndSeat, ScanSeat, ZoneOf};
+use zone_core::{Blanks, EndSeat, Seats, ZoneOf, compact};
 
 /// A block: its first frame and its order.
 pub type Block = (u32, u32);
@@ -33,6 +33,8 @@ pub enum Step<'a> {
     Lend(Block, u64, u64),
     /// Begins a round.
     Round,
+    /// Runs a round on one thread.
+    Compact,
     /// Begins a round and isolates its first page.
     Isolate,
     /// Gives a word of the isolated page another value, and answers the one before.
@@ -67,8 +69,7 @@ pub struct Part<'a> {
 #[derive(Drop)]
 pub struct Opened<const W: usize, I: Ledger, N: Ledger, M: Ledger, B: Ledger> {
     zone: ZoneOf<W, I, M, B>,
-    scan: ScanSeat<I, N>,
-    ends: EndSeat<M, B>,
+    seats: Seats<I, N, M, B>,
     page: Option<IsolatedOf<W>>,
     parts: Vec<EndSeat<M, B>>,
     isolated: u64,
@@ -85,8 +86,7 @@ impl<const W: usize, I: Ledger, N: Ledger, M: Ledger, B: Ledger> Opened<W, I, N,
         let (zone, scan, ends) = opened.expect(rt, "a zone");
         Opened {
             zone,
-            scan,
-            ends,
+            seats: Seats { scan, ends },
             page: None,
             parts: Vec::new(rt.alloc()),
             isolated: 0,
@@ -124,9 +124,13 @@ impl<const W: usize, I: Ledger, N: Ledger, M: Ledger, B: Ledger> Opened<W, I, N,
             Step::WriteBlock(block, from, values) => self.write_block(rt, block, from, values),
             Step::ReadBlock(block, from, want) => self.read_block(rt, block, from, want),
             Step::Lend(block, value, last) => self.lend(rt, block, value, last),
+            Step::Compact => compact(&mut self.zone, &mut self.seats).shown(),
             Step::Quiet => Answer::Is(self.zone.quiet()),
             Step::Journal => self.zone.journal().len().shown(),
-            Step::Audit => self.zone.audit(&mut self.scan, &mut self.ends).shown(),
+            Step::Audit => self
+                .zone
+                .audit(&mut self.seats.scan, &mut self.seats.ends)
+                .shown(),
             Step::Split | Step::Swap | Step::Join => self.change_parts(rt, step),
             _ => self.move_page(rt, step),
         }

@@ -6,7 +6,7 @@ use super::super::answers::{Answer, Shown};
 use super::super::calls::PAGE;
 use super::super::{address, word};
 use super::{Opened, Step};
-use frame_core::{IsolatedOf, PageNo, PageOf, Serial, ZoneNo};
+use frame_core::{Cause, IsolatedOf, PageNo, PageOf, Record, Serial, ZoneNo};
 use std::process::Abort;
 use std::sync::ledger::Ledger;
 use zone_core::{Info, Look, Next, Stranger, ZoneError};
@@ -35,14 +35,14 @@ impl<const W: usize, I: Ledger, N: Ledger, M: Ledger, B: Ledger> Opened<W, I, N,
     }
 
     fn begin(&mut self) -> Answer {
-        self.zone.begin_round(&mut self.scan);
+        self.zone.begin_round(&mut self.seats.scan);
         Answer::Done
     }
 
     /// Its serial is the number of pages that were isolated before it.
     fn isolate(&mut self, rt: &impl Abort) -> Answer {
         self.begin();
-        match self.zone.isolate_next(&mut self.scan) {
+        match self.zone.isolate_next(&mut self.seats.scan) {
             Ok(Next::Page(page)) => {
                 assert!(rt; page.serial() == self.isolated, "another serial");
                 self.isolated = self.isolated.saturating_add(1);
@@ -76,7 +76,7 @@ impl<const W: usize, I: Ledger, N: Ledger, M: Ledger, B: Ledger> Opened<W, I, N,
         let before = self.told(rt);
         let page = self.take_page(rt);
         let serial = page.serial();
-        match self.zone.commit(&mut self.ends, page.copy_into_new()) {
+        match self.zone.commit(&mut self.seats.ends, page.copy_into_new()) {
             Ok(ended) => Answer::Finished(serial, ended),
             Err(Stranger(copy)) => {
                 assert!(rt; copy.serial() == serial);
@@ -90,13 +90,28 @@ impl<const W: usize, I: Ledger, N: Ledger, M: Ledger, B: Ledger> Opened<W, I, N,
         let before = self.told(rt);
         let page = self.take_page(rt);
         let serial = page.serial();
-        match self.zone.put_back(&mut self.ends, page) {
-            Ok(()) => Answer::Done,
+        match self.zone.put_back(&mut self.seats.ends, page) {
+            Ok(()) => self.noted_as_not_copied(rt),
             Err(Stranger(page)) => {
                 assert!(rt; page.serial() == serial);
                 self.comes_back(rt, before, page)
             }
         }
+    }
+
+    /// The newest record is of a page that was put back since it wasn't copied.
+    fn noted_as_not_copied(&self, rt: &impl Abort) -> Answer {
+        let records = self.zone.journal().kept().expect(rt, "a kept journal");
+        assert!(rt;
+            matches!(
+                records.last(),
+                Some(Record::Back {
+                    cause: Cause::NotCopied,
+                    ..
+                })
+            )
+        );
+        Answer::Done
     }
 
     /// The zone is as it was before it refused the page.
@@ -126,15 +141,15 @@ impl<const W: usize, I: Ledger, N: Ledger, M: Ledger, B: Ledger> Opened<W, I, N,
     /// Splits parts off the end seat, changes its place with the first of them, or joins it with the last.
     pub fn change_parts(&mut self, rt: &impl Abort, step: Step) -> Answer {
         match step {
-            Step::Split => match self.ends.split() {
+            Step::Split => match self.seats.ends.split() {
                 Some(part) => self.parts.push(part).expect(rt, "memory"),
                 None => return Answer::NoPart,
             },
             Step::Swap => {
                 let first = self.parts.first_mut().expect(rt, "a part");
-                std::mem::swap(&mut self.ends, first);
+                std::mem::swap(&mut self.seats.ends, first);
             }
-            _ => self.ends.join(self.parts.pop().expect(rt, "a part")),
+            _ => self.seats.ends.join(self.parts.pop().expect(rt, "a part")),
         }
         Answer::Done
     }
