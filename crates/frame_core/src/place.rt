@@ -1,5 +1,10 @@
 ghost use Rattle.std.specs.Prelude.{◌≡◌, ℕ, ◌+◌, ◌*◌, ◌/◌, ◌%◌, ◌<◌, ◌↔◌, IsSome, IfSome};
+ghost use Rattle.std.proofs.Common.{rules};
+ghost use Rattle.std.specs.Cmp.{partial_order_from_own_ties};
+ghost use Rattle.std.specs.Cmp.Rules.{comparing};
+ghost use Rattle.std.specs.Ordering.{as_partial_cmp, nat_cmp, on, then_cmp};
 
+use std::cmp::Ordering;
 use std::marker::Model;
 
 const ZONES: u32 = 4;
@@ -217,23 +222,48 @@ const VPAGES: u32 = 4096;
 
 const MOST_VPAGES: u32 = 16777216;
 
-/// A virtual page's number in its space: 0 to 4095 in a zone that a script opens, and 0 to 16,777,215 in any. It is kept in three bytes, the
-/// highest first, so that an address takes four.
-#[derive(Clone, Copy, Debug, Default, PartialEq, Eq, PartialOrd, Ord, Hash)]
+/// A virtual page's number in its space: 0 to 4095 in a zone that a script opens, and 0 to 16,777,215 in any. It is kept in three bytes, so that
+/// an address takes four. The lowest byte is the first, so that they are the low part of the number that an address is.
+#[derive(Clone, Copy, Debug, Default, PartialEq, Eq, Hash)]
 pub struct VPage {
-    high: u8,
-    middle: u8,
     low: u8,
+    middle: u8,
+    high: u8,
 }
 
 impl Model for VPage {
     ghost Value = { ℕ };
 
-    ghost view = { λ n. 65536 * n.high + 256 * n.middle + n.low };
+    ghost view = { λ n. n.low + 256 * n.middle + 65536 * n.high };
 
-    ghost invariant = { λ n. (n.high < 256) × (n.middle < 256) × (n.low < 256) };
+    ghost invariant = { λ n. (n.low < 256) × (n.middle < 256) × (n.high < 256) };
 
-    ghost inverse = { λ n. record { high = n / 65536; middle = (n / 256) % 256; low = n % 256 } };
+    ghost inverse = { λ n. record { low = n % 256; middle = (n / 256) % 256; high = n / 65536 } };
+}
+
+/// Virtual pages are in the order of their numbers.
+impl Ord for VPage {
+    ghost cmp = { nat_cmp };
+
+    ghost total = { Prim.search (comparing, rules) };
+
+    ghost matches_partial_cmp = { Prim.search (comparing, rules) };
+
+    ghost matches_eq = { Prim.search (comparing, rules) };
+
+    fn cmp(&self, other: &VPage) -> Ordering {
+        self.get().cmp(&other.get())
+    }
+}
+
+impl PartialOrd for VPage {
+    ghost partial_cmp = { as_partial_cmp nat_cmp };
+
+    ghost laws = { partial_order_from_own_ties (Prim.search (comparing, rules)) (Prim.search (comparing, rules)) };
+
+    fn partial_cmp(&self, other: &VPage) -> Option<Ordering> {
+        Some(self.cmp(other))
+    }
 }
 
 impl VPage {
@@ -256,9 +286,9 @@ impl VPage {
     {
         if number < MOST_VPAGES {
             Some(VPage {
-                high: (number / 65536) as u8,
-                middle: (number / 256 % 256) as u8,
                 low: (number % 256) as u8,
+                middle: (number / 256 % 256) as u8,
+                high: (number / 65536) as u8,
             })
         } else {
             None
@@ -270,15 +300,42 @@ impl VPage {
         ensures value { result ≡ self }
         ensures range { result < 16777216 }
     {
-        65536 * u32::from(self.high) + 256 * u32::from(self.middle) + u32::from(self.low)
+        u32::from(self.low) + 256 * u32::from(self.middle) + 65536 * u32::from(self.high)
     }
 }
 
-/// A virtual page of a space. A client names a page by it.
-#[derive(Clone, Copy, Debug, Default, PartialEq, Eq, PartialOrd, Ord, Hash)]
+/// A virtual page of a space. A client names a page by it. The page stands before the space, so that the four bytes of an address are
+/// one number, which rises with the address.
+#[derive(Clone, Copy, Debug, Default, PartialEq, Eq, Hash)]
 pub struct Address {
-    pub space: SpaceNo,
     pub vpage: VPage,
+    pub space: SpaceNo,
+}
+
+/// Addresses are in the order of their spaces, and those of a space in the order of its virtual pages.
+impl Ord for Address {
+    ghost cmp = { then_cmp (on (λ a. a.space) nat_cmp) (on (λ a. a.vpage) nat_cmp) };
+
+    ghost total = { Prim.search (comparing, rules) };
+
+    ghost matches_partial_cmp = { Prim.search (comparing, rules) };
+
+    ghost matches_eq = { Prim.search (comparing, rules) };
+
+    fn cmp(&self, other: &Address) -> Ordering {
+        let spaces = self.space.cmp(&other.space);
+        spaces.then(self.vpage.cmp(&other.vpage))
+    }
+}
+
+impl PartialOrd for Address {
+    ghost partial_cmp = { as_partial_cmp (then_cmp (on (λ a. a.space) nat_cmp) (on (λ a. a.vpage) nat_cmp)) };
+
+    ghost laws = { partial_order_from_own_ties (Prim.search (comparing, rules)) (Prim.search (comparing, rules)) };
+
+    fn partial_cmp(&self, other: &Address) -> Option<Ordering> {
+        Some(self.cmp(other))
+    }
 }
 
 /// The pageblock that a frame stands in.

@@ -1,5 +1,5 @@
 -- The state of a frame, as a kind of state with the number of a page.
-use Rattle.std.specs.Prelude.{◌≡◌, ℕ, ◌≤◌, nat_eq, if◌then◌else◌}
+use Rattle.std.specs.Prelude.{◌≡◌, ℕ, nat_eq, if◌then◌else◌}
 use Rattle.frame_core.specs.declared.state.FrameState.{FrameState}
 use Rattle.frame_core.specs.declared.state.FrameState.TheVariants.{Free, Holds, Source, Target, Huge}
 
@@ -26,7 +26,5 @@ page_of (Target page) = page
 page_of Huge = 0
 
 -- there is a state of this kind with this page, or with page 0 if it has none
-pub record IsState (kind page : ℕ) : Type 0 where
-  pub known : kind ≤ 4
-  pub free : kind ≡ 0 → page ≡ 0
-  pub huge : kind ≡ 4 → page ≡ 0
+abbrev pub IsState : (kind page : ℕ) → Type 0
+IsState kind page = (kind_of (state_by kind page) ≡ kind) × (page_of (state_by kind page) ≡ page)

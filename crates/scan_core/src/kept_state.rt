@@ -17,7 +17,7 @@ const TARGET: u8 = 3;
 const HUGE: u8 = 4;
 
 /// The state of a frame in four bytes. A source and a target are told by the number of the page that is moving.
-#[derive(Clone, Copy, Debug, PartialEq, Eq)]
+#[derive(Clone, Copy)]
 pub(crate) struct KeptState {
     /// The number of the page, or 0 where there is none, and the kind of the state.
     page: Tagged,

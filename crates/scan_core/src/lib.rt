@@ -1,7 +1,8 @@
 //! The frames of a zone with sets and counts of them, and the pair of frames that a round takes next.
 //!
 //! Contracts see `Frames` as two lists: the state of each frame, and whether the page that it holds may be taken from
-//! it. The sets and counts are private. The searches and counts are there for plain lists too.
+//! it. The source and the target of a move are told by the number of the page that moves. The sets and counts are
+//! private. The searches and counts are there for plain lists too.
 #![tactic(auto)]
 
 mod blocks;

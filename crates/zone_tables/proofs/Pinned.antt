@@ -1,6 +1,7 @@
 -- One pin more or less on a page: the tables still stand for the zone.
-use Rattle.std.proofs.Common.{◌≡◌, ◌≢◌, ℕ, ◌+◌, ◌-◌, ◌<◌, Bool, ◌∷◌, not, length, refl, sym, ap, subst, ◌∙◌, arith, nat_eq}
+use Rattle.std.proofs.Common.{◌≡◌, ◌≢◌, ℕ, ◌+◌, ◌-◌, ◌<◌, Bool, false, ◌∷◌, inl, inr, not, length, refl, sym, ap, subst, ◌∙◌, arith, nat_eq}
 use Rattle.std.specs.Prelude.{Option, Some, IsSome, slice_get, ◌&&◌}
+use Rattle.std.proofs.lemmas.Bool.Decides.{eqb_tells}
 use Rattle.std.specs.FinMap as map
 use Rattle.std.specs.FinSet as set
 use Rattle.frame_core.specs.declared.place.Address.{Address}
@@ -17,15 +18,19 @@ use Rattle.zone_tables.specs.declared.note.PageNote.{PageNote}
 use Rattle.zone_tables.specs.declared.zone.ZoneTables.TheInside.{Inside}
 use Rattle.zone_tables.specs.Fits.{EntriesFit, MovableFit, MovesFit}
 use Rattle.zone_tables.specs.History.{History, told}
-use Rattle.zone_tables.specs.Notes.{can_move_by, movable_at, movable_by}
+use Rattle.zone_tables.specs.Notes.{can_move_by, movable_at}
 use Rattle.zone_tables.specs.Sound.{state_of, IsSound}
 use Rattle.zone_tables.proofs.Noting.{Noting, NotesOnly, stays}
 use Rattle.zone_tables.proofs.Placement.{movable_said}
 use Rattle.zone_tables.proofs.Tables.{note_seen}
 
+-- a page with a pin may not be taken
+pinned_stays : (note : PageNote) → can_move_by (record note { pins = note.pins + 1 }) ≡ false
+pinned_stays note = elim (eqb_tells (note.pins + 1) 0) [ inl none ↦ absurd (omega (arith, none.1)) | inr some ↦ ap (λ none. none && not note.unmovable) some.0 ]
+
 module _ {W : ℕ} (z : Inside W) (v : ZoneState) (sound : IsSound z v) (view : state_of z ≡ v) (page : ℕ) (used : IsSome (map.get v.placement page)) (note : PageNote) (note_is : slice_get z.notes page ≡ Some note) where
   -- the frame of the page says whether the page may be taken from it
-  said_so : (entry : Record) → IsValidZone (noted v entry) → (count : ℕ) → count ≡ pins (entry ∷ v.records) page → ((q : ℕ) → q ≢ page → pins (entry ∷ v.records) q ≡ pins v.records q) → (frames : Frames) → frames ≡ record z.frames { movable = movable_by z.frames.movable (record note { pins = count }) } → MovableFit frames.movable (noted v entry)
+  said_so : (entry : Record) → IsValidZone (noted v entry) → (count : ℕ) → count ≡ pins (entry ∷ v.records) page → ((q : ℕ) → q ≢ page → pins (entry ∷ v.records) q ≡ pins v.records q) → (frames : Frames) → frames ≡ record z.frames { movable = movable_at z.frames.movable note.placement (can_move_by (record note { pins = count })) } → MovableFit frames.movable (noted v entry)
   said_so entry valid count is others frames frames_are =
       let seen = note_seen view sound used note_is in
       let can : Bool = can_move_by (record note { pins = count }) in
@@ -37,7 +42,7 @@ module _ {W : ℕ} (z : Inside W) (v : ZoneState) (sound : IsSound z v) (view : 
 
   -- a page gets another number of pins, and nothing else of it changes
   noting_pins : (entry : Record) (count : ℕ) (frames : Frames) (history : History) → IsValidZone (noted v entry) → NotesOnly v entry page → maps (entry ∷ v.records) page ≡ maps v.records page → MovesFit z.moves (entry ∷ v.records) → EntriesFit z.tables.entries (noted v entry)
-      → count ≡ pins (entry ∷ v.records) page → frames ≡ record z.frames { movable = movable_by z.frames.movable (record note { pins = count }) } → history ≡ told z.history entry → Noting z v page entry note (record note { pins = count }) frames z.tables history
+      → count ≡ pins (entry ∷ v.records) page → frames ≡ record z.frames { movable = movable_at z.frames.movable note.placement (can_move_by (record note { pins = count })) } → history ≡ told z.history entry → Noting z v page entry note (record note { pins = count }) frames z.tables history
   noting_pins entry count frames history valid only maps_same moves entries is frames_are history_is =
       let before = (note_seen view sound used note_is).fits in
       record {
@@ -59,13 +64,14 @@ module _ {W : ℕ} (z : Inside W) (v : ZoneState) (sound : IsSound z v) (view : 
       }
 
   module _ (client : ℕ) (address : Address) (named : page_at v.records address ≡ Some page) (spare : length (out v.records) < v.room) (frames : Frames) (history : History) where
-    pub pinning : pins v.records page < 255 → frames ≡ record z.frames { movable = movable_by z.frames.movable (record note { pins = note.pins + 1 }) } → history ≡ told z.history (Pin client address) → Noting z v page (Pin client address) note (record note { pins = note.pins + 1 }) frames z.tables history
-    pinning few = noting_pins (Pin client address) (note.pins + 1) frames history (valid_pinned v client address page named sound.valid spare few)
+    pub pinning : pins v.records page < 255 → frames ≡ record z.frames { movable = movable_at z.frames.movable note.placement false } → history ≡ told z.history (Pin client address) → Noting z v page (Pin client address) note (record note { pins = note.pins + 1 }) frames z.tables history
+    pinning few frames_are = noting_pins (Pin client address) (note.pins + 1) frames history (valid_pinned v client address page named sound.valid spare few)
         (record { last = λ q w. refl; dirty = λ q. refl; pins = pinned_others v client address page named; maps = λ q ne. refl }) refl
         (record { isolated = sound.moves.isolated; moved = sound.moves.moved; back = sound.moves.back }) (record { each = sound.entries.each })
         (omega (arith, (note_seen view sound used note_is).fits.pins, pins_one_more v client address page named))
+        (frames_are ∙ ap (λ can. record z.frames { movable = movable_at z.frames.movable note.placement can }) (sym (pinned_stays note)))
 
-    pub unpinning : frames ≡ record z.frames { movable = movable_by z.frames.movable (record note { pins = note.pins - 1 }) } → history ≡ told z.history (Unpin client address) → Noting z v page (Unpin client address) note (record note { pins = note.pins - 1 }) frames z.tables history
+    pub unpinning : frames ≡ record z.frames { movable = movable_at z.frames.movable note.placement (can_move_by (record note { pins = note.pins - 1 })) } → history ≡ told z.history (Unpin client address) → Noting z v page (Unpin client address) note (record note { pins = note.pins - 1 }) frames z.tables history
     unpinning = noting_pins (Unpin client address) (note.pins - 1) frames history (valid_unpinned v client address page named sound.valid spare)
         (record { last = λ q w. refl; dirty = λ q. refl; pins = unpinned_others v client address page named; maps = λ q ne. refl }) refl
         (record { isolated = sound.moves.isolated; moved = sound.moves.moved; back = sound.moves.back }) (record { each = sound.entries.each })

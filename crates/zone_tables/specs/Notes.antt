@@ -34,7 +34,3 @@ can_move_by note = nat_eq note.pins 0 && not note.unmovable
 abbrev pub movable_at : List Bool → Option Placement → Bool → List Bool
 movable_at movable (Some (At frame)) can = slice_set movable frame can
 movable_at movable _ can = movable
-
--- the movable flags of frames, where the frame of the page with this note got what the note says
-abbrev pub movable_by : List Bool → PageNote → List Bool
-movable_by movable note = movable_at movable note.placement (can_move_by note)

@@ -38,7 +38,7 @@ impl Model for KeptNote {
 }
 
 impl KeptNote {
-    /// The note as it is kept.
+    /// The note as it is kept. There is room for 15 addresses. A page has 4 at most.
     #[inline(always)]
     pub fn of(note: PageNote) -> Self
         requires { note.maps ≤ 15 }
@@ -113,9 +113,8 @@ impl KeptNote {
         ensures { self.new ≡ record self.old { dirty = true } }
     {
         let marks = self.frame.tag();
-        if marks / DIRTY % 2 == 0 {
-            self.frame = Tagged::new(self.frame.number(), marks + DIRTY);
-        }
+        let clean = marks - marks / DIRTY % 2 * DIRTY;
+        self.frame = Tagged::new(self.frame.number(), clean + DIRTY);
     }
 
     /// Notes one pin more.
@@ -136,7 +135,7 @@ impl KeptNote {
         self.target = Tagged::new(self.target.number(), self.target.tag() - 1);
     }
 
-    /// Notes one address more.
+    /// Notes one address more. There is room for 15.
     #[inline(always)]
     pub fn share(&mut self)
         requires { self.old.maps < 15 }
@@ -155,7 +154,7 @@ impl KeptNote {
     }
 }
 
-/// The marks of a page that is nowhere yet.
+/// The marks of a page that is nowhere yet, with room for 15 addresses.
 #[inline(always)]
 fn marks(maps: u8, unmovable: bool, dirty: bool) -> u8
     requires { maps ≤ 15 }

@@ -4,7 +4,7 @@ use frame_core::Order;
 use std::marker::Model;
 
 /// The order of a block in one byte, or that there is none.
-#[derive(Clone, Copy, Debug)]
+#[derive(Clone, Copy)]
 pub struct KeptOrder {
     /// The order, or zero.
     number: u8,

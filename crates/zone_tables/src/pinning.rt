@@ -7,7 +7,7 @@ ghost use Rattle.state_core.specs.Valid.{IsValidZone};
 ghost use Rattle.state_core.specs.Pinning.{pins_at, pinned, unpinned};
 ghost use Rattle.state_core.specs.ZoneState.{has_room};
 ghost use Rattle.state_core.specs.declared.placement.Placement.TheVariants.{At};
-ghost use Rattle.zone_tables.specs.Notes.{movable_by};
+ghost use Rattle.zone_tables.specs.Notes.{movable_at};
 
 use crate::note::PageNote;
 use crate::zone::ZoneTables;
@@ -25,7 +25,7 @@ impl<const W: usize> ZoneTables<W> {
         ensures valid { IsValidZone self.new }
     {
         self.notes.pin(page);
-        say_movable(&mut self.frames, &self.notes.get(page));
+        say_movable(&mut self.frames, &self.notes.get(page), false);
         self.history.note(Record::Pin { client, address });
     }
 
@@ -38,18 +38,19 @@ impl<const W: usize> ZoneTables<W> {
         ensures valid { IsValidZone self.new }
     {
         self.notes.unpin(page);
-        say_movable(&mut self.frames, &self.notes.get(page));
+        let current = self.notes.get(page);
+        say_movable(&mut self.frames, &current, current.can_move());
         self.history.note(Record::Unpin { client, address });
     }
 }
 
 /// Notes in the frame of a page whether the page may be taken from it. A moving page has no such note.
 #[inline(always)]
-fn say_movable(frames: &mut Frames, note: &PageNote)
+fn say_movable(frames: &mut Frames, note: &PageNote, can_move: bool)
     requires { (frame : ℕ) → note.now.placement ≡ Some (At frame) → holds_at frames.old.states frame ≡ true }
-    ensures { frames.new ≡ record frames.old { movable = movable_by frames.old.movable note.now } }
+    ensures { frames.new ≡ record frames.old { movable = movable_at frames.old.movable note.now.placement can_move } }
 {
     if let Some(Placement::At(frame)) = note.placement {
-        frames.set_movable(frame, note.can_move());
+        frames.set_movable(frame, can_move);
     }
 }

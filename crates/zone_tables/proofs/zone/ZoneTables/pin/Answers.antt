@@ -1,4 +1,4 @@
-use Rattle.std.proofs.Common.{◌≡◌, ◌∙◌, length, ℕ, ◌+◌, ap, sym, arith}
+use Rattle.std.proofs.Common.{◌≡◌, ◌∙◌, length, ℕ, ◌+◌, false, ap, sym, arith}
 use Rattle.std.specs.Prelude.{Option, unwrap_or}
 use Rattle.std.proofs.lemmas.List.{length-set}
 use Rattle.std.proofs.lemmas.Option.{slice_get_within}
@@ -6,7 +6,7 @@ use Rattle.frame_core.specs.declared.record.Record.TheVariants.{Pin}
 use Rattle.frame_core.specs.History.{pins}
 use Rattle.state_core.proofs.Facts.{spare}
 use Rattle.zone_tables.specs.declared.note.PageNote.{PageNote}
-use Rattle.zone_tables.specs.Notes.{movable_by}
+use Rattle.zone_tables.specs.Notes.{movable_at}
 use Rattle.scan_core.specs.Frames.{is_holding_state}
 use Rattle.zone_tables.proofs.Facts.{held_by, is_sound}
 use Rattle.zone_tables.proofs.Noting.{Noting, noting_holds}
@@ -50,7 +50,7 @@ known c =
     pinning c.self.inside c.args.self.now (is_sound c.self.view_is c.self.invariant) c.self.view_is c.args.page (named_in_use c.self.view_is c.self.invariant c.args.address c.args.page c.requires.named) _ (named_note c.self.view_is c.self.invariant c.args.address c.args.page c.requires.named)
     c.args.client c.args.address c.requires.named (spare c.args.self.now c.requires.room) c.say_movable.new.frames c.note.new.self
     (omega (arith, c.requires.few, ap (λ (o : Option ℕ). pins c.args.self.now.records (unwrap_or o 0)) c.requires.named))
-    (c.say_movable.ensures ∙ ap (λ (n : PageNote). record c.self.inside.frames { movable = movable_by c.self.inside.frames.movable n }) (read c.before.before.before.before))
+    (c.say_movable.ensures ∙ ap (λ (n : PageNote). record c.self.inside.frames { movable = movable_at c.self.inside.frames.movable n.placement false }) (read c.before.before.before.before))
     c.note.ensures
 
 pub invariant_of-self : goal.invariant_of-self
