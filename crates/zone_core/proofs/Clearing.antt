@@ -315,8 +315,8 @@ pub clears_past : (is_in : ℕ → Bool) (old z : ZoneState) (number top last : 
 clears_past is_in old z number top last is low none =
     let all : number + (last - number) ≡ last = omega (arith, low) in
     subst (λ (k : ℕ). IsPartCleared is_in old z k top) all (by_frames (last - number) (λ frame from below. none frame from (omega (arith, below, all)))) where
-  by_frames : (d : ℕ) → ((frame : ℕ) → number ≤ frame → frame < number + d → is_in frame ≡ false) → IsPartCleared is_in old z (number + d) top
-  by_frames zero none = let same : number ≡ number + 0 = omega arith in subst (λ (k : ℕ). IsPartCleared is_in old z k top) same is
-  by_frames (suc d) none =
-      let next : number + d + 1 ≡ number + suc d = omega arith in
-      subst (λ (k : ℕ). IsPartCleared is_in old z k top) next (clears_over is_in old z (number + d) top (by_frames d (λ frame from below. none frame from (omega (arith, below)))) (none (number + d) (omega arith) (omega arith)))
+      by_frames : (d : ℕ) → ((frame : ℕ) → number ≤ frame → frame < number + d → is_in frame ≡ false) → IsPartCleared is_in old z (number + d) top
+      by_frames zero none = let same : number ≡ number + 0 = omega arith in subst (λ (k : ℕ). IsPartCleared is_in old z k top) same is
+      by_frames (suc d) none =
+          let next : number + d + 1 ≡ number + suc d = omega arith in
+          subst (λ (k : ℕ). IsPartCleared is_in old z k top) next (clears_over is_in old z (number + d) top (by_frames d (λ frame from below. none frame from (omega (arith, below)))) (none (number + d) (omega arith) (omega arith)))

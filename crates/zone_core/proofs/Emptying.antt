@@ -1,12 +1,12 @@
 -- The frames of a run, or of several, are emptied one after the other.
-use Rattle.std.proofs.Common.{◌≡◌, ◌≢◌, ℕ, zero, suc, ◌+◌, ◌-◌, ◌*◌, ◌<◌, ◌≤◌, Bool, true, false, not, ◌&&◌, ◌||◌, cond, length, inl, inr, refl, sym, subst, ap, ◌∙◌, arith}
-use Rattle.std.specs.Prelude.{Option, Some, None, is_some, nat_le, nat_eq}
+use Rattle.std.proofs.Common.{◌≡◌, ◌≢◌, ℕ, zero, suc, ◌+◌, ◌-◌, ◌<◌, ◌≤◌, Bool, true, false, not, ◌&&◌, ◌||◌, cond, length, inl, inr, refl, sym, ap, ◌∙◌, arith}
+use Rattle.std.specs.Prelude.{Option, Some, None, is_some, nat_le}
 use Rattle.std.specs.FinMap as map
-use Rattle.std.proofs.lemmas.Bool.{and_left, and_parts, and_from, and_right, both_ways, cases_Bool, eq-eqb, false_from_ne_true, le-leb, leb-true, lt-ltb, ltb-true, ne_eqb, not-true, not-false, or_parts}
+use Rattle.std.proofs.lemmas.Bool.{and_left, and_parts, and_from, and_right, both_ways, cases_Bool, eq-eqb, false_from_ne_true, le-leb, leb-true, lt-ltb, ltb-true, not-true, not-false, or_parts}
 use Rattle.std.proofs.lemmas.Bool.Decides.{eqb_tells, leb_tells}
 use Rattle.frame_core.proofs.Searches.{count_from_same, count_none, some_none, some_one}
 use Rattle.frame_core.specs.Below.{one_if, count_below, count_from, highest}
-use Rattle.frame_core.specs.Moves.{isolated, moved, out}
+use Rattle.frame_core.specs.Moves.{out}
 use Rattle.state_core.specs.declared.placement.Placement.{Placement}
 use Rattle.state_core.specs.declared.placement.Placement.TheVariants.{At}
 use Rattle.state_core.specs.Isolating.{isolate_refusal, has_room_for_two}
@@ -20,7 +20,7 @@ use Rattle.state_core.proofs.Runs.{count_from_none, count_split}
 use Rattle.fewest_core.specs.Evacuation.{is_beside, is_in_run, moved_away}
 use Rattle.fewest_core.specs.Reservation.{highest_beside}
 use Rattle.fewest_core.specs.FewestMoves.{Move, IsMove, has_to_stay, is_immovable, is_moving, is_shut}
-use Rattle.fewest_core.proofs.Counts.{count_but_one, none_counted}
+use Rattle.fewest_core.proofs.Counts.{count_but_one}
 use Rattle.fewest_core.proofs.Evacuation.{as_many_out}
 use Rattle.fewest_core.proofs.Moves.{others_same, shut_once, stays_free, stays_used, target_used, used_at, used_not_free}
 use Rattle.fewest_core.proofs.Reached.{own_if_valid, rests_at, source_unused, stays_vacant, used_before}

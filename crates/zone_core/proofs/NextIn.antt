@@ -1,5 +1,5 @@
 -- The lowest frame of several runs, found run by run.
-use Rattle.std.proofs.Common.{◌≡◌, ℕ, ◌+◌, ◌<◌, ◌≤◌, Bool, true, false, ◌||◌, min, max, inl, inr, refl, sym, subst, ◌∙◌, arith}
+use Rattle.std.proofs.Common.{◌≡◌, ℕ, ◌+◌, ◌<◌, ◌≤◌, Bool, true, ◌||◌, min, max, inl, inr, sym, subst, arith}
 use Rattle.std.specs.Prelude.{Option, Some, None}
 use Rattle.std.proofs.lemmas.Bool.{false_from_ne_true, or_from, or_left, or_right}
 use Rattle.std.proofs.lemmas.Bool.Decides.{leb_tells}
@@ -21,15 +21,15 @@ module _ (p q : ℕ → Bool) (from : ℕ) where
   earlier : (one other : ℕ) → IsNextIn p from one → IsNextIn q from other → IsNextIn (λ k. p k || q k) from (min one other)
   earlier one other a b = elim (leb_tells one other) [
     | inl le ↦ (let at : min one other ≡ one = omega (arith, le.1) in record {
-        passes = subst (λ (k : ℕ). (p k || q k) ≡ true) (sym at) (or_left (p one) (q one) a.passes);
-        least = omega (arith, at, a.least);
-        between = λ k low high. or_from (p k) (q k) (a.between k low (omega (arith, at, high))) (b.between k low (omega (arith, at, high, le.1)));
-      })
+      passes = subst (λ (k : ℕ). (p k || q k) ≡ true) (sym at) (or_left (p one) (q one) a.passes);
+      least = omega (arith, at, a.least);
+      between = λ k low high. or_from (p k) (q k) (a.between k low (omega (arith, at, high))) (b.between k low (omega (arith, at, high, le.1)));
+    })
     | inr gt ↦ (let at : min one other ≡ other = omega (arith, gt.1) in record {
-        passes = subst (λ (k : ℕ). (p k || q k) ≡ true) (sym at) (or_right (p other) (q other) b.passes);
-        least = omega (arith, at, b.least);
-        between = λ k low high. or_from (p k) (q k) (a.between k low (omega (arith, at, high, gt.1))) (b.between k low (omega (arith, at, high)));
-      })
+      passes = subst (λ (k : ℕ). (p k || q k) ≡ true) (sym at) (or_right (p other) (q other) b.passes);
+      least = omega (arith, at, b.least);
+      between = λ k low high. or_from (p k) (q k) (a.between k low (omega (arith, at, high, gt.1))) (b.between k low (omega (arith, at, high)));
+    })
   ]
 
   pub lower_is : (one other : Option ℕ) → IsNext p from one → IsNext q from other → IsNext (λ k. p k || q k) from (lower one other)

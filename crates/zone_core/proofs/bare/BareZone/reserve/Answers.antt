@@ -21,8 +21,7 @@ pub hand_out_each-requires : goal.hand_out_each-requires
 hand_out_each-requires g c =
     let z = c.args.self.now in
     let firsts = c.pick.new.firsts in
-    let accepted = ap (λ (k : ℕ). reserve_refusal c.args.self.now k c.args.order) c.pick.ensures.count ∙ sym c.in_ok-pages.ensures.refused in
-    (
+    let accepted = ap (λ (k : ℕ). reserve_refusal c.args.self.now k c.args.order) c.pick.ensures.count ∙ sym c.in_ok-pages.ensures.refused in (
       omega arith,
       (
         room_left z c.args.order firsts c.pick.ensures.picked accepted c.clear.new.self (frame_count z) c.clear.ensures.emptied refl,
