@@ -18,14 +18,24 @@ pub fn assert_counts(
     journal: &Journal,
     told: Info,
 ) {
-    let states = states(rt, frames);
+    let states = assert_frames(rt, frames, told);
     let records = journal.kept().expect(rt, "a kept journal");
-    assert_told(rt, told, &states);
     assert!(rt; told.huge as usize == blocks_out(records));
+    assert_newest(rt, records, &states);
+}
+
+/// The counts of frames that a zone tells, and the sets of its frames, are what walks find. The answer is what each frame is used for.
+pub fn assert_frames(
+    rt: &(impl Abort + AllocGlobal),
+    frames: &Frames,
+    told: Info,
+) -> Vec<FrameState<PageNo>> {
+    let states = states(rt, frames);
+    assert_told(rt, told, &states);
     assert!(rt; (frames.free(), frames.whole_blocks()) == (told.free, told.whole));
     assert_free(rt, frames, &states);
     assert_runs(rt, frames, &states);
-    assert_newest(rt, records, &states);
+    states
 }
 
 /// What each frame is used for.

@@ -1,9 +1,11 @@
-//! Zones of 1, 9, 512 and 4,096 pageblocks without a journal, and what they have at their upper end.
+//! Zones of 1, 9, 512 and 4,096 pageblocks without a journal, and what they have at their upper end. What they keep of their frames is
+//! what walks find.
 
 ghost use Rattle.std.specs.Prelude.{◌<◌, ◌≤◌};
 
 use super::answers::{Answer, Shown, assert_answer};
 use super::calls::{Call, Name, PAGE, told, value_of};
+use super::counts::assert_frames;
 use super::{address, block, client, frame, order};
 use frame_core::ZoneNo;
 use std::process::Abort;
@@ -61,6 +63,7 @@ fn uses_the_last_frame(rt: &(impl Abort + AllocGlobal), blocks: u32)
     plays(rt, &mut zone, "the last frame", &rows);
     assert!(rt; frame_of(rt, &zone, PAGE) == last);
     assert!(rt; zone.marked(block(rt, blocks - 1)) == Some(true));
+    assert_frames(rt, zone.frames(), zone.info());
 }
 
 /// When all pageblocks are handed out, the last one is given back and has room for a smaller block and a page.
@@ -80,6 +83,7 @@ fn hands_out_each_pageblock(rt: &(impl Abort + AllocGlobal), blocks: u32)
         (Call::Map(PAGE), Answer::Frame(first + 8)),
     ];
     plays(rt, &mut zone, "each pageblock", &rows);
+    assert_frames(rt, zone.frames(), zone.info());
 }
 
 /// A round moves a page from frame 0 to the last frame, and an evacuation of the last eight frames to the one below them.
@@ -92,6 +96,7 @@ fn moves_a_page(rt: &(impl Abort + AllocGlobal), blocks: u32)
     assert!(rt; zone.compact() == Answered::Met && frame_of(rt, &zone, PAGE) == last);
     assert!(rt; zone.evacuate(frame(rt, last - 7), order(rt, 3)) == Ok(1));
     assert!(rt; frame_of(rt, &zone, PAGE) == last - 8);
+    assert_frames(rt, zone.frames(), zone.info());
 }
 
 fn tries_zone(rt: &(impl Abort + AllocGlobal), blocks: u32)
