@@ -1,4 +1,6 @@
 pub mod Early
+pub mod Isolated
+pub mod Limits
 pub mod Lists
 pub mod Sharing
 pub mod ByHand

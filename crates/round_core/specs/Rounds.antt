@@ -1,5 +1,5 @@
 -- What a round does, and when it is refused.
-use Rattle.std.specs.Prelude.{◌≡◌, ◌≢◌, ℕ, ◌+◌, ◌<◌, List, map, All, ⊤, Option, Some, None, Result, Err, IfErr, ◌↔◌, ◌⊎◌}
+use Rattle.std.specs.Prelude.{◌≡◌, ◌≢◌, ℕ, ◌+◌, ◌<◌, List, map, All, ⊤, Option, Some, None, Result, Err, IfOk, IfErr, ◌↔◌, ◌⊎◌}
 use Rattle.std.specs.List.{flat_map, range_with_len}
 use Rattle.std.specs.List.Sorted.{IsPermutation, IsStrictlyIncreasing}
 use Rattle.zone_core.specs.ByHand.{all_isolated}
@@ -20,6 +20,7 @@ use Rattle.round_core.specs.declared.round.Stop.TheVariants as stop
 abbrev pub answer_at : Stop → Answered
 answer_at stop.Met = answered.Met
 answer_at stop.JournalFull = answered.JournalFull
+answer_at stop.Most = answered.Page
 
 -- why the scanner stops, by what the journal refuses to isolate a page as
 abbrev pub stop_for : Option ZoneError → Stop
@@ -68,6 +69,10 @@ pub record IsRound (scan scan_new : ScanSeat) (ends ends_new : EndSeat) (r : Rou
   -- the scan seat counts one round more, and the round stopped at its last answer
   pub rounds : scan_new.rounds ≡ scan.rounds + 1
   pub stopped : scan_new.last ≡ Some (answer_at r.stopped)
+
+-- a round has no limit at which it stops
+abbrev pub IsUnlimited : Result Round RoundError → Type 0
+IsUnlimited result = IfOk result (λ r. r.stopped ≢ stop.Most)
 
 -- a part of the end seat is missing, or its counts don't add up to the scan seat's
 abbrev pub IsBroken : ScanSeat → EndSeat → Type 0

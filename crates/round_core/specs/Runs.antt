@@ -7,6 +7,7 @@ use Rattle.zone_core.specs.Seats.{ScanSeat, EndSeat}
 use Rattle.round_core.specs.Counts.{CountsOn}
 use Rattle.round_core.specs.Crews.{IsUnused, IsUnsent, AreListed}
 use Rattle.round_core.specs.Rounds.{answer_at}
+use Rattle.round_core.specs.Scanning.{HasMore, IsAllowed, limit_at}
 use Rattle.round_core.specs.declared.memory.CopierResults.{CopierResults}
 use Rattle.round_core.specs.declared.memory.Memory.{Memory}
 use Rattle.round_core.specs.declared.memory.CopierParts.{CopierParts}
@@ -38,6 +39,7 @@ pub record IsReady (serial : ℕ) (m : Memory) : Type 0 where
   pub copier_parts : IsUnstarted m.copier_parts
   pub copies : has_ended m.copies.taker ≡ false
   pub pages : (m.pages.list.items ≡ []) × (0 < deque_capacity m.pages.list)
+  pub more : HasMore m.pages.left
   pub joined : IsEmpty (vec_len m.copier_parts.takers) m.joined
 
 -- how many pages or copies a batch has at most, over queues with room for `cap`
@@ -83,20 +85,20 @@ pub record HasRun (serial : ℕ) (scan : ScanSeat) (ran : RoundRun) : Type 0 whe
   pub count : IfSome ran.stop (λ _. scan.count ≡ ran.giver.base + length ran.giver.given)
   pub stopped : IfSome ran.stop (λ stop. scan.last ≡ Some (answer_at stop))
 
--- how a round with this many copiers ran, by the seats before and after it, where the scanner may stop as told. Where it came to an end,
--- and no moving page has a pin, no page was put back
-pub record IsRunOver (stops_at : ℕ → Stop → Type 0) (unpinned : Type 0) (copiers : ℕ) (scan scan_new : ScanSeat) (ends ends_new : EndSeat) (ran : RoundRun) : Type 0 where
+-- how a round with this many copiers ran, by the seats before and after it, where the scanner may stop as told, and at the limit if there is
+-- one. Where it came to an end, and no moving page has a pin, no page was put back
+pub record IsRunOver (stops_at : ℕ → Stop → Type 0) (unpinned : Type 0) (most : Option ℕ) (copiers : ℕ) (scan scan_new : ScanSeat) (ends ends_new : EndSeat) (ran : RoundRun) : Type 0 where
   pub has_run : HasRun scan.count scan_new ran
   -- each copier has its list
   pub lists : vec_len ran.joined.lists ≡ copiers
-  pub stops : IfSome ran.stop (stops_at scan_new.count)
+  pub stops : IfSome ran.stop (IsAllowed stops_at (limit_at scan.count most) scan_new.count)
   pub back : OnSome ran.stop (unpinned → ends_new.back ≡ ends.back)
   pub rounds : scan_new.rounds ≡ scan.rounds + 1
 
 -- what came of running the threads of a round with this many copiers, by the seats before and after it: it ran, or one of them couldn't be
 -- started, and then the scan seat is as it was. The end seat counts no fewer pages than before
-pub record IsRunOrNot (stops_at : ℕ → Stop → Type 0) (unpinned : Type 0) (copiers : ℕ) (scan scan_new : ScanSeat) (ends ends_new : EndSeat) (result : Option RoundRun) : Type 0 where
-  pub ran : IfSome result (IsRunOver stops_at unpinned copiers scan scan_new ends ends_new)
+pub record IsRunOrNot (stops_at : ℕ → Stop → Type 0) (unpinned : Type 0) (most : Option ℕ) (copiers : ℕ) (scan scan_new : ScanSeat) (ends ends_new : EndSeat) (result : Option RoundRun) : Type 0 where
+  pub ran : IfSome result (IsRunOver stops_at unpinned most copiers scan scan_new ends ends_new)
   pub none : IfNone result (scan_new ≡ scan)
   pub counts : CountsOn ends ends_new
 

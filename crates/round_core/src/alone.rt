@@ -4,7 +4,7 @@ ghost use Rattle.zone_core.specs.ByHand.{by_hand};
 ghost use Rattle.zone_core.specs.Fingers.{IsSameInRound};
 ghost use Rattle.zone_core.specs.Outcome.{IsSame};
 ghost use Rattle.round_core.specs.Kept.{LockInvariant};
-ghost use Rattle.round_core.specs.Rounds.{IsRound, IsRefusedEarly, IsBroken, stop_by_hand};
+ghost use Rattle.round_core.specs.Rounds.{IsRound, IsRefusedEarly, IsBroken, IsUnlimited, stop_by_hand};
 ghost use Rattle.state_core.specs.Packed.{IsPacked};
 ghost use Rattle.state_core.specs.Pairs.{is_calm};
 ghost use Rattle.state_core.specs.ZoneState.{is_quiet};
@@ -53,6 +53,7 @@ pub fn compact_alone<
     ensures count { IfOk result.1 (λ r. isolated zone.records + r.count ≡ isolated (by_hand zone).records) }
     ensures none_back { IfOk result.1 (λ r. r.back ≡ 0) }
     ensures stopped { IfOk result.1 (λ r. r.stopped ≡ stop_by_hand zone) }
+    ensures unlimited { IsUnlimited result.1 }
     // Where nothing was stuck and the scanners met, the zone is packed.
     ensures packed { IfOk result.1 (λ r. r.stopped ≡ Stop.Met → is_calm zone ≡ true → IsPacked result.0) }
     // It had as many copiers as were asked for: each has its list.
@@ -99,6 +100,7 @@ fn compact_shared<
     requires begins { K.begins_at seats.old.scan.count }
     ensures keeps { K.keeps result.0 }
     ensures stops { IfOk result.1 (λ r. K.stops_at seats.new.scan.count r.stopped) }
+    ensures unlimited { IsUnlimited result.1 }
     ensures none_back { OnOk result.1 (K.unpinned → seats.new.ends.back ≡ seats.old.ends.back) }
     ensures lists { IfOk result.1 (λ r. vec_len r.by_copier ≡ copiers) }
     ensures kept { LockInvariant result.0 }

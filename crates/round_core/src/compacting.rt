@@ -1,7 +1,8 @@
-ghost use Rattle.std.specs.Prelude.{◌≡◌, ◌+◌, ◌*◌, ◌<◌, ◌≤◌, ◌↔◌, true, map, Some, IsOk, IfOk, IfErr, OnOk, length, vec_len};
+ghost use Rattle.std.specs.Prelude.{◌≡◌, ◌≢◌, ◌+◌, ◌*◌, ◌<◌, ◌≤◌, ◌↔◌, true, map, None, Some, IsOk, IfOk, IfErr, OnOk, length, vec_len};
 ghost use Rattle.round_core.specs.Counts.{AreCounted};
-ghost use Rattle.round_core.specs.Rounds.{AreShared, IsRound, IsRefusedEarly, IsAfter, IsWant};
+ghost use Rattle.round_core.specs.Rounds.{AreShared, IsRound, IsRefusedEarly, IsAfter, IsUnlimited, IsWant};
 ghost use Rattle.round_core.specs.Runs.{CanRun, AreJoined, HasRun, IsLentBack, IsRunOrNot};
+ghost use Rattle.round_core.specs.Scanning.{HasMore, IsAllowed, limit_at};
 
 use crate::crew::{RoundRun, run};
 use crate::error::RoundError;
@@ -21,8 +22,9 @@ use zone_core::{Audit, Seats};
 
 /// Moves what can be moved, with 1 to 4 copiers, over queues with room for `cap` pages and for `cap` copies, 1 to 64. Under one hold of
 /// the lock as many pages are isolated as a queue has room for, or as there are in a batch for each copier where that is more. A
-/// batch has up to eight pages, and no more than a queue has room for. At most as many copies are committed under one hold. What can
-/// fail for want of memory or of a thread fails before the first page is isolated.
+/// batch has up to eight pages, and no more than a queue has room for. At most as many copies are committed under one hold. The list of
+/// a copier has room for the serials of half the zone's frames. What can fail for want of memory or of a thread fails before the first
+/// page is isolated.
 ///
 /// Refused as Broken where `audit` refuses, before anything else; as Memory or NoWorker, and then no round was begun; as Stranger where
 /// the zone refused a copy, or a page that was to be put back; as Broken where an end of a queue was gone, a copier's list had no place for a page, or the audit after the
@@ -48,15 +50,86 @@ pub fn compact<
     requires cap { (0 < cap) × (cap ≤ 64) }
     requires begins { K.begins_at seats.old.scan.count }
     ensures stops { IfOk result (λ r. K.stops_at seats.new.scan.count r.stopped) }
+    ensures unlimited { IsUnlimited result }
     ensures none_back { OnOk result (K.unpinned → seats.new.ends.back ≡ seats.old.ends.back) }
     // It had as many copiers as were asked for: each has its list.
     ensures lists { IfOk result (λ r. vec_len r.by_copier ≡ copiers) }
     ensures round { IfOk result (λ r. IsRound seats.old.scan seats.new.scan seats.old.ends seats.new.ends r) }
     ensures early { IsRefusedEarly seats.old.scan seats.new.scan seats.old.ends seats.new.ends result }
 {
+    run_round(rt, alloc, shared, seats, copiers, cap, None, gate)
+}
+
+/// Runs a round as `compact` does that isolates `most` pages at most. The list of a copier has room for so many serials, or for those of
+/// half the zone's frames where these are fewer. Refused as `compact` is.
+pub fn compact_at_most<
+    K: Keeping + Send + Sync,
+    I: Ledger + Send + Sync,
+    N: Ledger,
+    M: Ledger + Send + Sync,
+    B: Ledger + Send + Sync,
+    G: Gate,
+    R: Threads + Wait + Sync,
+>(
+    rt: &R,
+    alloc: Global,
+    shared: &KeptZone<K, I, M, B>,
+    seats: &mut Seats<I, N, M, B>,
+    copiers: usize,
+    cap: usize,
+    most: u32,
+    gate: &G,
+) -> Result<Round, RoundError>
+    requires copiers { (0 < copiers) × (copiers ≤ 4) }
+    requires cap { (0 < cap) × (cap ≤ 64) }
+    requires most { 0 < most }
+    requires begins { K.begins_at seats.old.scan.count }
+    // It isolates no more pages than it may, and stops as Most exactly where it isolated so many.
+    ensures most { IfOk result (λ r. r.count ≤ most) }
+    ensures exact { IfOk result (λ r. (r.stopped ≡ Stop.Most) ↔ (r.count ≡ most)) }
+    ensures stops { IfOk result (λ r. r.stopped ≢ Stop.Most → K.stops_at seats.new.scan.count r.stopped) }
+    ensures none_back { OnOk result (K.unpinned → seats.new.ends.back ≡ seats.old.ends.back) }
+    // It had as many copiers as were asked for: each has its list.
+    ensures lists { IfOk result (λ r. vec_len r.by_copier ≡ copiers) }
+    ensures round { IfOk result (λ r. IsRound seats.old.scan seats.new.scan seats.old.ends seats.new.ends r) }
+    ensures early { IsRefusedEarly seats.old.scan seats.new.scan seats.old.ends seats.new.ends result }
+{
+    run_round(rt, alloc, shared, seats, copiers, cap, Some(most), gate)
+}
+
+/// Runs a round, with a limit if there is one.
+fn run_round<
+    K: Keeping + Send + Sync,
+    I: Ledger + Send + Sync,
+    N: Ledger,
+    M: Ledger + Send + Sync,
+    B: Ledger + Send + Sync,
+    G: Gate,
+    R: Threads + Wait + Sync,
+>(
+    rt: &R,
+    alloc: Global,
+    shared: &KeptZone<K, I, M, B>,
+    seats: &mut Seats<I, N, M, B>,
+    copiers: usize,
+    cap: usize,
+    most: Option<u32>,
+    gate: &G,
+) -> Result<Round, RoundError>
+    requires copiers { (0 < copiers) × (copiers ≤ 4) }
+    requires cap { (0 < cap) × (cap ≤ 64) }
+    requires most { HasMore most }
+    requires begins { K.begins_at seats.old.scan.count }
+    ensures stops { IfOk result (λ r. IsAllowed K.stops_at (limit_at seats.old.scan.count most) seats.new.scan.count r.stopped) }
+    ensures none_back { OnOk result (K.unpinned → seats.new.ends.back ≡ seats.old.ends.back) }
+    ensures lists { IfOk result (λ r. vec_len r.by_copier ≡ copiers) }
+    ensures round { IfOk result (λ r. IsRound seats.old.scan seats.new.scan seats.old.ends seats.new.ends r) }
+    ensures early { IsRefusedEarly seats.old.scan seats.new.scan seats.old.ends seats.new.ends result }
+{
     let before = audit(rt, shared, seats)?;
-    let serials = 256 * shared.blocks() as usize;
-    let Ok(memory) = reserve(rt, alloc, before.isolated, copiers, serials, cap) else {
+    let all = 256 * shared.blocks();
+    let serials = most.unwrap_or(all).min(all) as usize;
+    let Ok(memory) = reserve(rt, alloc, before.isolated, copiers, serials, cap, most) else {
         return Err(RoundError::Memory);
     };
     let Some(ran) = in_scope(rt, shared, seats, memory, gate) else {
@@ -118,7 +191,7 @@ fn in_scope<
     gate: &G,
 ) -> Option<RoundRun>
     requires { CanRun K.begins_at seats.old.scan seats.old.ends memory }
-    ensures { IsRunOrNot K.stops_at K.unpinned (vec_len memory.copier_parts.takers) seats.old.scan seats.new.scan seats.old.ends seats.new.ends result }
+    ensures { IsRunOrNot K.stops_at K.unpinned memory.pages.left (vec_len memory.copier_parts.takers) seats.old.scan seats.new.scan seats.old.ends seats.new.ends result }
 {
     let lent = &mut *seats;
     let (lent, ran) = thread::scope(
@@ -126,7 +199,7 @@ fn in_scope<
         rt,
         move |scope| -> (&mut Seats<I, N, M, B>, Option<RoundRun>)
             requires { CanRun K.begins_at lent.now.scan lent.now.ends memory }
-            ensures { IsLentBack lent.entry.ghost_name result.0.ghost_name × IsRunOrNot K.stops_at K.unpinned (vec_len memory.copier_parts.takers) lent.entry.now.scan result.0.now.scan lent.entry.now.ends result.0.now.ends result.1 }
+            ensures { IsLentBack lent.entry.ghost_name result.0.ghost_name × IsRunOrNot K.stops_at K.unpinned memory.pages.left (vec_len memory.copier_parts.takers) lent.entry.now.scan result.0.now.scan lent.entry.now.ends result.0.now.ends result.1 }
         {
             let ran = run(scope, rt, shared, lent, memory, gate);
             (lent, ran)

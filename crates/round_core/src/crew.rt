@@ -2,6 +2,7 @@ ghost use Rattle.std.specs.Prelude.{◌≡◌, ◌+◌, ◌<◌, ◌≤◌, fals
 ghost use Rattle.std.specs.VecDeque.{deque_capacity};
 ghost use Rattle.hand_core.specs.CopyEnds.{has_ended};
 ghost use Rattle.round_core.specs.Runs.{IsFresh, IsUnstarted, IsEmpty, CanRun, AreJoined, IsRunOver, IsRunOrNot};
+ghost use Rattle.round_core.specs.Scanning.{HasMore};
 
 use crate::committer::{Committed, Committer, start_committer};
 use crate::copier::{Carried, Copier, start_copier};
@@ -168,9 +169,10 @@ fn run_crew<K: Keeping, I: Ledger, N: Ledger, M: Ledger, B: Ledger, G: Gate, R: 
     requires giver { IsFresh scan.old.count crew.giver }
     requires copiers { All (λ c. c.promise.taker.value.hand_over ≡ crew.giver.hand_over) crew.copiers.items }
     requires pages { (pages.list.items ≡ []) × (0 < deque_capacity pages.list) }
+    requires left { HasMore pages.left }
     requires joined { IsEmpty (vec_len crew.copiers) joined }
     requires begins { K.begins_at scan.old.count }
-    ensures ran { IsRunOver K.stops_at K.unpinned (vec_len crew.copiers) scan.old scan.new ends.old ends.new result }
+    ensures ran { IsRunOver K.stops_at K.unpinned pages.left (vec_len crew.copiers) scan.old scan.new ends.old ends.new result }
     ensures ends { (ends.new.parts ≡ ends.old.parts + 1) × (ends.old.moved ≤ ends.new.moved) × (ends.old.back ≤ ends.new.back) }
 {
     let Crew {
@@ -220,7 +222,7 @@ pub(crate) fn run<
     gate: &'e G,
 ) -> Option<RoundRun>
     requires { CanRun K.begins_at seats.old.scan seats.old.ends memory }
-    ensures { IsRunOrNot K.stops_at K.unpinned (vec_len memory.copier_parts.takers) seats.old.scan seats.new.scan seats.old.ends seats.new.ends result }
+    ensures { IsRunOrNot K.stops_at K.unpinned memory.pages.left (vec_len memory.copier_parts.takers) seats.old.scan seats.new.scan seats.old.ends seats.new.ends result }
 {
     let Memory {
         copier_parts,

@@ -22,7 +22,7 @@ mod stack;
 mod under_lock;
 
 pub use alone::compact_alone;
-pub use compacting::compact;
+pub use compacting::{compact, compact_at_most};
 pub use copier::{Carried, carry};
 pub use error::RoundError;
 pub use gate::{Gate, NoGate, Point};

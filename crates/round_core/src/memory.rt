@@ -4,6 +4,7 @@ ghost use Rattle.std.specs.Prelude.{◌≡◌, ◌/◌, ◌<◌, ◌≤◌, [], 
 ghost use Rattle.hand_core.specs.CopyEnds.{has_ended};
 ghost use Rattle.round_core.specs.Crews.{IsUnused, IsUnsent};
 ghost use Rattle.round_core.specs.Runs.{IsFresh, IsEmpty, IsReady, HasRoom};
+ghost use Rattle.round_core.specs.Scanning.{HasMore};
 
 use crate::copier::Copier;
 use crate::division::Division;
@@ -49,6 +50,8 @@ pub(crate) struct Pages {
     pub(crate) division: Division,
     /// Those that are isolated under one hold of the lock.
     pub(crate) list: VecDeque<Isolated>,
+    /// How many more the round may isolate, where it has a limit.
+    pub(crate) left: Option<u32>,
 }
 
 /// What the copiers handed back.
@@ -60,7 +63,7 @@ pub(crate) struct CopierResults {
 }
 
 /// Takes the memory of a round whose first page has the serial `base`: `cap` pages and copies in the queues, and `serials`
-/// serials in the list of each copier.
+/// serials in the list of each copier. The round may isolate `most` pages, or as many as move.
 pub(crate) fn reserve<R>(
     rt: &R,
     alloc: Global,
@@ -68,10 +71,13 @@ pub(crate) fn reserve<R>(
     copiers: usize,
     serials: usize,
     cap: usize,
+    most: Option<u32>,
 ) -> Result<Memory, AllocError>
     requires copiers { (0 < copiers) × (copiers ≤ 4) }
     requires cap { (0 < cap) × (cap ≤ 64) }
+    requires most { HasMore most }
     ensures ready { IfOk result (IsReady base) }
+    ensures most { IfOk result (λ memory. memory.pages.left ≡ most) }
     ensures copiers { IfOk result (λ memory. vec_len memory.copier_parts.takers ≡ copiers) }
     ensures room { IfOk result (HasRoom copiers cap serials) }
 {
@@ -88,7 +94,11 @@ pub(crate) fn reserve<R>(
     Ok(Memory {
         copier_parts,
         copies: Copies { taker, gathered },
-        pages: Pages { division, list },
+        pages: Pages {
+            division,
+            list,
+            left: most,
+        },
         joined,
     })
 }

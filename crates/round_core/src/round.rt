@@ -6,6 +6,8 @@ pub enum Stop {
     /// The scanners met: no page may be taken that has a frame to go to.
     Met,
     JournalFull,
+    /// As many pages were isolated as the round may take.
+    Most,
 }
 
 /// What a round did.

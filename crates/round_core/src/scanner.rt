@@ -3,7 +3,7 @@ ghost use Rattle.std.specs.VecDeque.{deque_capacity};
 ghost use Rattle.frame_core.specs.Serials.{HasSerialsFrom};
 ghost use Rattle.round_core.specs.Counts.{CountsBack};
 ghost use Rattle.round_core.specs.Crews.{IsNext};
-ghost use Rattle.round_core.specs.Scanning.{HasStopped};
+ghost use Rattle.round_core.specs.Scanning.{HasMore, HasStopped, limit_at};
 
 use crate::division::Division;
 use crate::gate::{Gate, Point, SCANNER, tell_all};
@@ -19,8 +19,8 @@ use std::sync::Wait;
 use std::sync::ledger::Ledger;
 use zone_core::{EndSeat, ScanSeat};
 
-/// Isolates pages and gives them, as many at once as the empty list has room for, until the scanners meet or the journal is
-/// full. Where the takers are gone, the pages that nobody took are put back, and the answer is an `Err`: with the least serial of
+/// Isolates pages and gives them, as many at once as the empty list has room for, until the scanners meet, the journal is full or
+/// the round is at its limit. Where the takers are gone, the pages that nobody took are put back, and the answer is an `Err`: with the least serial of
 /// those that the zone refused, if there is one.
 pub(crate) fn scan_all<K: Keeping, I: Ledger, N: Ledger, M: Ledger, B: Ledger, G: Gate, R: Wait>(
     rt: &R,
@@ -33,20 +33,20 @@ pub(crate) fn scan_all<K: Keeping, I: Ledger, N: Ledger, M: Ledger, B: Ledger, G
 ) -> Result<Stop, Option<Serial>>
     requires next { IsNext scan.old.count giver.old }
     requires pages { (pages.old.list.items ≡ []) × (0 < deque_capacity pages.old.list) }
+    requires left { HasMore pages.old.left }
     requires begins { K.begins_at scan.old.count }
     ensures giver { giver.new ≡ record giver.old { given = giver.new.given } }
     ensures count { OnOk result (IsNext scan.new.count giver.new) }
-    ensures stopped { IfOk result (HasStopped K.stops_at scan.new) }
+    ensures stopped { IfOk result (HasStopped K.stops_at (limit_at scan.old.count pages.old.left) scan.new) }
     ensures rounds { scan.new.rounds ≡ scan.old.rounds + 1 }
     ensures ends { CountsBack ends.old ends.new }
     ensures back { OnOk result (ends.new.back ≡ ends.old.back) }
     // Where the zone refused none, each page that was counted was given or put back.
     ensures left { result ≡ Err None → giver.new.base + length giver.new.given + ends.new.back ≡ scan.new.count + ends.old.back }
 {
-    let Pages { division, list } = pages;
-    match isolate_and_give(rt, shared, scan, giver, list, *division, gate) {
+    match isolate_and_give(rt, shared, scan, giver, pages, gate) {
         Some(stop) => Ok(stop),
-        None => Err(put_back_pages(&mut shared.lock(rt), ends, list)),
+        None => Err(put_back_pages(&mut shared.lock(rt), ends, &mut pages.list)),
     }
 }
 
@@ -56,26 +56,31 @@ fn isolate_and_give<K: Keeping, I: Ledger, N: Ledger, M: Ledger, B: Ledger, G: G
     shared: &KeptZone<K, I, M, B>,
     scan: &mut ScanSeat<I, N>,
     giver: &mut Giver,
-    pages: &mut VecDeque<Isolated>,
-    division: Division,
+    pages: &mut Pages,
     gate: &G,
 ) -> Option<Stop>
     requires next { IsNext scan.old.count giver.old }
-    requires pages { (pages.old.items ≡ []) × (0 < deque_capacity pages.old) }
+    requires pages { (pages.old.list.items ≡ []) × (0 < deque_capacity pages.old.list) }
+    requires left { HasMore pages.old.left }
     requires begins { K.begins_at scan.old.count }
     ensures giver { giver.new ≡ record giver.old { given = giver.new.given } }
-    ensures count { scan.new.count ≡ giver.new.base + length giver.new.given + length pages.new.items }
-    ensures pages { OnSome result (pages.new.items ≡ []) }
-    ensures stopped { IfSome result (HasStopped K.stops_at scan.new) }
+    ensures count { scan.new.count ≡ giver.new.base + length giver.new.given + length pages.new.list.items }
+    ensures pages { OnSome result (pages.new.list.items ≡ []) }
+    ensures stopped { IfSome result (HasStopped K.stops_at (limit_at scan.old.count pages.old.left) scan.new) }
     ensures rounds { scan.new.rounds ≡ scan.old.rounds + 1 }
 {
-    let mut stop = begin_and_isolate(&mut shared.lock(rt), scan, pages);
+    let Pages {
+        division,
+        list,
+        left,
+    } = pages;
+    let mut stop = begin_and_isolate(&mut shared.lock(rt), scan, list, left);
     for _ in rt.forever() {
-        give_all(rt, giver, pages, division, gate)?;
+        give_all(rt, giver, list, *division, gate)?;
         if stop.is_some() {
             return stop;
         }
-        stop = isolate_more(&mut shared.lock(rt), scan, pages);
+        stop = isolate_more(&mut shared.lock(rt), scan, list, left);
     }
     unreachable!()
 }

@@ -1,12 +1,12 @@
 //! Steps under one hold of the lock. Each leaves what the lock keeps, as the type of what is under it says.
 
-ghost use Rattle.std.specs.Prelude.{◌≡◌, ◌⊎◌, ◌↔◌, ℕ, ◌+◌, ◌<◌, ◌≤◌, [], true, length, Some, None, IfSome, IfNone, IfOk, IfErr, OnOk, OnErr};
+ghost use Rattle.std.specs.Prelude.{◌≡◌, ◌⊎◌, ◌↔◌, ℕ, ◌+◌, ◌<◌, ◌≤◌, [], true, false, length, Some, None, IfSome, IfNone, IfOk, IfErr, OnOk, OnErr};
 ghost use Rattle.std.specs.VecDeque.{deque_capacity};
 ghost use Rattle.zone_core.specs.Seats.{seat_begun};
 ghost use Rattle.state_core.specs.Ending.{IsOwnCopy, is_own, put_back_to_source};
 ghost use Rattle.round_core.specs.Counts.{CountsBack};
 ghost use Rattle.round_core.specs.PuttingBack.{all_put_back};
-ghost use Rattle.round_core.specs.Scanning.{HasBegun, HasIsolated, HasStopped};
+ghost use Rattle.round_core.specs.Scanning.{HasBegun, HasIsolated, HasMore, HasStopped, limit_at};
 
 use crate::keeping::Keeping;
 use crate::round::Stop;
@@ -14,7 +14,7 @@ use crate::shared_zone::Room;
 use frame_core::{Cause, Copied, Isolated, Serial};
 use std::collections::VecDeque;
 use std::sync::ledger::Ledger;
-use zone_core::{EndSeat, Next, ScanSeat};
+use zone_core::{Answered, EndSeat, Next, ScanSeat};
 
 /// Begins a round, and isolates pages into the empty list, in their order, until the list is full. Where it stops before, the
 /// answer says why.
@@ -23,16 +23,20 @@ pub(crate) fn begin_and_isolate<K: Keeping, I: Ledger, N: Ledger, M: Ledger, B: 
     room: &mut Room<K, I, M, B>,
     scan: &mut ScanSeat<I, N>,
     pages: &mut VecDeque<Isolated>,
+    left: &mut Option<u32>,
 ) -> Option<Stop>
     requires begins { K.begins_at scan.old.count }
     requires pages { (pages.old.items ≡ []) × (0 < deque_capacity pages.old) }
-    ensures isolated { HasIsolated K.stops_at scan.old scan.new pages.new.items result }
+    requires left { HasMore left.old }
+    ensures isolated { HasIsolated K.stops_at (limit_at scan.old.count left.old) scan.old scan.new pages.new.items result }
+    ensures limit { limit_at scan.new.count left.new ≡ limit_at scan.old.count left.old }
+    ensures left { IfNone result (HasMore left.new) }
     ensures rounds { scan.new.rounds ≡ scan.old.rounds + 1 }
     ensures goes_on { IfNone result (HasBegun K.begins_at scan.new.count) }
     ensures room { deque_capacity pages.new ≡ deque_capacity pages.old }
 {
     begin_round(room, scan);
-    isolate_pages(room, scan, pages)
+    isolate_pages(room, scan, pages, left)
 }
 
 /// Begins a round of the scanner.
@@ -54,16 +58,20 @@ pub(crate) fn isolate_more<K: Keeping, I: Ledger, N: Ledger, M: Ledger, B: Ledge
     room: &mut Room<K, I, M, B>,
     scan: &mut ScanSeat<I, N>,
     pages: &mut VecDeque<Isolated>,
+    left: &mut Option<u32>,
 ) -> Option<Stop>
     requires goes_on { HasBegun K.begins_at scan.old.count }
     requires pages { (pages.old.items ≡ []) × (0 < deque_capacity pages.old) }
-    ensures isolated { HasIsolated K.stops_at scan.old scan.new pages.new.items result }
+    requires left { HasMore left.old }
+    ensures isolated { HasIsolated K.stops_at (limit_at scan.old.count left.old) scan.old scan.new pages.new.items result }
+    ensures limit { limit_at scan.new.count left.new ≡ limit_at scan.old.count left.old }
+    ensures left { IfNone result (HasMore left.new) }
     ensures rounds { scan.new.rounds ≡ scan.old.rounds }
     ensures goes_on { IfNone result (HasBegun K.begins_at scan.new.count) }
     ensures room { deque_capacity pages.new ≡ deque_capacity pages.old }
 {
     go_on(room, scan);
-    isolate_pages(room, scan, pages)
+    isolate_pages(room, scan, pages, left)
 }
 
 /// Shows that the scanner may go on with a round that has begun.
@@ -83,10 +91,14 @@ fn isolate_pages<K: Keeping, I: Ledger, N: Ledger, M: Ledger, B: Ledger>(
     room: &mut Room<K, I, M, B>,
     scan: &mut ScanSeat<I, N>,
     pages: &mut VecDeque<Isolated>,
+    left: &mut Option<u32>,
 ) -> Option<Stop>
     requires keeps { K.keeps_scanning room.old }
     requires empty { (pages.old.items ≡ []) × (0 < deque_capacity pages.old) }
-    ensures isolated { HasIsolated K.stops_at scan.old scan.new pages.new.items result }
+    requires left { HasMore left.old }
+    ensures isolated { HasIsolated K.stops_at (limit_at scan.old.count left.old) scan.old scan.new pages.new.items result }
+    ensures limit { limit_at scan.new.count left.new ≡ limit_at scan.old.count left.old }
+    ensures left { IfNone result (HasMore left.new) }
     ensures rounds { scan.new.rounds ≡ scan.old.rounds }
     ensures more { IfNone result (scan.old.count < scan.new.count) }
     ensures room { deque_capacity pages.new ≡ deque_capacity pages.old }
@@ -95,6 +107,9 @@ fn isolate_pages<K: Keeping, I: Ledger, N: Ledger, M: Ledger, B: Ledger>(
         match isolate_page(room, scan) {
             Ok(page) => pages.push_back_reserved(page),
             Err(stop) => return Some(stop),
+        }
+        if count_down(left) {
+            return Some(Stop::Most);
         }
     }
     None
@@ -108,9 +123,10 @@ fn isolate_page<K: Keeping, I: Ledger, N: Ledger, M: Ledger, B: Ledger>(
     requires { K.keeps_scanning room.old }
     ensures serial { IfOk result (λ page. page.serial ≡ scan.old.count) }
     ensures count { OnOk result (scan.new.count ≡ scan.old.count + 1) }
+    ensures answer { OnOk result (scan.new.last ≡ Some Answered.Page) }
     ensures same { OnErr result (scan.new.count ≡ scan.old.count) }
     ensures rounds { scan.new.rounds ≡ scan.old.rounds }
-    ensures stopped { IfErr result (HasStopped K.stops_at scan.new) }
+    ensures stopped { IfErr result (HasStopped K.stops_at None scan.new) }
     ensures keeps { K.keeps_scanning room.new }
 {
     match room.zone.isolate_next(scan) {
@@ -118,6 +134,20 @@ fn isolate_page<K: Keeping, I: Ledger, N: Ledger, M: Ledger, B: Ledger>(
         Ok(Next::Met) => Err(Stop::Met),
         Err(_) => Err(Stop::JournalFull),
     }
+}
+
+/// Counts a page that was isolated. The answer is whether the round may isolate no more.
+fn count_down(left: &mut Option<u32>) -> bool
+    requires { HasMore left.old }
+    ensures limit { (count : ℕ) → limit_at (count + 1) left.new ≡ limit_at count left.old }
+    ensures last { result ≡ true → left.new ≡ Some 0 }
+    ensures more { result ≡ false → HasMore left.new }
+{
+    let Some(more) = left else {
+        return false;
+    };
+    *more -= 1;
+    *more == 0
 }
 
 /// Commits all copies, in their order. The answer is the least serial of those that were refused now or before, if there is one.
