@@ -1,5 +1,5 @@
 -- A collector between two of its rounds, and where it stops.
-use Rattle.std.proofs.Common.{◌≡◌, ◌<◌, ◌≤◌, ◌+◌, ℕ, List, [], ◌∷◌, length, refl, inl, arith}
+use Rattle.std.proofs.Common.{◌≡◌, ◌≢◌, ◌<◌, ◌≤◌, ◌+◌, ℕ, List, [], ◌∷◌, length, refl, inl, arith}
 use Rattle.std.proofs.lemmas.List.Elements.{All-nil, All-cons}
 use Rattle.round_core.specs.Rounds.{IsRound}
 use Rattle.round_core.specs.declared.round.Round.{Round}
@@ -71,13 +71,13 @@ stopped c scan scan_after scan_new ends ends_after ends_new report was left reas
 -- the collector stops after a round that moved no page
 pub idled : (c : Collector) (scan scan_between scan_new : ScanSeat) (ends ends_between ends_new : EndSeat) (report : Report) (count : ℕ) (latest : Round)
     → IsRunning c scan scan_between ends ends_between count → (count ≡ c.rounds → ⊥) → IsRefused c.order zone.NoBlock → report.rounds ≡ count + 1
-    → IsRound scan_between scan_new ends_between ends_new latest → latest.moved ≡ 0
+    → IsRound scan_between scan_new ends_between ends_new latest → latest.moved ≡ 0 → latest.stopped ≢ round.Most
     → (latest.stopped ≡ round.Met → report.stop ≡ stop.NoBlock) → (latest.stopped ≡ round.JournalFull → report.stop ≡ stop.JournalFull)
     → HasRun c scan scan_new ends ends_new report
-idled c scan scan_between scan_new ends ends_between ends_new report count latest was left refused more ran idle met full =
+idled c scan scan_between scan_new ends ends_between ends_new report count latest was left refused more ran idle unlimited met full =
     let length_was = was.count_is in
     let most_was = was.most in
-    let why = reason latest.stopped refl met full in
+    let why = reason latest.stopped refl unlimited met full in
     record {
       rounds = latest ∷ was.rounds;
       count = omega (arith, more, length_was);
@@ -90,7 +90,8 @@ idled c scan scan_between scan_new ends ends_between ends_new report count lates
       reason = why.1;
     }
   where
-    reason : (at : RoundStop) → latest.stopped ≡ at → (at ≡ round.Met → report.stop ≡ stop.NoBlock) → (at ≡ round.JournalFull → report.stop ≡ stop.JournalFull)
+    reason : (at : RoundStop) → latest.stopped ≡ at → at ≢ round.Most → (at ≡ round.Met → report.stop ≡ stop.NoBlock) → (at ≡ round.JournalFull → report.stop ≡ stop.JournalFull)
         → AreLeft report.stop scan_new scan_new ends_new ends_new × IsReason c (latest ∷ was.rounds) report.stop
-    reason round.Met is met full = rw (met refl) ((refl, refl), (idle, is, was.moved))
-    reason round.JournalFull is met full = rw (full refl) ((refl, refl), inl (idle, is, was.moved))
+    reason round.Met is unlimited met full = rw (met refl) ((refl, refl), (idle, is, was.moved))
+    reason round.JournalFull is unlimited met full = rw (full refl) ((refl, refl), inl (idle, is, was.moved))
+    reason round.Most is unlimited met full = absurd (unlimited refl)

@@ -1,5 +1,5 @@
 -- A collector that has a zone alone stops as a reservation by hand does.
-use Rattle.std.proofs.Common.{◌≡◌, ℕ, suc, ◌+◌, ◌-◌, ◌<◌, ◌≤◌, false, List, length, refl, sym, ap, subst, ◌∙◌, append-nil, arith, Option, Some}
+use Rattle.std.proofs.Common.{◌≡◌, ◌≢◌, ℕ, suc, ◌+◌, ◌-◌, ◌<◌, ◌≤◌, false, List, length, refl, sym, ap, subst, ◌∙◌, append-nil, arith, Option, Some}
 use Rattle.std.specs.FinMap as map
 use Rattle.std.specs.Prelude.{Result, Err, IfErr}
 use Rattle.std.proofs.lemmas.Bool.{false_from_ne_true, false≢true}
@@ -58,16 +58,18 @@ after_stopped got ran stop z =
     λ i. record { frames = frames i; rounds = rounds i; stop = stop; zone = z }
 
 -- why it stops after a round that moved no page
-idle_stop_is : (at : RoundStop) (stop : Stop) → (at ≡ round.Met → stop ≡ NoBlock) → (at ≡ round.JournalFull → stop ≡ JournalFull)
+idle_stop_is : (at : RoundStop) (stop : Stop) → at ≢ round.Most → (at ≡ round.Met → stop ≡ NoBlock) → (at ≡ round.JournalFull → stop ≡ JournalFull)
     → stop ≡ idle_stop at
-idle_stop_is round.Met stop met full = met refl
-idle_stop_is round.JournalFull stop met full = full refl
+idle_stop_is round.Met stop unlimited met full = met refl
+idle_stop_is round.JournalFull stop unlimited met full = full refl
+idle_stop_is round.Most stop unlimited met full = absurd (unlimited refl)
 
 -- after such a round no round was refused
 none_refused : (c : Collector) (ran : ℕ) (at : RoundStop)
     → (rounds_for c (idle_stop at) ran ≡ c.rounds) × (stop_for (idle_stop at) ≡ idle_stop at)
 none_refused c ran round.Met = (refl, refl)
 none_refused c ran round.JournalFull = (refl, refl)
+none_refused c ran round.Most = (refl, refl)
 
 module _ (c : Collector) (n : ℕ) (start now : ZoneState) (got : ArrayVec (Option Huge)) (ran : ℕ)
     (was : IsUnderWayByHand c.order n start got.items ran now) where
@@ -130,10 +132,10 @@ module _ (c : Collector) (n : ℕ) (start now : ZoneState) (got : ArrayVec (Opti
 
       -- no block is free, and a round moved no page
       pub stopped_idle : ran < c.rounds → moves now ≡ false → (behind : ZoneState) → IsSame (by_hand now) behind
-          → (at : RoundStop) → at ≡ stop_by_hand now
+          → (at : RoundStop) → at ≡ stop_by_hand now → at ≢ round.Most
           → (stop : Stop) → (at ≡ round.Met → stop ≡ NoBlock) → (at ≡ round.JournalFull → stop ≡ JournalFull)
           → IsReservedByHand c n start behind (record { got = got; rounds = ran + 1; stop = stop })
-      stopped_idle most idles behind same at at_is stop met full =
+      stopped_idle most idles behind same at at_is unlimited stop met full =
           let hand = by_hand now in
           let by = stop_by_hand now in
           let left = c.rounds - ran - 1 in
@@ -141,6 +143,6 @@ module _ (c : Collector) (n : ℕ) (start now : ZoneState) (got : ArrayVec (Opti
           let here = ap (after fs ran) (where_idle c.order left wanted now (omega (arith, fewer)) refused idles)
           ∙ after_round fs ran (stopped (idle_stop by) hand) ∙ after_stopped got.items (ran + 1) (idle_stop by) hand
           ∙ ap (λ (s : Stop). at_end got.items (ran + 1) s hand) (sym none.1) in
-          rw (idle_stop_is at stop met full ∙ ap idle_stop at_is)
+          rw (idle_stop_is at stop unlimited met full ∙ ap idle_stop at_is)
           (told (record { got = got; rounds = ran + 1; stop = idle_stop by }) hand behind (suc left)
           (omega (arith, most, none.0)) here (λ fine. same))

@@ -63,8 +63,8 @@ moves z = nat_lt (isolated z.records) (isolated (by_hand z).records)
 
 -- why a reservation stops whose latest round moved no page, by the reason why that round stopped
 abbrev pub idle_stop : RoundStop → Stop
-idle_stop round.Met = NoBlock
 idle_stop round.JournalFull = JournalFull
+idle_stop _ = NoBlock
 
 -- a reservation of n blocks of an order, which may run this many rounds
 abbrev pub reserved_by_hand : (order rounds n : ℕ) → ZoneState → Reservation

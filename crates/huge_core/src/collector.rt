@@ -1,4 +1,4 @@
-ghost use Rattle.std.specs.Prelude.{◌≡◌, ◌<◌, ◌≤◌, ◌↔◌, All, IfOk, IfErr, OnOk, OnErr};
+ghost use Rattle.std.specs.Prelude.{◌≡◌, ◌≢◌, ◌<◌, ◌≤◌, ◌↔◌, All, IfOk, IfErr, OnOk, OnErr};
 ghost use Rattle.arrayvec.specs.ArrayVec.{array_vec_len};
 ghost use Rattle.huge_core.specs.Huge.{IsHandedOut, IsRefused};
 
@@ -121,11 +121,13 @@ fn take<K: ZoneIdentity, I: Ledger, M: Ledger, B: Ledger, R: Wait>(
 
 /// Why a collector stops after a round that moved no page.
 pub(crate) fn idle_stop(stopped: RoundStop) -> Stop
+    requires { stopped ≢ RoundStop.Most }
     ensures met { stopped ≡ RoundStop.Met → result ≡ Stop.NoBlock }
     ensures full { stopped ≡ RoundStop.JournalFull → result ≡ Stop.JournalFull }
 {
     match stopped {
         RoundStop::Met => Stop::NoBlock,
         RoundStop::JournalFull => Stop::JournalFull,
+        RoundStop::Most => unreachable!(),
     }
 }

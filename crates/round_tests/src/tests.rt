@@ -28,6 +28,7 @@ use opening::{Opening, open_zone};
 use refusing::Table;
 use reserving::Case;
 use round_core::ZoneIdentity;
+use rounds::Limited;
 use std::marker::Brand;
 use std::process::Abort;
 use std::sync::Wait;
@@ -45,6 +46,8 @@ impl<R: Threads + Wait + Abort + AllocGlobal + Sync> Runtime for R {}
 enum Trial<'a> {
     /// With so many copiers.
     MovesTheLowerHalf(usize),
+    /// Rounds with a limit, over a zone of so many pages.
+    MovesAtMost(u32, &'a [Limited]),
     IsBroken,
     NotesEachPage,
     /// All but one of so many copiers.
@@ -67,6 +70,7 @@ impl<Z: Names> Opening<Z> {
     fn undergoes<R: Runtime>(&mut self, rt: &R, trial: Trial<'_>) {
         match trial {
             Trial::MovesTheLowerHalf(copiers) => self.moves_the_lower_half(rt, copiers),
+            Trial::MovesAtMost(pages, rounds) => self.moves_at_most(rt, pages, rounds),
             Trial::IsBroken => self.is_broken(rt),
             Trial::NotesEachPage => self.notes_each_page(rt),
             Trial::KeepsCopiersBack(copiers) => self.keeps_copiers_back(rt, copiers),

@@ -6,7 +6,7 @@ use Rattle.state_core.specs.declared.error.ZoneError.TheVariants.{Moving}
 use Rattle.state_core.specs.Calls.{refusal_of}
 use Rattle.hand_core.specs.Told.{Pair}
 use Rattle.zone_core.specs.declared.seats.Seats.{Seats}
-use Rattle.round_core.specs.Rounds.{IsRefusedEarly, IsRound}
+use Rattle.round_core.specs.Rounds.{IsRefusedEarly, IsRound, IsUnlimited}
 use Rattle.client_core.specs.declared.error.ClientError.{ClientError}
 use Rattle.client_core.specs.declared.error.ClientError.TheVariants.{Zone}
 use Rattle.client_core.specs.Calls.{HasMade, IsFailed}
@@ -68,6 +68,7 @@ pub record IsRunBeside {J I N M B : Type 0} (turn : ClientTurn J) (seats seats_n
   pub played : AreClientAnswers turn.client turn.lines.items both.answers.items both.client
   pub round : IfOk both.round (λ r. IsRound seats.scan seats_new.scan seats.ends seats_new.ends r)
   pub early : IsRefusedEarly seats.scan seats_new.scan seats.ends seats_new.ends both.round
+  pub unlimited : IsUnlimited both.round
 
 -- both ran, or the client's thread couldn't be started: then nothing ran, and the seats are as before
 abbrev pub RunsBeside : {J I N M B : Type 0} → ClientTurn J → (seats seats_new : Seats I N M B) → Option (ClientAndRound J) → Type 0

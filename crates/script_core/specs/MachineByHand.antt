@@ -24,10 +24,10 @@ use Rattle.machine_core.specs.World.{WorldState, world_closed}
 use Rattle.machine_core.specs.Machine.{Answered, Step, answered, declined, refused, says, step}
 use Rattle.text_core.specs.Script.{Answer, Numbered, commands_of}
 
--- why a round stopped, for its reply
+-- why a round without a limit stopped, for its reply
 abbrev pub stopped_as : Stop → Stopped
-stopped_as stop.Met = stopped.Met
 stopped_as stop.JournalFull = stopped.JournalFull
+stopped_as _ = stopped.Met
 
 -- why a pool stopped, for its reply
 abbrev pub pool_stopped_as : PoolStop → PoolStopped

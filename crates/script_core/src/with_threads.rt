@@ -1,7 +1,7 @@
-ghost use Rattle.std.specs.Prelude.{◌≡◌, ◌⊎◌, ◌+◌, ◌≤◌, ◌↔◌, [], false, length, Some, None, option_map, IsOk, IfOk, OnErr, IfSome, IfNone};
+ghost use Rattle.std.specs.Prelude.{◌≡◌, ◌≢◌, ◌⊎◌, ◌+◌, ◌≤◌, ◌↔◌, [], false, length, Some, None, option_map, IsOk, IfOk, OnErr, IfSome, IfNone};
 ghost use Rattle.std.specs.Result.{result_err};
 ghost use Rattle.round_core.specs.Kept.{LockInvariant};
-ghost use Rattle.round_core.specs.Rounds.{IsRefusedEarly, IsRound};
+ghost use Rattle.round_core.specs.Rounds.{IsRefusedEarly, IsRound, IsUnlimited};
 ghost use Rattle.zone_core.specs.Books.{AreFor};
 ghost use Rattle.zone_core.specs.Seats.{audit_refusal};
 ghost use Rattle.zone_core.specs.ZoneIdentity.{HasIdentity};
@@ -248,6 +248,7 @@ impl<
 
     /// Keeps the client as its turn left it, and gives the answers to its lines and the reply to the round.
     fn settle(&mut self, zone: &Zone<I, M, B>, both: ClientAndRound) -> (Vec<Answer>, Reply)
+        requires { IsUnlimited both.round }
         ensures client { self.new ≡ record self.old { client = both.client } }
         ensures answers { result.0.items ≡ both.answers.items }
         ensures reply { IsSettledReply zone.now both.client both.round result.1 }
@@ -275,6 +276,7 @@ impl<
         ensures round { IfOk result.1 (λ r. IsRound seats.old.scan seats.new.scan seats.old.ends seats.new.ends r) }
         ensures early { IsRefusedEarly seats.old.scan seats.new.scan seats.old.ends seats.new.ends result.1 }
         ensures by_hand { ComesToByHand zone result.0 result.1 }
+        ensures unlimited { IsUnlimited result.1 }
     {
         compact_alone(
             rt,
@@ -361,6 +363,7 @@ fn settled_reply<I: Ledger, M: Ledger, B: Ledger>(
     client: &Client,
     round: Result<Round, RoundError>,
 ) -> Reply
+    requires { IsUnlimited round }
     ensures { IsSettledReply zone.now client.now round result }
 {
     match settle_clients(zone, slice::from_ref(client)) {
@@ -383,6 +386,7 @@ fn audit<I: Ledger, N: Ledger, M: Ledger, B: Ledger>(
 
 /// The reply to a round.
 fn reply_to(round: Result<Round, RoundError>) -> Reply
+    requires { IsUnlimited round }
     ensures { result ≡ round_reply round }
 {
     match round {
@@ -398,11 +402,13 @@ fn reply_to(round: Result<Round, RoundError>) -> Reply
 
 /// Why a round stopped, for its reply.
 fn stopped(stop: Stop) -> Stopped
+    requires { stop ≢ Stop.Most }
     ensures { result ≡ stopped_as stop }
 {
     match stop {
         Stop::Met => Stopped::Met,
         Stop::JournalFull => Stopped::JournalFull,
+        Stop::Most => unreachable!(),
     }
 }
 

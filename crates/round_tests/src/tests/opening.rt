@@ -7,7 +7,10 @@ use super::calls::{Answer, Call, client_of};
 use super::names::{Names, SeatsOf, Shared};
 use client_core::{Client, Unsettled, settle_clients};
 use frame_core::ZoneNo;
-use round_core::{Gate, Keeping, Open, Round, RoundError, SharedZone, ZoneIdentity, compact};
+use round_core::{
+    Gate, Keeping, NoGate, Open, Round, RoundError, SharedZone, ZoneIdentity, compact,
+    compact_at_most,
+};
 use std::alloc::Global;
 use std::process::Abort;
 use std::sync::Wait;
@@ -93,6 +96,21 @@ impl<Z: Names> Shared<Z> {
         gate: &G,
     ) -> Round {
         match self.try_round(rt, seats, copiers, room, gate) {
+            Ok(round) => round,
+            Err(error) => panic!(rt; "the round is refused: {error}"),
+        }
+    }
+
+    /// A round of at most so many pages that isn't refused, with room for three.
+    pub fn round_at_most<R: Runtime>(
+        &self,
+        rt: &R,
+        seats: &mut SeatsOf<Z>,
+        copiers: usize,
+        most: u32,
+    ) -> Round {
+        assert!(rt; 0 < copiers && copiers <= 4 && 0 < most);
+        match compact_at_most(rt, rt.alloc(), &self.zone, seats, copiers, 3, most, &NoGate) {
             Ok(round) => round,
             Err(error) => panic!(rt; "the round is refused: {error}"),
         }

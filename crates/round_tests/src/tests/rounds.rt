@@ -15,6 +15,23 @@ fn page_of(rt: &impl Abort, next: Result<Next, ZoneError>) -> Isolated {
     page
 }
 
+/// A round with so many copiers that may isolate so many pages, how many it moves, and why it stops.
+pub type Limited = (usize, u32, u64, Stop);
+
+const FIVE_PAGES: &[Limited] = &[
+    (2, 2, 2, Stop::Most),
+    (1, 2, 2, Stop::Most),
+    (2, 2, 1, Stop::Met),
+];
+
+// The last page that moves is the last that the round may isolate.
+const FIVE_AT_ONCE: &[Limited] = &[(1, 5, 5, Stop::Most), (1, 5, 0, Stop::Met)];
+
+const FEWER_THAN_IT_MAY: &[Limited] = &[(2, 6, 5, Stop::Met)];
+
+// More than are isolated under one hold of the lock.
+const MANY_PAGES: &[Limited] = &[(2, 20, 20, Stop::Most), (2, 20, 5, Stop::Met)];
+
 impl<Z: Names> Opening<Z> {
     /// Stores its number to a word of each page of the lower half.
     fn stores_each<R: Wait + Abort>(&mut self, rt: &R) {
@@ -47,6 +64,18 @@ impl<Z: Names> Opening<Z> {
         self.assert_meets(rt, copiers, 0);
         let (info, _records) = self.told(rt);
         assert!(rt; (info.pages, info.moving, info.whole) == (512, 0, 1));
+    }
+
+    /// Rounds with a limit move as many pages as they may, and together those that a round without a limit moves.
+    pub fn moves_at_most<R: Runtime>(&mut self, rt: &R, pages: u32, rounds: &[Limited]) {
+        self.fill(rt, pages);
+        for (copiers, most, moved, stop) in rounds {
+            let round = self
+                .shared
+                .round_at_most(rt, &mut self.seats, *copiers, *most);
+            assert!(rt; counts_of(&round) == (*moved, *moved, 0) && round.stopped == *stop);
+        }
+        self.assert_meets(rt, 2, 0);
     }
 
     /// Begins a round by hand, and isolates its first page.
@@ -99,6 +128,14 @@ fn one_to_four_copiers_move_the_lower_half(rt: HostRuntime) {
     for copiers in 1..5usize {
         tries(&rt, 2, Some(65536), Trial::MovesTheLowerHalf(copiers));
     }
+}
+
+#[test]
+fn rounds_with_a_limit_move_as_many_pages_as_they_may(rt: HostRuntime) {
+    for rounds in [FIVE_PAGES, FIVE_AT_ONCE, FEWER_THAN_IT_MAY] {
+        tries(&rt, 2, Some(65536), Trial::MovesAtMost(5, rounds));
+    }
+    tries(&rt, 2, Some(65536), Trial::MovesAtMost(25, MANY_PAGES));
 }
 
 #[test]

@@ -96,6 +96,7 @@ returns-clause-exact g c = λ rest.
           stopped_idle collector n start now got ran here w.in-Err.ensures.err
           (refused_no_block now order w.in-Err.error w.in-Err.ensures.refused w.in_default-error.not-JournalFull)
           (omega arith) idles run.result.0 (rw w.in-Ok.is at run.ensures.exact) round.stopped (rw w.in-Ok.is at run.ensures.stopped)
+          (rw w.in-Ok.is at run.ensures.unlimited)
           w.idle_stop-stop.result w.idle_stop-stop.ensures.met w.idle_stop-stop.ensures.full)
       | in-Err+in_default-error+else-rounds-collector+in-Err-result w ↦ rw (w.zone-is, w.rounds-is, w.stop-is)
           (let run = w.compact_alone-after in
@@ -133,7 +134,8 @@ returns-clause-rounds g c =
           let run = w.compact_alone-after in
           idled collector scan was.seats.scan run.new.seats.scan ends was.seats.ends run.new.seats.ends _ was.rounds w.in-Ok.round
           running w.if-rounds-collector.false (refused_by now order zone.NoBlock valid none) refl
-          (rw w.in-Ok.is at run.ensures.round) w.if-round-eq0.true w.idle_stop-stop.ensures.met w.idle_stop-stop.ensures.full)
+          (rw w.in-Ok.is at run.ensures.round) w.if-round-eq0.true (rw w.in-Ok.is at run.ensures.unlimited)
+          w.idle_stop-stop.ensures.met w.idle_stop-stop.ensures.full)
       | in-Err+in_default-error+else-rounds-collector+in-Err-result w ↦ rw (w.seats-is, w.rounds-is, w.stop-is)
           (let none = refused_no_block now order w.in-Err.error w.in-Err.ensures.refused w.in_default-error.not-JournalFull in
           let run = w.compact_alone-after in

@@ -47,7 +47,7 @@ returns-clause-rounds g c =
       | in-Err+in_default-error+else-rounds-self+in-Ok+then-round-eq0 w ↦ rw (w.seats-is, w.rounds-is, w.stop-is)
           (idled collector scan was.seats.scan w.compact.new.seats.scan ends was.seats.ends w.compact.new.seats.ends _ was.rounds w.in-Ok.round
           running w.if-rounds-self.false (no_block collector.order w.in-Err.error w.in-Err.ensures.refused w.in_default-error.not-JournalFull) refl
-          w.in-Ok.ensures.round w.if-round-eq0.true w.idle_stop-stop.ensures.met w.idle_stop-stop.ensures.full)
+          w.in-Ok.ensures.round w.if-round-eq0.true w.in-Ok.ensures.unlimited w.idle_stop-stop.ensures.met w.idle_stop-stop.ensures.full)
       | in-Err+in_default-error+else-rounds-self+in-Err-compact w ↦ rw (w.seats-is, w.rounds-is, w.stop-is)
           (stopped collector scan was.seats.scan w.compact.new.seats.scan ends was.seats.ends w.compact.new.seats.ends _ running
           (rw w.in-Err-compact.is at w.compact.ensures.early)
