@@ -2,7 +2,8 @@
  * each the lowest quarter of the frames is handed out in blocks of order 3, the next quarter is free, and the upper half has 1,000 pages,
  * which are as far from each other as they can be. So are their addresses, the hot ones, which are mixed. Each call is made on the hot
  * addresses in turn, up to a million times, and leaves this state or is undone at once: a map by an unmap, a take by a give. A round moves
- * the pages up, and they are then brought back. For the take that is refused, all free pageblocks are handed out meanwhile.
+ * the pages up, and they are then brought back. For the take that is refused, all free pageblocks are handed out meanwhile. An address is
+ * also drawn from all of them for a map and its unmap. Beside the opening as many bytes are written as its tables have.
  *
  * The arguments are how often all of it is measured, and the sizes: powers of 2, from 12 on. Each line that it prints has what was done, a tab,
  * the size, a tab, and nanoseconds; of the opening they are microseconds. */
@@ -10,6 +11,7 @@
 
 #include <stdio.h>
 #include <stdlib.h>
+#include <string.h>
 #include <time.h>
 
 #define WORDS 8
@@ -20,6 +22,7 @@
 #define MOST_MOVES 100000
 #define MOST_SECONDS 0.5 /* of a measurement */
 #define PAGEBLOCK 9      /* its order */
+#define TABLE_BYTES 47   /* a frame, with as many addresses */
 
 struct address {
     uint32_t space, vpage;
@@ -167,6 +170,28 @@ static void map_and_unmap(struct sized *at, uint32_t i)
     need(compactd_unmap(&at->pool, 0, at->others[i].space, at->others[i].vpage) == COMPACTD_OK);
 }
 
+/* An address that isn't hot. */
+static struct address drawn_address(const struct sized *at)
+{
+    static uint32_t state = 1;
+    const uint32_t apart = at->frames / HOT;
+    uint32_t place;
+
+    state = state * 1664525 + 1013904223;
+    place = (state >> 8) % at->frames;
+    return address_at(at, place % apart == 0 ? place + 1 : place);
+}
+
+static void map_and_unmap_drawn(struct sized *at, uint32_t i)
+{
+    const struct address drawn = drawn_address(at);
+    uint32_t frame;
+
+    (void)i;
+    need(compactd_map(&at->pool, 0, drawn.space, drawn.vpage, 0, &frame) == COMPACTD_OK);
+    need(compactd_unmap(&at->pool, 0, drawn.space, drawn.vpage) == COMPACTD_OK);
+}
+
 static void take_and_give(struct sized *at, uint32_t i)
 {
     uint32_t first;
@@ -280,6 +305,21 @@ static void measure_opening(struct sized *at)
     need(compactd_close(&pool) == COMPACTD_OK);
 }
 
+/* Writes as many bytes as the tables of the pool have, for which the system has to find memory as it has for these. */
+static void measure_memset(struct sized *at)
+{
+    const size_t bytes = (size_t)at->frames * TABLE_BYTES;
+    double begun = now();
+    unsigned char *memory = malloc(bytes);
+
+    if (memory == NULL)
+        abort();
+    memset(memory, 1, bytes);
+    need(((volatile unsigned char *)memory)[bytes - 1] == 1);
+    tell("memset beside it, microseconds", at, (now() - begun) * 1e6);
+    free(memory);
+}
+
 static void measure_calls(struct sized *at)
 {
     measure("look", at, look);
@@ -287,12 +327,14 @@ static void measure_calls(struct sized *at)
     measure("store", at, store);
     measure("pin and unpin", at, pin_and_unpin);
     measure("map and unmap", at, map_and_unmap);
+    measure("map and unmap, drawn", at, map_and_unmap_drawn);
     measure_moves(at);
     measure_orders(at);
     measure_refused(at);
     measure("info", at, info);
     measure("quiet", at, quiet);
     measure_opening(at);
+    measure_memset(at);
 }
 
 int main(int count, char **words)

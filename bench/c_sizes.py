@@ -5,8 +5,9 @@
 The pools have pages of 64 bytes, 2^SIZE frames, and as many addresses; SIZE is 12, 15, 18, 20 and 22 if none is given. All are open at once,
 and each is in the state that `bench/c_sizes.c` describes: a quarter handed out, a quarter free, and 1,000 pages spread over the rest, at
 addresses that are spread too. Each call is measured with each pool in turn, up to a million times, and all of that in so many turns, 7 if no
-number is given. The table has the medians; the last column is what a call takes with 2^20 frames to what it takes with 2^12. The opening is
-told in microseconds. The load of the machine is told before and after. The library is that of `bench/c_calls.py`. It needs gcc."""
+number is given. The table has the medians; the last column is what a call takes with 2^20 frames to what it takes with 2^12. The opening, and
+a memset of as many bytes as its tables have, are told in microseconds. The load of the machine is told before and after. The library is
+that of `bench/c_calls.py`. It needs gcc."""
 
 import argparse
 import collections
@@ -39,11 +40,11 @@ def show(found, sizes):
     """A table of the medians, with the ratio of one size to another where both were measured."""
     has_ratio = {SMALL, LARGE} <= set(sizes)
     heads = [f"2^{size}" for size in sizes] + [f"2^{LARGE} to 2^{SMALL}"] * has_ratio
-    print(f"{'nanoseconds':28}" + "".join(f"{head:>13}" for head in heads))
+    print(f"{'nanoseconds':31}" + "".join(f"{head:>13}" for head in heads))
     for what, by_size in found.items():
         medians = {size: statistics.median(numbers) for size, numbers in by_size.items()}
         ratio = f"{medians[LARGE] / medians[SMALL]:>13.2f}" if has_ratio else ""
-        print(f"{what:28}" + "".join(f"{medians[size]:>13,.1f}" for size in sizes) + ratio)
+        print(f"{what:31}" + "".join(f"{medians[size]:>13,.1f}" for size in sizes) + ratio)
 
 
 def main():
