@@ -75,6 +75,7 @@ MAY_BRING_IN = {
     "std::alloc::AllocError",
     "std::alloc::Global",
     "std::alloc::{AllocError, Global}",
+    "std::cmp::Ordering",
     "std::error::Error",
     "std::fmt",
     "std::fmt::{Display, Formatter}",
