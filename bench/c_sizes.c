@@ -3,7 +3,7 @@
  * which are as far from each other as they can be. So are their addresses, the hot ones, which are mixed. Each call is made on the hot
  * addresses in turn, up to a million times, and leaves this state or is undone at once: a map by an unmap, a take by a give. A round moves
  * the pages up, and they are then brought back. For the take that is refused, all free pageblocks are handed out meanwhile. An address is
- * also drawn from all of them for a map and its unmap. Beside the opening as many bytes are written as its tables have.
+ * also drawn from all of them for a map and its unmap. Beside the opening as many bytes are written as its words and tables have.
  *
  * The arguments are how often all of it is measured, and the sizes: powers of 2, from 12 on. Each line that it prints has what was done, a tab,
  * the size, a tab, and nanoseconds; of the opening they are microseconds. */
@@ -305,10 +305,10 @@ static void measure_opening(struct sized *at)
     need(compactd_close(&pool) == COMPACTD_OK);
 }
 
-/* Writes as many bytes as the tables of the pool have, for which the system has to find memory as it has for these. */
+/* Writes as many bytes as the words and the tables of the pool have, for which the system has to find memory as it has for these. */
 static void measure_memset(struct sized *at)
 {
-    const size_t bytes = (size_t)at->frames * TABLE_BYTES;
+    const size_t bytes = (size_t)at->frames * (WORDS * 8 + TABLE_BYTES);
     double begun = now();
     unsigned char *memory = malloc(bytes);
 

@@ -6,8 +6,8 @@ The pools have pages of 64 bytes, 2^SIZE frames, and as many addresses; SIZE is 
 and each is in the state that `bench/c_sizes.c` describes: a quarter handed out, a quarter free, and 1,000 pages spread over the rest, at
 addresses that are spread too. Each call is measured with each pool in turn, up to a million times, and all of that in so many turns, 7 if no
 number is given. The table has the medians; the last column is what a call takes with 2^20 frames to what it takes with 2^12. The opening, and
-a memset of as many bytes as its tables have, are told in microseconds. The load of the machine is told before and after. The library is
-that of `bench/c_calls.py`. It needs gcc."""
+a memset of as many bytes as its words and tables have, are told in microseconds. The load of the machine is told before and after. The
+library is that of `bench/c_calls.py`. It needs gcc."""
 
 import argparse
 import collections
