@@ -4,7 +4,7 @@ use Rattle.std.specs.Prelude.{Option, Some, None, nat_eq, slice_index}
 use Rattle.std.specs.FinMap as map
 use Rattle.std.specs.FinSet as set
 use Rattle.std.specs.Ordering.{nat_cmp}
-use Rattle.std.proofs.lemmas.Bool.{cond-true, cond-false, and_right}
+use Rattle.std.proofs.lemmas.Bool.{or_from, cond-true, cond-false, and_right}
 use Rattle.std.proofs.lemmas.Bool.Decides.{eqb_tells}
 use Rattle.frame_core.proofs.Searches.{none_some, some_same}
 use Rattle.frame_core.specs.Below.{count_from, some_below}
@@ -57,12 +57,13 @@ module _ (frames : ℕ → ℕ) where
   placed_past zero page h = map.get-empty nat_cmp page
   placed_past (suc n) page h = let ne : page ≢ n = omega arith in get_insert_other (placed frames n) n page (At (frames n)) ne ∙ placed_past n page (omega arith)
 
--- a zone of one pageblock with seven pages, each in a frame; page 3 alone may not be taken, no block is handed out, and nothing is marked
+-- a zone of one pageblock with seven pages, each in a frame; page 3 alone may not be taken, no block is handed out, and nothing is claimed or marked
 record HasSeven (z : ZoneState) (frames : ℕ → ℕ) : Type 0 where
   one : z.blocks ≡ 1
   here : (page : ℕ) → page < 7 → map.get z.placement page ≡ Some (At (frames page))
   past : (page : ℕ) → 7 ≤ page → map.get z.placement page ≡ None
   given : z.handed_out ≡ map.empty
+  unclaimed : z.claimed ≡ set.empty
   marks : z.marked ≡ set.empty
   pinned : (page : ℕ) → page < 7 → can_move z page ≡ not (nat_eq page 3)
 
@@ -80,7 +81,9 @@ module _ (z : ZoneState) (frames : ℕ → ℕ) (seven : HasSeven z frames) wher
       ∙ some_same (λ page. nat_eq frame (frames page)) (λ page. takes_up (map.get z.placement page) frame) 7 (λ k h. sym (ap (λ (o : Option Placement). takes_up o frame) (seven.here k h)))
 
   held_is : (frame : ℕ) → is_held z frame ≡ false
-  held_is frame = none_some (λ first. covers (map.get z.handed_out first) first frame) (frame_count z) (λ first h. ap (λ (blocks : map.FinMap nat_cmp ℕ). covers (map.get blocks first) first frame) seven.given ∙ ap (λ (o : Option ℕ). covers o first frame) (map.get-empty nat_cmp first))
+  held_is frame = or_from _ _
+      (none_some (λ first. covers (map.get z.handed_out first) first frame) (frame_count z) (λ first h. ap (λ (blocks : map.FinMap nat_cmp ℕ). covers (map.get blocks first) first frame) seven.given ∙ ap (λ (o : Option ℕ). covers o first frame) (map.get-empty nat_cmp first)))
+      (ap (λ (claims : set.FinSet nat_cmp). set.contains claims frame) seven.unclaimed ∙ set.contains-empty nat_cmp frame)
 
   marked_is : (frame : ℕ) → is_marked z frame ≡ false
   marked_is frame = ap (λ (marks : set.FinSet nat_cmp). set.contains marks (frame / 512)) seven.marks ∙ set.contains-empty nat_cmp (frame / 512)
@@ -110,6 +113,7 @@ seven_now = record {
   here = placed_here (slice_index frame_list) 7;
   past = placed_past (slice_index frame_list) 7;
   given = refl;
+  unclaimed = refl;
   marks = refl;
   pinned = each_of_seven (λ page. can_move example page ≡ not (nat_eq page 3)) (can 0) (can 1) (can 2) (can 3) (can 4) (can 5) (can 6);
 } where
@@ -163,6 +167,7 @@ seven_after = record {
   ];
   past = λ page h. let ne : page ≢ 4 = omega arith in others_same example example_move page ne ∙ placed_past (slice_index frame_list) 7 page h;
   given = refl;
+  unclaimed = refl;
   marks = refl;
   pinned = seven_now.pinned;
 }

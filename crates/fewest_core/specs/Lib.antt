@@ -1,3 +1,4 @@
+pub mod Claims
 pub mod Evacuation
 pub mod Example
 pub mod FewestMoves

@@ -21,10 +21,10 @@ use Rattle.state_core.specs.Mapping.{map_refusal, map_at_refusal, mapped}
 use Rattle.state_core.specs.Pinning.{pin_refusal, unpin_refusal, pinned, unpinned}
 use Rattle.state_core.specs.Sharing.{share_refusal, shared}
 use Rattle.state_core.specs.Unmapping.{is_last, unmap_refusal, unmapped}
-use Rattle.state_core.specs.ZoneState.{ZoneState, frame_count, has_address, has_room, is_free, lowest_free_frame, lowest_unused_page}
+use Rattle.state_core.specs.ZoneState.{ZoneState, frame_count, has_address, has_room, is_free, frame_for, lowest_free_frame, lowest_unused_page}
 use Rattle.state_core.proofs.Accessed.{valid_loaded, valid_stored}
 use Rattle.state_core.proofs.Facts.{in_table, none_is, spare, page_named}
-use Rattle.state_core.proofs.Finding.{some_lowest, unused_is, unused_left}
+use Rattle.state_core.proofs.Finding.{frame_for_free, some_lowest, unused_is, unused_left}
 use Rattle.state_core.proofs.HandingOut.{valid_block_taken, valid_block_given}
 use Rattle.state_core.proofs.Mapping.{CanPlace, placed_valid}
 use Rattle.state_core.proofs.Marking.{valid_marked, valid_unmarked}
@@ -81,13 +81,13 @@ module _ (z : ZoneState) where
           within = within;
         }))
 
-    kept_map : (address : Address) (unmovable : Bool) → map_refusal z address ≡ None → IsValidZone (mapped z client address unmovable (unwrap_or (lowest_free_frame z) 0))
+    kept_map : (address : Address) (unmovable : Bool) → map_refusal z address ≡ None → IsValidZone (mapped z client address unmovable (unwrap_or (frame_for z unmovable) 0))
     kept_map address unmovable accepted =
         let known = passed _ _ _ accepted in
         let room = passed _ _ _ known.1 in
         let vacant = passed _ _ _ room.1 in
         let some = passed _ _ _ vacant.1 in
-        let free = lowest_some (is_free z) (frame_count z) _ (found (lowest_free_frame z) (not-false _ some.0)) in
+        let free = frame_for_free z unmovable (not-false _ some.0) in
         kept_placed address unmovable _ (not-false _ known.0) (room_passed room.0) (none_is _ vacant.0) free.1 free.0
 
     kept_map_at : (address : Address) (unmovable : Bool) (frame : ℕ) → map_at_refusal z address frame ≡ None → IsValidZone (mapped z client address unmovable frame)

@@ -51,7 +51,7 @@ module _ (v : ZoneState) (law : IsValidZone v) (first order : ℕ) (at : map.get
       journal = law.journal;
       agrees = law.agrees;
       pages = law.pages;
-      blocks = record { each = law.blocks.each; disjoint = law.blocks.disjoint; contents = contents_after };
+      blocks = record { each = law.blocks.each; disjoint = law.blocks.disjoint; contents = contents_after; claims = law.blocks.claims; unclaimed = law.blocks.unclaimed };
       fingers = record { ordered = law.fingers.ordered; begun = law.fingers.begun; swept = λ quiet. swept_same v v.records v.room written.contents (λ page. refl) (law.fingers.swept quiet) };
       sum = law.sum;
     }

@@ -1,10 +1,11 @@
 -- A block of free frames is handed out or taken back: the zone stays valid, and the blocks are clear.
 use Rattle.std.proofs.Common.{◌≡◌, ◌≢◌, ℕ, ◌+◌, ◌*◌, ◌/◌, ◌^◌, ◌<◌, ◌≤◌, Bool, true, false, not, ◌∷◌, length, inl, inr, refl, sym, ap, ◌∙◌, arith, Option, Some, None, nat_eq, nat_le, nat_lt, ◌⊎◌, subst, ◌&&◌, ◌||◌}
 use Rattle.std.specs.FinMap as map
+use Rattle.std.specs.FinSet as set
 use Rattle.std.specs.Option.{option_map}
 use Rattle.std.proofs.Math.Bool.{or-false}
 use Rattle.std.proofs.Math.Nat.{mul-div_cancel}
-use Rattle.std.proofs.lemmas.Bool.{and_parts, and_from, and_right, both_ways, eq-eqb, eqb-true, false_from_ne_true, leb-true, le-leb, ltb-true, lt-ltb, or_from, or_parts, or_right}
+use Rattle.std.proofs.lemmas.Bool.{and_parts, and_from, and_right, both_ways, eq-eqb, eqb-true, false_from_ne_true, leb-true, le-leb, ltb-true, lt-ltb, or_from, or_left, or_parts, or_right}
 use Rattle.std.proofs.lemmas.Bool.Decides.{eqb_tells}
 use Rattle.std.proofs.lemmas.List.{length-replicate}
 use Rattle.std.proofs.lemmas.Nat.{pow_pos}
@@ -19,7 +20,7 @@ use Rattle.state_core.specs.declared.placement.Placement.TheVariants.{At}
 use Rattle.state_core.specs.Clear.{BlocksAreClear}
 use Rattle.state_core.specs.HandingOut.{has_block, is_run, lowest_run, block_taken, block_given}
 use Rattle.state_core.specs.Valid.{IsValidZone, IsBlock}
-use Rattle.state_core.specs.ZoneState.{ZoneState, frame_count, takes_up, covers, is_used, is_held, is_free, is_whole}
+use Rattle.state_core.specs.ZoneState.{ZoneState, frame_count, takes_up, covers, is_used, is_held, is_handed_out, is_free, is_whole}
 use Rattle.state_core.proofs.Entries.{written_at, get_insert_same, get_insert_other, get_remove_same, get_remove_other}
 use Rattle.state_core.proofs.Facts.{page_named}
 use Rattle.state_core.proofs.Holding.{at_takes}
@@ -56,6 +57,13 @@ held_more {fewer} {more} {first} {order} one n h frame =
     (λ q ne. ap (λ (o : Option ℕ). covers o q frame) (one.others q ne))
     ∙ ap (λ (o : Option ℕ). held_in fewer n frame || covers o first frame) one.here
 
+or_swap : (a b c : Bool) → ((a || b) || c) ≡ ((a || c) || b)
+or_swap true b c = refl
+or_swap false true true = refl
+or_swap false true false = refl
+or_swap false false true = refl
+or_swap false false false = refl
+
 -- a frame that becomes held was free: as many frames are free or held as before
 balance : (used held more : Bool) → (more ≡ true → (not used && not held) ≡ true) → one_if (not used && not (held || more)) + one_if (held || more) ≡ one_if (not used && not held) + one_if held
 balance used held more free = grind (arith, free)
@@ -64,8 +72,8 @@ balance used held more free = grind (arith, free)
 pub held_of : (v : ZoneState) → IsValidZone v → (first order frame : ℕ) → map.get v.handed_out first ≡ Some order → in_block first order frame ≡ true → is_held v frame ≡ true
 held_of v law first order frame at here =
     let within = (law.blocks.each first order at).within in
-    some_at (λ q. covers (map.get v.handed_out q) q frame) (frame_count v) first
-    (omega (arith, within, pow_pos order)) (ap (λ (o : Option ℕ). covers o first frame) at ∙ here)
+    or_left _ _ (some_at (λ q. covers (map.get v.handed_out q) q frame) (frame_count v) first
+    (omega (arith, within, pow_pos order)) (ap (λ (o : Option ℕ). covers o first frame) at ∙ here))
 
 -- a multiple of a block's frames is aligned
 aligned_by : (k first order : ℕ) → first ≡ k * 2 ^ order → first / 2 ^ order * 2 ^ order ≡ first
@@ -96,7 +104,7 @@ module _ (v : ZoneState) (first order : ℕ) (run : is_run v order first ≡ tru
     by_entry (Some held) e =
         let free = run_free first (omega arith) (omega (arith, pow_pos order)) in
         let own : in_block first held first ≡ true = in_block_from first held first (omega arith) (omega (arith, pow_pos held)) in
-        absurd (both_ways _ (unheld_frame v first free) (some_at (λ q. covers (map.get v.handed_out q) q first) (frame_count v) first run_first (ap (λ (o : Option ℕ). covers o first first) e ∙ own)))
+        absurd (both_ways _ (or_parts (is_handed_out v first) _ (unheld_frame v first free)).0 (some_at (λ q. covers (map.get v.handed_out q) q first) (frame_count v) first run_first (ap (λ (o : Option ℕ). covers o first first) e ∙ own)))
 
   abbrev taken : ZoneState
   taken = block_taken v first order
@@ -105,7 +113,7 @@ module _ (v : ZoneState) (first order : ℕ) (run : is_run v order first ≡ tru
   one_taken = record { without = not_handed_out; here = get_insert_same v.handed_out first first order refl; others = λ q ne. get_insert_other v.handed_out first q order ne }
 
   pub held_taken : (frame : ℕ) → is_held taken frame ≡ (is_held v frame || in_block first order frame)
-  held_taken = held_more one_taken (frame_count v) run_first
+  held_taken frame = ap (λ b. b || set.contains v.claimed frame) (held_more one_taken (frame_count v) run_first frame) ∙ or_swap (is_handed_out v frame) (in_block first order frame) (set.contains v.claimed frame)
 
   pub free_taken_in : (frame : ℕ) → in_block first order frame ≡ true → is_free taken frame ≡ false
   free_taken_in frame here =
@@ -152,6 +160,12 @@ module _ (v : ZoneState) (first order : ℕ) (run : is_run v order first ≡ tru
       | inr x ↦ elim (covers_taken b frame f) [ inl y ↦ absurd (uncovered a frame y.1 x.1) | inr y ↦ law.blocks.disjoint a b frame x.1 y.1 ]
     ]
 
+    unclaimed_taken : (a frame : ℕ) → covers (map.get taken.handed_out a) a frame ≡ true → set.contains v.claimed frame ≡ false
+    unclaimed_taken a frame e = elim (covers_taken a frame e) [
+      | inl x ↦ (or_parts (is_handed_out v frame) _ (unheld_frame v frame (block_free frame x.1))).1
+      | inr x ↦ law.blocks.unclaimed a frame x.1
+    ]
+
     handed_taken : (f : ℕ) → map.get taken.handed_out f ≡ handed_out_by (TakeHuge first order ∷ v.records) f
     handed_taken = written_at _ (map.get v.handed_out) (handed_out_by v.records) first (Some order) (λ f. get_insert_same v.handed_out first f order) (λ f. get_insert_other v.handed_out first f order) law.agrees.handed
 
@@ -172,7 +186,7 @@ module _ (v : ZoneState) (first order : ℕ) (run : is_run v order first ≡ tru
       journal = journal_noted (TakeHuge first order) law.journal spare law.journal.truthful law.journal.well_ended refl;
       agrees = record { named = law.agrees.named; in_use = law.agrees.in_use; under_way = law.agrees.under_way; handed = handed_taken; marks = law.agrees.marks };
       pages = record { numbered = law.pages.numbered; upward = law.pages.upward; apart = law.pages.apart; within = law.pages.within; clear = clear_taken; unmovable = law.pages.unmovable };
-      blocks = record { each = blocks_taken; disjoint = disjoint_taken; contents = contents_taken };
+      blocks = record { each = blocks_taken; disjoint = disjoint_taken; contents = contents_taken; claims = law.blocks.claims; unclaimed = unclaimed_taken };
       fingers = fingers_ended v (block_taken v first order) (TakeHuge first order) law law.fingers.ordered refl refl refl;
       sum = omega (arith, law.sum, counts_add_up (is_free taken) (is_held taken) (is_free v) (is_held v) (frame_count v) (λ frame h. balanced_taken frame));
     }
@@ -189,7 +203,7 @@ module _ (v : ZoneState) (law : IsValidZone v) (first order : ℕ) (at : map.get
   one_given = record { without = get_remove_same v.handed_out first first refl; here = at; others = λ q ne. sym (get_remove_other v.handed_out first q ne) }
 
   pub held_given : (frame : ℕ) → is_held v frame ≡ (is_held given frame || in_block first order frame)
-  held_given = held_more one_given (frame_count v) block_first
+  held_given frame = ap (λ b. b || set.contains v.claimed frame) (held_more one_given (frame_count v) block_first frame) ∙ or_swap (is_handed_out given frame) (in_block first order frame) (set.contains v.claimed frame)
 
   -- a block that covers a frame after one is taken back is another one, and covered the frame before
   covers_given : (a frame : ℕ) → covers (map.get given.handed_out a) a frame ≡ true → (a ≢ first) × (covers (map.get v.handed_out a) a frame ≡ true)
@@ -199,10 +213,11 @@ module _ (v : ZoneState) (law : IsValidZone v) (first order : ℕ) (at : map.get
   ]
 
   pub unheld_given : (frame : ℕ) → in_block first order frame ≡ true → is_held given frame ≡ false
-  unheld_given frame here = false_from_ne_true _ (λ held.
+  unheld_given frame here = or_from (is_handed_out given frame) _ (false_from_ne_true _ (λ held.
       (let one = some_one (λ q. covers (map.get given.handed_out q) q frame) (frame_count v) held in
       let other = covers_given one.0 frame one.2 in
-      other.0 (law.blocks.disjoint one.0 first frame other.1 (ap (λ (o : Option ℕ). covers o first frame) at ∙ here))))
+      other.0 (law.blocks.disjoint one.0 first frame other.1 (ap (λ (o : Option ℕ). covers o first frame) at ∙ here)))))
+      (law.blocks.unclaimed first frame (ap (λ (o : Option ℕ). covers o first frame) at ∙ here))
 
   -- no page takes up a frame of a block that is handed out
   pub unused_in_block : (page frame : ℕ) → in_block first order frame ≡ true → takes_up (map.get v.placement page) frame ≡ false
@@ -256,7 +271,7 @@ module _ (v : ZoneState) (law : IsValidZone v) (first order : ℕ) (at : map.get
     journal = journal_noted (GiveHuge first order) law.journal spare law.journal.truthful law.journal.well_ended refl;
     agrees = record { named = law.agrees.named; in_use = law.agrees.in_use; under_way = law.agrees.under_way; handed = handed_fewer; marks = law.agrees.marks };
     pages = record { numbered = law.pages.numbered; upward = law.pages.upward; apart = law.pages.apart; within = law.pages.within; clear = (λ page frame e. (or_parts _ _ (sym (held_given frame) ∙ law.pages.clear page frame e)).0); unmovable = law.pages.unmovable };
-    blocks = record { each = blocks_given; disjoint = (λ a b frame e f. law.blocks.disjoint a b frame (covers_given a frame e).1 (covers_given b frame f).1); contents = contents_given };
+    blocks = record { each = blocks_given; disjoint = (λ a b frame e f. law.blocks.disjoint a b frame (covers_given a frame e).1 (covers_given b frame f).1); contents = contents_given; claims = law.blocks.claims; unclaimed = λ a frame e. law.blocks.unclaimed a frame (covers_given a frame e).1 };
     fingers = fingers_ended v (block_given v first order) (GiveHuge first order) law law.fingers.ordered refl refl refl;
     sum = omega (arith, law.sum, counts_add_up (is_free given) (is_held given) (is_free v) (is_held v) (frame_count v) (λ frame h. balanced_given frame));
   }

@@ -1,5 +1,5 @@
 -- The page of a pair is isolated: it takes up its target besides its source.
-use Rattle.std.proofs.Common.{◌≡◌, ◌≢◌, ℕ, ◌+◌, ◌-◌, ◌<◌, true, false, ◌∷◌, length, inl, inr, refl, sym, ap, ◌∙◌, arith, Option, Some, nat_eq, ◌||◌}
+use Rattle.std.proofs.Common.{◌≡◌, ◌≢◌, ℕ, ◌+◌, ◌<◌, true, false, ◌∷◌, length, inl, inr, refl, sym, ap, ◌∙◌, arith, Option, Some, nat_eq, ◌||◌}
 use Rattle.std.proofs.Math.Bool.{or-false}
 use Rattle.std.proofs.lemmas.Bool.{and_parts, both_ways, cond-true, cond-false, eq-eqb, eqb-true, ne_eqb, or_cases, or_left, or_right}
 use Rattle.std.proofs.lemmas.Bool.Decides.{eqb_tells}

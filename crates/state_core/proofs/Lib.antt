@@ -2,6 +2,7 @@ pub mod Accessed
 pub mod Bulk
 pub mod Calls
 pub mod Carried
+pub mod Claiming
 pub mod Contents
 pub mod Ending
 pub mod Entries

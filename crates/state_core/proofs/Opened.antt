@@ -4,7 +4,7 @@ use Rattle.std.specs.FinSet as set
 use Rattle.std.specs.FinMap as map
 use Rattle.std.specs.Option.{option_map}
 use Rattle.std.specs.Ordering.{nat_cmp}
-use Rattle.std.proofs.lemmas.Bool.{and_from, both_ways}
+use Rattle.std.proofs.lemmas.Bool.{and_from, both_ways, or_from}
 use Rattle.std.proofs.lemmas.Option.{none-some}
 use Rattle.frame_core.proofs.Searches.{count_all, count_none, none_some}
 use Rattle.frame_core.specs.Below.{count_below}
@@ -31,7 +31,7 @@ module _ (words number : ℕ) (size : ZoneSize) (places : ℕ) where
   uncovered first frame = ap (λ (o : Option ℕ). covers o first frame) (no_block first)
 
   pub unheld : (frame : ℕ) → is_held new_zone frame ≡ false
-  unheld frame = none_some (λ first. covers (map.get new_zone.handed_out first) first frame) (frame_count new_zone) (λ first h. uncovered first frame)
+  unheld frame = or_from _ _ (none_some (λ first. covers (map.get new_zone.handed_out first) first frame) (frame_count new_zone) (λ first h. uncovered first frame)) (set.contains-empty nat_cmp frame)
 
   pub all_free : (frame : ℕ) → is_free new_zone frame ≡ true
   all_free frame = and_from _ _ (ap not (none_some (λ page. takes_up (map.get new_zone.placement page) frame) (frame_count new_zone) (λ page h. untaken page frame))) (ap not (unheld frame))
@@ -69,6 +69,8 @@ module _ (words number : ℕ) (size : ZoneSize) (places : ℕ) where
       each = λ first order e. absurd (none-some _ (sym (no_block first) ∙ e));
       disjoint = λ a b frame h k. absurd (both_ways _ (uncovered a frame) h);
       contents = λ first. ap (option_map length) (map.get-empty nat_cmp first) ∙ sym (ap (option_map (λ order. 2 ^ order * words)) (no_block first));
+      claims = λ frame c. absurd (both_ways _ (set.contains-empty nat_cmp frame) c);
+      unclaimed = λ first frame e. absurd (both_ways _ (uncovered first frame) e);
     };
     fingers = record { ordered = (omega arith, omega arith); begun = λ start e. cc; swept = λ quiet. cc };
     sum = omega (arith, free_count, page_count, held_count);

@@ -14,7 +14,7 @@ use Rattle.state_core.specs.Marking.{mark_refusal, unmark_refusal, block_marked,
 use Rattle.state_core.specs.Pinning.{pin_refusal, unpin_refusal, pinned, unpinned}
 use Rattle.state_core.specs.Sharing.{share_refusal, shared}
 use Rattle.state_core.specs.Unmapping.{unmap_refusal, unmapped}
-use Rattle.state_core.specs.ZoneState.{ZoneState, lowest_free_frame, lowest_unused_page}
+use Rattle.state_core.specs.ZoneState.{ZoneState, frame_for, lowest_unused_page}
 
 -- why a call is refused, if it is
 abbrev pub refusal_of : {W : ℕ} → ZoneCall W → ZoneState → Option ZoneError
@@ -33,7 +33,7 @@ refusal_of (Unmark block) z = unmark_refusal z block
 
 -- what a call answers that isn't refused
 abbrev pub answer_of : {W : ℕ} → ZoneCall W → ZoneState → ZoneAnswer
-answer_of (Map address unmovable) z = Mapped (unwrap_or (lowest_unused_page z) 0) (unwrap_or (lowest_free_frame z) 0)
+answer_of (Map address unmovable) z = Mapped (unwrap_or (lowest_unused_page z) 0) (unwrap_or (frame_for z unmovable) 0)
 answer_of (MapAt address unmovable frame) z = Mapped (unwrap_or (lowest_unused_page z) 0) frame
 answer_of (Load address word) z = Value (value_at z address word)
 answer_of (Store address word value) z = Done
@@ -48,7 +48,7 @@ answer_of (Unmark block) z = Done
 
 -- the zone after a call of a client that isn't refused
 abbrev pub after : {W : ℕ} → ZoneCall W → ℕ → ZoneState → ZoneState
-after (Map address unmovable) client z = mapped z client address unmovable (unwrap_or (lowest_free_frame z) 0)
+after (Map address unmovable) client z = mapped z client address unmovable (unwrap_or (frame_for z unmovable) 0)
 after (MapAt address unmovable frame) client z = mapped z client address unmovable frame
 after (Load address word) client z = loaded z client address word
 after (Store address word value) client z = stored z client address word value

@@ -2,6 +2,7 @@ pub mod Access
 pub mod Bulk
 pub mod Calls
 pub mod Carrying
+pub mod Claiming
 pub mod Clear
 pub mod Contents
 pub mod Ending

@@ -1,5 +1,5 @@
 -- The calls that open a zone: with a journal that is kept, or with one that is unrecorded.
-use Rattle.std.specs.Prelude.{ℕ, ◌*◌, ◌<◌, ◌≤◌, Option, Some, None, [], IfSome}
+use Rattle.std.specs.Prelude.{ℕ, ◌*◌, ◌<◌, ◌≤◌, false, Option, Some, None, [], IfSome}
 use Rattle.frame_core.specs.Journal.{unrecorded_places}
 use Rattle.state_core.specs.ZoneState.{ZoneState}
 use Rattle.state_core.specs.declared.size.ZoneSize.{ZoneSize}
@@ -39,7 +39,7 @@ abbrev pub places_of : Option ℕ → ℕ
 places_of None = unrecorded_places
 places_of (Some places) = places
 
--- a zone that was just opened, with this many words in a page, of this size: it has no page, no record and no block handed out
+-- a zone that was just opened, with this many words in a page, of this size: it has no page, no record, no block handed out and no frame claimed
 abbrev pub opened_sized : ℕ → ℕ → ZoneSize → ℕ → ZoneState
 opened_sized words number size places = record {
   number = number;
@@ -51,6 +51,8 @@ opened_sized words number size places = record {
   room = places;
   unmovable = set.empty;
   marked = set.empty;
+  apart = false;
+  claimed = set.empty;
   handed_out = map.empty;
   contents = map.empty;
   placement = map.empty;

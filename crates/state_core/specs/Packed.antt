@@ -40,7 +40,7 @@ unmarked_whole z = count_below (λ block. not (set.contains z.marked block) && i
 abbrev pub marked_whole : ZoneState → ℕ
 marked_whole z = count_below (λ block. set.contains z.marked block && is_whole z block) z.blocks
 
--- a placement gives each page of a zone a frame of its own that isn't handed out; the pages of marked pageblocks keep
+-- a placement gives each page of a zone a frame of its own that isn't held; the pages of marked pageblocks keep
 -- theirs, and no other page comes into these
 pub record IsPlacement (z : ZoneState) (place : ℕ → Option ℕ) : Type 0 where
   pub same_pages : (page : ℕ) → is_some (place page) ≡ is_some (map.get z.placement page)

@@ -95,7 +95,7 @@ abbrev pub stays_if_some : ZoneState → Option ℕ → Bool
 stays_if_some z None = false
 stays_if_some z (Some page) = not (can_move z page)
 
--- whether a frame of an unmarked pageblock is handed out, or holds a page that may not be taken from it
+-- whether a frame of an unmarked pageblock is held, or holds a page that may not be taken from it
 abbrev pub is_stuck : ZoneState → ℕ → Bool
 is_stuck z frame = not (is_marked z frame) && (is_held z frame || stays_if_some z (holder z frame))
 

@@ -12,11 +12,11 @@ pub record IsCarriedUp (z : ZoneState) (page source target : ℕ) : Type 0 where
   pub movable : can_move z page ≡ true
 
 -- what a quiet round keeps, of frames in unmarked pageblocks: below the migrate finger none holds a page, from the free
--- finger on none is free, and none is handed out or holds a page that may not be taken
+-- finger on none is free, and none is held or holds a page that may not be taken
 pub record IsSwept (z : ZoneState) : Type 0 where
   pub below : (page frame : ℕ) → map.get z.placement page ≡ Some (At frame) → is_marked z frame ≡ false → z.migrate ≤ frame
   pub above : (frame : ℕ) → z.free ≤ frame → frame < frame_count z → is_marked z frame ≡ false → is_free z frame ≡ false
-  -- no frame is handed out, and each page may be taken from its frame
+  -- no frame is held, and each page may be taken from its frame
   pub unheld : (frame : ℕ) → frame < frame_count z → is_marked z frame ≡ false → is_held z frame ≡ false
   pub movable : (page frame : ℕ) → map.get z.placement page ≡ Some (At frame) → is_marked z frame ≡ false → can_move z page ≡ true
   -- each moving page goes from below the migrate finger to a frame from the free finger on

@@ -52,26 +52,29 @@ pub record AgreesWithJournal (spaces vpages : ℕ) (records : List Record) (plac
   pub handed : (first : ℕ) → map.get handed_out first ≡ handed_out_by records first
   pub marks : (block : ℕ) → set.contains marked block ≡ is_marked_by records block
 
--- the pages in use have valid places in a zone of this many frames; held tells which frames are in a block that is handed out,
+-- the pages in use have valid places in a zone of this many frames; held tells which frames are held,
 -- and fixed has the pages that are noted as unmovable
 pub record HasValidPages (placement : map.FinMap nat_cmp Placement) (fixed : set.FinSet nat_cmp) (frames : ℕ) (held : ℕ → Bool) : Type 0 where
   pub numbered : (page : ℕ) → IsSome (map.get placement page) → page < frames
   -- a moving page goes to a higher frame
   pub upward : (page serial source target : ℕ) → map.get placement page ≡ Some (Moving serial source target) → source < target
-  -- a frame is of one page at most; it is in the zone, and in no block that is handed out
+  -- a frame is of one page at most; it is in the zone, and isn't held
   pub apart : (p q frame : ℕ) → takes_up (map.get placement p) frame ≡ true → takes_up (map.get placement q) frame ≡ true → p ≡ q
   pub within : (page frame : ℕ) → takes_up (map.get placement page) frame ≡ true → frame < frames
   pub clear : (page frame : ℕ) → takes_up (map.get placement page) frame ≡ true → held frame ≡ false
   -- each page that is noted as unmovable is in use
   pub unmovable : (page : ℕ) → set.contains fixed page ≡ true → IsSome (map.get placement page)
 
--- the blocks that are handed out, in a zone of this many frames with this many words a page, are valid
-pub record HasValidBlocks (frames page_size : ℕ) (handed_out : map.FinMap nat_cmp ℕ) (words : map.FinMap nat_cmp (List ℕ)) : Type 0 where
+-- the blocks that are handed out and the frames that are claimed, in a zone of this many frames with this many words a page, are valid
+pub record HasValidBlocks (frames page_size : ℕ) (handed_out : map.FinMap nat_cmp ℕ) (words : map.FinMap nat_cmp (List ℕ)) (claimed : set.FinSet nat_cmp) : Type 0 where
   -- each of them is a block of the zone, and no two of them overlap
   pub each : (first order : ℕ) → map.get handed_out first ≡ Some order → IsBlock frames first order
   pub disjoint : (a b frame : ℕ) → covers (map.get handed_out a) a frame ≡ true → covers (map.get handed_out b) b frame ≡ true → a ≡ b
   -- each of them has as many words as a page has for each of its frames, and there are no other words
   pub contents : (first : ℕ) → option_map length (map.get words first) ≡ option_map (λ order. 2 ^ order * page_size) (map.get handed_out first)
+  -- a claimed frame is in the zone, and in no block that is handed out
+  pub claims : (frame : ℕ) → set.contains claimed frame ≡ true → frame < frames
+  pub unclaimed : (first frame : ℕ) → covers (map.get handed_out first) first frame ≡ true → set.contains claimed frame ≡ false
 
 -- the fingers of a zone are valid, and its latest round
 pub record HasValidFingers (z : ZoneState) : Type 0 where
@@ -90,7 +93,7 @@ pub record IsValidZone (z : ZoneState) : Type 0 where
   pub journal : HasValidJournal z.records z.room
   pub agrees : AgreesWithJournal z.spaces z.vpages z.records z.placement z.handed_out z.marked
   pub pages : HasValidPages z.placement z.unmovable (frame_count z) (is_held z)
-  pub blocks : HasValidBlocks (frame_count z) z.page_size z.handed_out z.contents
+  pub blocks : HasValidBlocks (frame_count z) z.page_size z.handed_out z.contents z.claimed
   pub fingers : HasValidFingers z
-  -- each frame is free, or of a page, or of a block that is handed out; a moving page has two frames
+  -- each frame is free, or of a page, or held; a moving page has two frames
   pub sum : count_below (is_free z) (frame_count z) + count_below (λ page. is_some (map.get z.placement page)) (frame_count z) + length (out z.records) + count_below (is_held z) (frame_count z) ≡ frame_count z

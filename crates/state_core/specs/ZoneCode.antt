@@ -1,6 +1,6 @@
 -- The code of a zone's state. A type whose value has a zone in it, as a world, is given its code by this one.
-use Rattle.std.specs.Prelude.{ℕ, refl, List, Option}
-use Rattle.std.specs.Coded.{Coded, code_by, coded×, coded_ℕ, coded_list, coded_option}
+use Rattle.std.specs.Prelude.{ℕ, refl, Bool, List, Option}
+use Rattle.std.specs.Coded.{Coded, code_by, coded×, coded_ℕ, coded_bool, coded_list, coded_option}
 use Rattle.std.specs.FinMap as map
 use Rattle.std.specs.FinSet as set
 use Rattle.std.specs.Ordering.{nat_cmp}
@@ -14,20 +14,20 @@ use Rattle.state_core.specs.ZoneState.{ZoneState}
 
 -- the fields of a state, as pairs
 abbrev Fields : Type 0
-Fields = ℕ × (ℕ × (ℕ × (ℕ × (ℕ × (List Record × (ℕ × (set.FinSet nat_cmp × (set.FinSet nat_cmp × (map.FinMap nat_cmp ℕ × (map.FinMap nat_cmp (List ℕ) × (map.FinMap nat_cmp Placement × (ℕ × (ℕ × Option RoundStart)))))))))))))
+Fields = ℕ × (ℕ × (ℕ × (ℕ × (ℕ × (List Record × (ℕ × (set.FinSet nat_cmp × (set.FinSet nat_cmp × (Bool × (set.FinSet nat_cmp × (map.FinMap nat_cmp ℕ × (map.FinMap nat_cmp (List ℕ) × (map.FinMap nat_cmp Placement × (ℕ × (ℕ × Option RoundStart)))))))))))))))
 
 abbrev coded_fields : Coded Fields
 coded_fields =
     coded× coded_ℕ (coded× coded_ℕ (coded× coded_ℕ (coded× coded_ℕ (coded× coded_ℕ (coded× (coded_list record_row.the_row.coded) (coded× coded_ℕ
-    (coded× (set.code {R = nat_cmp} coded_ℕ) (coded× (set.code {R = nat_cmp} coded_ℕ)
+    (coded× (set.code {R = nat_cmp} coded_ℕ) (coded× (set.code {R = nat_cmp} coded_ℕ) (coded× coded_bool (coded× (set.code {R = nat_cmp} coded_ℕ)
     (coded× (map.code {R = nat_cmp} coded_ℕ coded_ℕ) (coded× (map.code {R = nat_cmp} coded_ℕ (coded_list coded_ℕ))
     (coded× (map.code {R = nat_cmp} coded_ℕ placement_row.the_row.coded)
-    (coded× coded_ℕ (coded× coded_ℕ (coded_option round_row.the_row.coded))))))))))))))
+    (coded× coded_ℕ (coded× coded_ℕ (coded_option round_row.the_row.coded))))))))))))))))
 
 -- a state is coded as its fields are
 abbrev pub coded_zone : Coded ZoneState
 coded_zone = code_by Fields coded_fields
-    (λ z. (z.number, (z.blocks, (z.spaces, (z.vpages, (z.page_size, (z.records, (z.room, (z.unmovable, (z.marked, (z.handed_out, (z.contents, (z.placement, (z.migrate, (z.free, z.round)))))))))))))))
+    (λ z. (z.number, (z.blocks, (z.spaces, (z.vpages, (z.page_size, (z.records, (z.room, (z.unmovable, (z.marked, (z.apart, (z.claimed, (z.handed_out, (z.contents, (z.placement, (z.migrate, (z.free, z.round)))))))))))))))))
     (λ p. record {
       number = p.0;
       blocks = p.1.0;
@@ -38,11 +38,13 @@ coded_zone = code_by Fields coded_fields
       room = p.1.1.1.1.1.1.0;
       unmovable = p.1.1.1.1.1.1.1.0;
       marked = p.1.1.1.1.1.1.1.1.0;
-      handed_out = p.1.1.1.1.1.1.1.1.1.0;
-      contents = p.1.1.1.1.1.1.1.1.1.1.0;
-      placement = p.1.1.1.1.1.1.1.1.1.1.1.0;
-      migrate = p.1.1.1.1.1.1.1.1.1.1.1.1.0;
-      free = p.1.1.1.1.1.1.1.1.1.1.1.1.1.0;
-      round = p.1.1.1.1.1.1.1.1.1.1.1.1.1.1;
+      apart = p.1.1.1.1.1.1.1.1.1.0;
+      claimed = p.1.1.1.1.1.1.1.1.1.1.0;
+      handed_out = p.1.1.1.1.1.1.1.1.1.1.1.0;
+      contents = p.1.1.1.1.1.1.1.1.1.1.1.1.0;
+      placement = p.1.1.1.1.1.1.1.1.1.1.1.1.1.0;
+      migrate = p.1.1.1.1.1.1.1.1.1.1.1.1.1.1.0;
+      free = p.1.1.1.1.1.1.1.1.1.1.1.1.1.1.1.0;
+      round = p.1.1.1.1.1.1.1.1.1.1.1.1.1.1.1.1;
     })
     (λ _. refl)

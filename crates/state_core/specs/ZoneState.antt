@@ -1,6 +1,6 @@
 -- The state of a zone, one record, and what is read off it: which frames are free, whether the journal has room, and
 -- whether the latest round is quiet.
-use Rattle.std.specs.Prelude.{ℕ, ◌+◌, true, false, List, length, nat_eq, Option, Some, None, ◌-◌, ◌*◌, ◌^◌, Bool, not, ◌&&◌, ◌||◌, ◌∷◌, take, nat_lt, nat_le, is_none}
+use Rattle.std.specs.Prelude.{ℕ, ◌+◌, true, false, List, length, nat_eq, Option, Some, None, ◌-◌, ◌*◌, ◌^◌, Bool, not, ◌&&◌, ◌||◌, ◌∷◌, take, nat_lt, nat_le, is_none, if◌then◌else◌}
 use Rattle.std.specs.FinMap as map
 use Rattle.frame_core.specs.Address.{is_in_table}
 use Rattle.frame_core.specs.declared.place.Address.{Address}
@@ -11,7 +11,7 @@ use Rattle.std.specs.List.{list_all}
 use Rattle.std.specs.Option.{option_and_then}
 use Rattle.std.specs.Ordering.{nat_cmp}
 use Rattle.std.specs.FinSet as set
-use Rattle.frame_core.specs.Below.{lowest, some_below, count_from}
+use Rattle.frame_core.specs.Below.{lowest, highest, some_below, count_from}
 use Rattle.frame_core.specs.declared.record.Record.{Record}
 use Rattle.frame_core.specs.declared.record.Record.TheVariants.{Load, Store, Isolate, Moved}
 use Rattle.frame_core.specs.History.{page_at}
@@ -35,6 +35,10 @@ pub record ZoneState : Type 0 where
   pub unmovable : set.FinSet nat_cmp
   -- the marked pageblocks
   pub marked : set.FinSet nat_cmp
+  -- whether unmovable pages are mapped apart from the others
+  pub apart : Bool
+  -- the frames that are claimed: they hold nothing, and are kept for a block
+  pub claimed : set.FinSet nat_cmp
   -- the order of each block that is handed out, by its first frame
   pub handed_out : map.FinMap nat_cmp ℕ
   -- the words of each block that is handed out, those of its frames one after the other, by its first frame
@@ -76,10 +80,14 @@ abbrev pub is_used : ZoneState → ℕ → Bool
 is_used z frame = some_below (λ page. takes_up (map.get z.placement page) frame) (frame_count z)
 
 -- whether a frame is in a block that is handed out
-abbrev pub is_held : ZoneState → ℕ → Bool
-is_held z frame = some_below (λ first. covers (map.get z.handed_out first) first frame) (frame_count z)
+abbrev pub is_handed_out : ZoneState → ℕ → Bool
+is_handed_out z frame = some_below (λ first. covers (map.get z.handed_out first) first frame) (frame_count z)
 
--- whether a frame is of no page and in no block that is handed out
+-- whether a frame is held: it is in a block that is handed out, or claimed
+abbrev pub is_held : ZoneState → ℕ → Bool
+is_held z frame = is_handed_out z frame || set.contains z.claimed frame
+
+-- whether a frame is of no page and isn't held
 abbrev pub is_free : ZoneState → ℕ → Bool
 is_free z frame = not (is_used z frame) && not (is_held z frame)
 
@@ -94,6 +102,14 @@ is_whole z block = nat_eq (free_in_block z block) 512
 -- the lowest free frame, if there is one
 abbrev pub lowest_free_frame : ZoneState → Option ℕ
 lowest_free_frame z = lowest (is_free z) (frame_count z)
+
+-- the highest free frame, if there is one
+abbrev pub highest_free_frame : ZoneState → Option ℕ
+highest_free_frame z = highest (is_free z) (frame_count z)
+
+-- the frame that a page is mapped to: the lowest free one, or the highest where the page is unmovable and such pages are mapped apart
+abbrev pub frame_for : ZoneState → Bool → Option ℕ
+frame_for z unmovable = if z.apart && unmovable then highest_free_frame z else lowest_free_frame z
 
 -- the lowest page number that isn't in use, if there is one
 abbrev pub lowest_unused_page : ZoneState → Option ℕ

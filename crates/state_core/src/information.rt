@@ -13,7 +13,7 @@ pub struct Info {
     pub huge: u32,
     /// Pageblocks whose 512 frames are all free.
     pub whole: u32,
-    /// Frames of the blocks that are handed out.
+    /// Frames that are held: those of the blocks that are handed out, and those that are claimed.
     pub held: u32,
 }
 
