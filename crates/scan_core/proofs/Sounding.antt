@@ -75,6 +75,9 @@ module _ (z : Inside) (sound : IsSound z) where
   pub lowest_counted : lowest (set.contains z.free.members) z.free.bound ≡ lowest (free_at (seen z.held.members z.kept.items)) (length (seen z.held.members z.kept.items))
   lowest_counted = λ i. lowest (free_is i) (bound_is i)
 
+  pub highest_counted : highest (set.contains z.free.members) z.free.bound ≡ highest (free_at (seen z.held.members z.kept.items)) (length (seen z.held.members z.kept.items))
+  highest_counted = λ i. highest (free_is i) (bound_is i)
+
   pub whole_by_set : count_below (all_of_block (set.contains z.free.members)) (z.free.bound / 512) ≡ count_below (is_whole (seen z.held.members z.kept.items)) (blocks_of (seen z.held.members z.kept.items))
   whole_by_set = λ i. count_below (all_of_block (free_is i)) (bound_is i / 512)
 

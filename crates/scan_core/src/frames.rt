@@ -1,6 +1,6 @@
 ghost use Rattle.std.specs.Prelude.{◌≡◌, ◌*◌, ◌^◌, ◌<◌, ◌≤◌, is_some, length, slice_get, slice_set, true, Some, IfOk, IfSome};
 ghost use Rattle.frame_core.specs.declared.state.FrameState.TheVariants.{Free, Holds, Huge, Source, Target};
-ghost use Rattle.frame_core.specs.Below.{count_below, count_from, lowest, some_below};
+ghost use Rattle.frame_core.specs.Below.{count_below, count_from, highest, lowest, some_below};
 ghost use Rattle.scan_core.specs.Frames.{all_free, blocks_of, free_at, free_frames, holds_at, huge_at, is_open_at, is_whole, page_held, true_at, way_at};
 ghost use Rattle.scan_core.specs.NumberSet.{all_from};
 ghost use Rattle.scan_core.specs.Pairs.{after_step, is_stuck, is_target, next_step, Finds};
@@ -213,6 +213,15 @@ impl Frames {
         self.free.lowest()
     }
 
+    /// The highest free frame, if there is one.
+    pub fn highest_free(&self) -> Option<FrameNo>
+        ensures highest { result ≡ highest (free_at self.now.states) (length self.now.states) }
+        ensures free { IfSome result (λ frame. free_at self.now.states frame ≡ true) }
+        ensures within { IfSome result (λ frame. frame < length self.now.states) }
+    {
+        self.free.highest()
+    }
+
     /// How many pageblocks have only free frames.
     pub fn whole_blocks(&self) -> u32
         ensures { result ≡ count_below (is_whole self.now.states) (blocks_of self.now.states) }
@@ -291,6 +300,28 @@ impl Frames {
             .stuck
             .fewer(first.get() / 512, order.frames());
         self.free.insert_run(first, order);
+    }
+
+    /// Holds a single free frame, as a frame of a block that is handed out is held.
+    pub fn hold_frame(&mut self, frame: FrameNo)
+        requires { free_at self.old.states frame ≡ true }
+        ensures state { self.new ≡ record self.old { states = slice_set self.old.states frame Huge } }
+        ensures frames { length self.new.states ≡ length self.old.states }
+    {
+        self.free.remove(frame);
+        self.candidates.stuck.more(frame.get() / 512, 1);
+        self.held.insert(frame.get());
+    }
+
+    /// Takes back a single frame that is handed out.
+    pub fn release_frame(&mut self, frame: FrameNo)
+        requires { huge_at self.old.states frame ≡ true }
+        ensures state { self.new ≡ record self.old { states = slice_set self.old.states frame Free } }
+        ensures frames { length self.new.states ≡ length self.old.states }
+    {
+        self.held.remove(frame.get());
+        self.candidates.stuck.fewer(frame.get() / 512, 1);
+        self.free.insert(frame);
     }
 
     /// The next pair between the fingers. After it the fingers stand one above its source and at its target; where there
