@@ -378,8 +378,8 @@ impl Frames {
             return Step::Met;
         };
         let free = self.free.numbers();
-        let Some(target) = scanners::highest_target(free, marks, source.get() + 1, fingers.free)
-        else {
+        let low = source.get() + 1;
+        let Some(target) = scanners::highest_target(free, marks, low, fingers.free) else {
             return Step::Met;
         };
         fingers.pass(source, target)
