@@ -34,6 +34,7 @@ pub(crate) fn next_source(sources: &NumberSet, marks: &Marks, fingers: Fingers) 
 
 /// The highest free frame from `low` on and below `end`, in an unmarked pageblock. It passes over the rest of a marked pageblock at
 /// once.
+#[inline(always)]
 pub(crate) fn highest_target(free: &NumberSet, marks: &Marks, low: u32, end: u32) -> Option<FrameNo>
     requires few { end ≤ 16777216 }
     requires room { end ≤ free.now.bound }
