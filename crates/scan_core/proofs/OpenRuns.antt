@@ -10,7 +10,6 @@ use Rattle.frame_core.specs.declared.state.FrameState.TheVariants.{Free, Holds, 
 use Rattle.frame_core.proofs.Searches.{count_from_full, count_from_most, count_from_same}
 use Rattle.scan_core.specs.Frames.{Frames, free_at, holds_at, is_free_state, is_holding_state, is_open_at, is_source_state, source_at, true_at}
 use Rattle.scan_core.specs.NumberSet.{all_from}
-use Rattle.scan_core.specs.Seen.{seen}
 use Rattle.scan_core.specs.Sound.{frames_of, IsSound}
 use Rattle.scan_core.specs.declared.frames.Frames.TheInside.{Inside}
 use Rattle.scan_core.proofs.Steps.{free_not_source}
@@ -51,18 +50,17 @@ open_holds (Some (Target serial)) movable is = refl
 open_holds None movable is = refl
 
 -- the counts that the two sets give of a run
-module _ (z : Inside) (sound : IsSound z) {now : Frames} (view : frames_of z ≡ now) (first count free pages : ℕ) (free_is : free ≡ count_from (set.contains z.free.members) first count) (pages_is : pages ≡ count_from (set.contains z.candidates.sources.members) first count) where
+module _ (z : Inside) (sound : IsSound z) {now : Frames} (view : frames_of z ≡ now) (first count free pages : ℕ) (free_is : free ≡ count_from (set.contains z.free.members) first count) (pages_are : pages ≡ count_from (source_at now.states now.movable) first count) where
   -- neither of them is greater than the run
   pub counts_fit : (free ≤ count) × (pages ≤ count)
-  counts_fit = (omega (arith, free_is, count_from_most (set.contains z.free.members) first count), omega (arith, pages_is, count_from_most (set.contains z.candidates.sources.members) first count))
+  counts_fit = (omega (arith, free_is, count_from_most (set.contains z.free.members) first count), omega (arith, pages_are, count_from_most (source_at now.states now.movable) first count))
 
   open_counted : free + pages ≡ count_from (is_open_at now) first count
   open_counted =
-      let states = seen z.held.members z.kept.items in
-      (λ i. free_is i + pages_is i)
-      ∙ (λ i. count_from (λ n. sound.free n i) first count + count_from (λ n. sound.sources n i) first count)
-      ∙ either_from (free_at states) (source_at states z.movable.items) first count (λ n. free_not_source (slice_get states n) (true_at z.movable.items n))
-      ∙ ap (λ (frames : Frames). count_from (is_open_at frames) first count) view
+      (λ i. free_is i + pages_are i)
+      ∙ (λ i. count_from (λ n. sound.free n i) first count + count_from (source_at now.states now.movable) first count)
+      ∙ ap (λ (frames : Frames). count_from (free_at frames.states) first count + count_from (source_at now.states now.movable) first count) view
+      ∙ either_from (free_at now.states) (source_at now.states now.movable) first count (λ n. free_not_source (slice_get now.states n) (true_at now.movable n))
 
   pub all_open : free + pages ≡ count → true ≡ all_from (is_open_at now) first count
   all_open all = sym (eq-eqb (count_from (is_open_at now) first count) count (sym open_counted ∙ all))
@@ -72,6 +70,5 @@ module _ (z : Inside) (sound : IsSound z) {now : Frames} (view : frames_of z ≡
 
   pub pages_held : free + pages ≡ count → pages ≡ count_from (holds_at now.states) first count
   pages_held all =
-      pages_is ∙ (λ i. count_from (λ n. sound.sources n i) first count)
-      ∙ ap (λ (frames : Frames). count_from (source_at frames.states frames.movable) first count) view
+      pages_are
       ∙ count_from_same (source_at now.states now.movable) (holds_at now.states) first count (λ k low high. open_holds (slice_get now.states k) (true_at now.movable k) (count_from_full (is_open_at now) first count k (sym open_counted ∙ all) low high))

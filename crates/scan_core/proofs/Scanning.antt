@@ -1,8 +1,8 @@
 -- What the scanners pass over in the sets of frames that they look for.
 use Rattle.std.proofs.Common.{◌≡◌, ℕ, ◌+◌, ◌*◌, ◌/◌, ◌<◌, ◌≤◌, Bool, true, false, not, List, inl, inr, sym, ap, ◌∙◌, arith}
-use Rattle.std.specs.Prelude.{nat_le, nat_lt, ◌&&◌}
+use Rattle.std.specs.Prelude.{nat_le, ◌&&◌}
 use Rattle.std.proofs.Math.Bool.{and-false}
-use Rattle.std.proofs.lemmas.Bool.{le-leb, le-ltb, lt-ltb}
+use Rattle.std.proofs.lemmas.Bool.{le-leb, lt-leb}
 use Rattle.std.proofs.lemmas.Bool.Decides.{leb_tells}
 use Rattle.frame_core.specs.Below.{highest, lowest}
 use Rattle.frame_core.proofs.Bounds.{highest_is, highest_none}
@@ -11,6 +11,7 @@ use Rattle.number_set.specs.Finds.{IsFrom, IsPrevious, NoneBelow, NoneFrom}
 use Rattle.std.specs.Prelude.{Some, None}
 use Rattle.scan_core.specs.Frames.{true_at}
 use Rattle.scan_core.specs.Pairs.{is_marked}
+use Rattle.scan_core.proofs.Found.{skipped_and}
 
 -- a frame that isn't a member is no stop, and neither is one in a marked pageblock
 no_member : (a m x : Bool) → x ≡ false → (a && (not m && x)) ≡ false
@@ -18,6 +19,30 @@ no_member a m x e = ap (λ b. a && (not m && b)) e ∙ ap (λ b. a && b) (and-fa
 
 no_unmarked : (a m x : Bool) → m ≡ true → (a && (not m && x)) ≡ false
 no_unmarked a m x e = ap (λ b. a && (not b && x)) e ∙ and-false a
+
+-- a search from a frame on and below an end
+module _ (p : ℕ → Bool) (from end : ℕ) where
+  pub movable_met : end ≤ from → lowest (λ k. nat_le from k && p k) end ≡ None
+  movable_met met = lowest_none _ end (λ k h. ap (λ b. b && p k) (lt-leb from k (omega (arith, h, met))))
+
+  pub movable_none : NoneFrom p from → lowest (λ k. nat_le from k && p k) end ≡ None
+  movable_none none = lowest_none _ end (λ k h. elim (leb_tells from k) [
+    | inl past ↦ skipped_and (nat_le from k) (p k) (none k past.1)
+    | inr under ↦ ap (λ b. b && p k) (lt-leb from k under.1)
+  ])
+
+  module _ (frame : ℕ) (found : IsFrom p from frame) where
+    none_before : (k : ℕ) → k < frame → (nat_le from k && p k) ≡ false
+    none_before k h = elim (leb_tells from k) [
+      | inl past ↦ skipped_and (nat_le from k) (p k) (found.between k past.1 h)
+      | inr under ↦ ap (λ b. b && p k) (lt-leb from k under.1)
+    ]
+
+    pub movable_past : end ≤ frame → lowest (λ k. nat_le from k && p k) end ≡ None
+    movable_past past = lowest_none _ end (λ k h. none_before k (omega (arith, h, past)))
+
+    pub movable_here : frame < end → lowest (λ k. nat_le from k && p k) end ≡ Some frame
+    movable_here high = lowest_is _ end frame high (λ i. le-leb from frame found.least i && found.passes i) none_before
 
 module _ (marked : List Bool) (p : ℕ → Bool) where
   same_mark : (frame k : ℕ) → frame / 512 ≡ k / 512 → is_marked marked frame ≡ true → is_marked marked k ≡ true
@@ -50,38 +75,38 @@ module _ (marked : List Bool) (p : ℕ → Bool) where
         | inr under ↦ passed k under.1
       ]
 
-  -- the free scanner, which stopped nowhere from an end on
-  module _ (source free end : ℕ) (above : (k : ℕ) → end ≤ k → k < free → (nat_lt source k && (not (is_marked marked k) && p k)) ≡ false) where
-    pub target_none : NoneBelow p end → highest (λ k. nat_lt source k && (not (is_marked marked k) && p k)) free ≡ None
-    target_none none = highest_none _ free (λ k h. elim (leb_tells end k) [
-      | inl past ↦ above k past.1 h
-      | inr under ↦ no_member (nat_lt source k) (is_marked marked k) (p k) (none k under.1)
+  -- the free scanner, which stopped nowhere from a frame on
+  module _ (low end above : ℕ) (stops : (k : ℕ) → above ≤ k → k < end → (nat_le low k && (not (is_marked marked k) && p k)) ≡ false) where
+    pub target_none : NoneBelow p above → highest (λ k. nat_le low k && (not (is_marked marked k) && p k)) end ≡ None
+    target_none none = highest_none _ end (λ k h. elim (leb_tells above k) [
+      | inl past ↦ stops k past.1 h
+      | inr under ↦ no_member (nat_le low k) (is_marked marked k) (p k) (none k under.1)
     ])
 
-    pub target_met : end ≤ source + 1 → highest (λ k. nat_lt source k && (not (is_marked marked k) && p k)) free ≡ None
-    target_met met = highest_none _ free (λ k h. elim (leb_tells end k) [
-      | inl past ↦ above k past.1 h
-      | inr under ↦ ap (λ b. b && (not (is_marked marked k) && p k)) (le-ltb source k (omega (arith, under.1, met)))
+    pub target_met : above ≤ low → highest (λ k. nat_le low k && (not (is_marked marked k) && p k)) end ≡ None
+    target_met met = highest_none _ end (λ k h. elim (leb_tells above k) [
+      | inl past ↦ stops k past.1 h
+      | inr under ↦ ap (λ b. b && (not (is_marked marked k) && p k)) (lt-leb low k (omega (arith, under.1, met)))
     ])
 
-    module _ (frame : ℕ) (found : IsPrevious p end frame) where
-      passed_down : (k : ℕ) → frame < k → k < free → (nat_lt source k && (not (is_marked marked k) && p k)) ≡ false
-      passed_down k over h = elim (leb_tells end k) [
-        | inl past ↦ above k past.1 h
-        | inr under ↦ no_member (nat_lt source k) (is_marked marked k) (p k) (found.between k over under.1)
+    module _ (frame : ℕ) (found : IsPrevious p above frame) where
+      passed_down : (k : ℕ) → frame < k → k < end → (nat_le low k && (not (is_marked marked k) && p k)) ≡ false
+      passed_down k over h = elim (leb_tells above k) [
+        | inl past ↦ stops k past.1 h
+        | inr under ↦ no_member (nat_le low k) (is_marked marked k) (p k) (found.between k over under.1)
       ]
 
-      pub target_past : frame ≤ source → highest (λ k. nat_lt source k && (not (is_marked marked k) && p k)) free ≡ None
-      target_past past = highest_none _ free (λ k h. elim (leb_tells k source) [
-        | inl low ↦ ap (λ b. b && (not (is_marked marked k) && p k)) (le-ltb source k low.1)
-        | inr over ↦ passed_down k (omega (arith, over.1, past)) h
+      pub target_past : frame < low → highest (λ k. nat_le low k && (not (is_marked marked k) && p k)) end ≡ None
+      target_past past = highest_none _ end (λ k h. elim (leb_tells low k) [
+        | inl from ↦ passed_down k (omega (arith, from.1, past)) h
+        | inr under ↦ ap (λ b. b && (not (is_marked marked k) && p k)) (lt-leb low k under.1)
       ])
 
-      pub target_here : source < frame → end ≤ free → is_marked marked frame ≡ false → highest (λ k. nat_lt source k && (not (is_marked marked k) && p k)) free ≡ Some frame
-      target_here low most unmarked = highest_is _ free frame (omega (arith, found.below, most)) (λ i. lt-ltb source frame low i && (not (unmarked i) && found.passes i)) passed_down
+      pub target_here : low ≤ frame → above ≤ end → is_marked marked frame ≡ false → highest (λ k. nat_le low k && (not (is_marked marked k) && p k)) end ≡ Some frame
+      target_here from most unmarked = highest_is _ end frame (omega (arith, found.below, most)) (λ i. le-leb low frame from i && (not (unmarked i) && found.passes i)) passed_down
 
-      pub target_marked : is_marked marked frame ≡ true → (k : ℕ) → frame / 512 * 512 ≤ k → k < free → (nat_lt source k && (not (is_marked marked k) && p k)) ≡ false
-      target_marked is k low h = elim (leb_tells k frame) [
-        | inl under ↦ no_unmarked (nat_lt source k) (is_marked marked k) (p k) (same_mark frame k (omega (arith, under.1, low)) is)
+      pub target_marked : is_marked marked frame ≡ true → (k : ℕ) → frame / 512 * 512 ≤ k → k < end → (nat_le low k && (not (is_marked marked k) && p k)) ≡ false
+      target_marked is k from h = elim (leb_tells k frame) [
+        | inl under ↦ no_unmarked (nat_le low k) (is_marked marked k) (p k) (same_mark frame k (omega (arith, under.1, from)) is)
         | inr over ↦ passed_down k over.1 h
       ]

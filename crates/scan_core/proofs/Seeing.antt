@@ -72,6 +72,14 @@ run_none first n = same_by (in_run first zero n) false (λ e. let is = in_run_is
 pub run_next : (first count n : ℕ) → in_run first (suc count) n ≡ (nat_eq n (first + count) || in_run first count n)
 run_next first count n = grind (arith, nat_tests)
 
+-- a run of one frame
+pub run_of_one : (first n : ℕ) → in_run first 1 n ≡ nat_eq n first
+run_of_one first n = grind (arith, nat_tests)
+
+pub with_run_of_one : (states : List (FrameState ℕ)) (frame : ℕ) (state : FrameState ℕ) → with_run states frame 1 state ≡ slice_set states frame state
+unfolding with_run
+with_run_of_one states frame state = let at : frame + 0 ≡ frame = omega arith in ap (λ k. slice_set states k state) at
+
 pub length_with_run : (states : List (FrameState ℕ)) (first count : ℕ) (state : FrameState ℕ) → length (with_run states first count state) ≡ length states
 unfolding with_run
 length_with_run states first zero state = refl

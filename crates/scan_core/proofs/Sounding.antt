@@ -2,15 +2,16 @@
 use Rattle.std.proofs.Common.{◌≡◌, ℕ, ◌+◌, ◌-◌, ◌*◌, ◌/◌, ◌^◌, ◌<◌, Bool, true, not, List, length, inl, inr, sym, ap, ◌∙◌, slice_index, arith}
 use Rattle.std.specs.Prelude.{Option, Some, None, IfSome, nat_le, nat_lt, ◌&&◌}
 use Rattle.std.specs.FinSet as set
+use Rattle.std.specs.Ordering.{nat_cmp}
 use Rattle.std.proofs.lemmas.Bool.{le-leb}
-use Rattle.std.proofs.lemmas.Bool.Decides.{leb_tells}
+use Rattle.std.proofs.lemmas.Bool.Decides.{leb_tells, nat_tests}
 use Rattle.std.proofs.lemmas.Nat.{pow_pos}
-use Rattle.frame_core.specs.Below.{count_below, highest, lowest, some_below}
+use Rattle.frame_core.specs.Below.{count_below, count_from, highest, lowest, some_below}
 use Rattle.frame_core.specs.Order.{is_aligned}
 use Rattle.frame_core.specs.declared.state.FrameState.{FrameState}
 use Rattle.frame_core.proofs.Searches.{lowest_same}
 use Rattle.scan_core.specs.FrameSet.{all_of_block, is_run_of}
-use Rattle.scan_core.specs.Frames.{Frames, blocks_of, free_at, free_frames, is_whole, stuck_at, true_at}
+use Rattle.scan_core.specs.Frames.{Frames, blocks_of, free_at, free_frames, is_whole, source_at, stuck_at, true_at}
 use Rattle.scan_core.specs.NumberSet.{all_from}
 use Rattle.scan_core.specs.Pairs.{is_marked, is_stuck, is_target, next_source, next_target}
 use Rattle.scan_core.specs.Runs.{first_run, is_run}
@@ -23,6 +24,12 @@ use Rattle.scan_core.proofs.FrameSets.{all_pass, unmarked_by_counts}
 use Rattle.scan_core.proofs.Masking.{clash}
 use Rattle.scan_core.proofs.Seeing.{length_seen}
 use Rattle.scan_core.proofs.Spanning.{is_in_run}
+
+from_next : (source frame : ℕ) → nat_le (source + 1) frame ≡ nat_lt source frame
+from_next source frame = grind (arith, nat_tests)
+
+from_first : (frame : ℕ) → nat_le 0 frame ≡ true
+from_first frame = le-leb 0 frame (omega arith)
 
 and_within : (a b c : Bool) → (c ≡ true → b ≡ true) → (a && c) ≡ ((a && b) && c)
 and_within a b c gives = grind (arith, gives)
@@ -75,6 +82,9 @@ module _ (z : Inside) (sound : IsSound z) where
   pub lowest_counted : lowest (set.contains z.free.members) z.free.bound ≡ lowest (free_at (seen z.held.members z.kept.items)) (length (seen z.held.members z.kept.items))
   lowest_counted = λ i. lowest (free_is i) (bound_is i)
 
+  pub highest_counted : highest (set.contains z.free.members) z.free.bound ≡ highest (free_at (seen z.held.members z.kept.items)) (length (seen z.held.members z.kept.items))
+  highest_counted = λ i. highest (free_is i) (bound_is i)
+
   pub whole_by_set : count_below (all_of_block (set.contains z.free.members)) (z.free.bound / 512) ≡ count_below (is_whole (seen z.held.members z.kept.items)) (blocks_of (seen z.held.members z.kept.items))
   whole_by_set = λ i. count_below (all_of_block (free_is i)) (bound_is i / 512)
 
@@ -94,5 +104,19 @@ module _ (z : Inside) (sound : IsSound z) where
   pub source_found_in : (marked : List Bool) (fingers : Fingers) → lowest (λ frame. nat_le fingers.migrate frame && (not (is_marked marked frame) && set.contains z.candidates.sources.members frame)) fingers.free ≡ next_source (seen z.held.members z.kept.items) z.movable.items marked fingers
   source_found_in marked fingers = λ i. lowest (λ frame. nat_le fingers.migrate frame && (not (is_marked marked frame) && sound.sources frame i)) fingers.free
 
-  pub target_found_in : (marked : List Bool) (fingers : Fingers) (source : ℕ) → highest (λ frame. nat_lt source frame && (not (is_marked marked frame) && set.contains z.free.members frame)) fingers.free ≡ next_target (seen z.held.members z.kept.items) marked fingers source
-  target_found_in marked fingers source = λ i. highest (λ frame. nat_lt source frame && (not (is_marked marked frame) && sound.free frame i)) fingers.free
+  module _ (members : set.FinSet nat_cmp) (are : members ≡ z.free.members) (marked : List Bool) where
+    pub target_found_in : (fingers : Fingers) (source low : ℕ) → low ≡ source → highest (λ frame. nat_le (low + 1) frame && (not (is_marked marked frame) && set.contains members frame)) fingers.free ≡ next_target (seen z.held.members z.kept.items) marked fingers source
+    target_found_in fingers source low at =
+        (λ i. highest (λ frame. nat_le (at i + 1) frame && (not (is_marked marked frame) && set.contains (are i) frame)) fingers.free)
+        ∙ (λ i. highest (λ frame. from_next source frame i && (not (is_marked marked frame) && sound.free frame i)) fingers.free)
+
+    pub vacant_found_in : (end : ℕ) → highest (λ frame. nat_le 0 frame && (not (is_marked marked frame) && set.contains members frame)) end ≡ highest (is_target (seen z.held.members z.kept.items) marked) end
+    vacant_found_in end =
+        (λ i. highest (λ frame. from_first frame i && (not (is_marked marked frame) && set.contains (are i) frame)) end)
+        ∙ (λ i. highest (λ frame. not (is_marked marked frame) && sound.free frame i) end)
+
+  pub movable_found_in : (from end : ℕ) → lowest (λ frame. nat_le from frame && set.contains z.candidates.sources.members frame) end ≡ lowest (λ frame. nat_le from frame && source_at (seen z.held.members z.kept.items) z.movable.items frame) end
+  movable_found_in from end = λ i. lowest (λ frame. nat_le from frame && sound.sources frame i) end
+
+  pub movable_counted : (first count : ℕ) → count_from (set.contains z.candidates.sources.members) first count ≡ count_from (source_at (seen z.held.members z.kept.items) z.movable.items) first count
+  movable_counted first count = λ i. count_from (λ n. sound.sources n i) first count

@@ -3,7 +3,7 @@ use Rattle.std.proofs.Common.{◌≡◌, ℕ, ◌+◌, ◌-◌, ◌*◌, ◌/◌
 use Rattle.std.specs.Prelude.{Option, Some, None, unwrap_or, nat_eq, nat_le, nat_lt, slice_get, slice_set, if◌then◌else◌, ◌&&◌, ◌||◌}
 use Rattle.std.specs.FinSet as set
 use Rattle.std.specs.Ordering.{nat_cmp}
-use Rattle.std.proofs.lemmas.Bool.{leb-true, ne_eqb, lt-ltb, le-ltb}
+use Rattle.std.proofs.lemmas.Bool.{eqb-true, leb-true, ne_eqb, lt-ltb, le-ltb}
 use Rattle.std.proofs.lemmas.Bool.Decides.{eqb_tells, leb_tells}
 use Rattle.std.proofs.lemmas.List.{length-replicate}
 use Rattle.std.proofs.lemmas.Option.{slice_get_past, slice_get-get_or}
@@ -25,7 +25,7 @@ use Rattle.scan_core.proofs.Masking.{clash}
 use Rattle.scan_core.proofs.Numbering.{member_insert, member_remove}
 use Rattle.scan_core.proofs.Orders.{one_block, some_frames}
 use Rattle.scan_core.proofs.RunCounts.{Adds, counted_less, counted_some, each_fewer, each_more, length_recounted, recount, room_fewer, room_more}
-use Rattle.scan_core.proofs.Seeing.{length_seen, same_items, seen_get, seen_put, seen_held, seen_released, seen_none_held, seen_state, with_run_get, skipped, taken}
+use Rattle.scan_core.proofs.Seeing.{length_seen, same_items, seen_get, seen_put, seen_held, seen_released, seen_none_held, seen_state, run_of_one, with_run_get, with_run_of_one, skipped, taken}
 use Rattle.scan_core.proofs.Spanning.{both}
 
 free_kept : (h : Bool) (o : Option (FrameState ℕ)) → is_free_state (seen_state h o) ≡ true → o ≡ Some Free
@@ -338,6 +338,9 @@ module _ {now : Frames} (z : Inside) (sound : IsSound z) (view : frames_of z ≡
   pub huge_isnt_free : huge_at now.states frame ≡ true → set.contains z.free.members frame ≡ false
   huge_isnt_free huge = sound.free frame ∙ huge_not_free was (seen_test is_huge_state huge)
 
+  pub huge_is_stuck : huge_at now.states frame ≡ true → stuck_at (seen z.held.members z.kept.items) z.movable.items frame ≡ true
+  huge_is_stuck huge = huge_stuck was flag (seen_test is_huge_state huge)
+
   flag_read : frame < length z.kept.items → slice_get z.movable.items frame ≡ Some flag
   flag_read within =
       let read = slice_get-get_or z.movable.items frame false (frame_flag z sound frame within) in
@@ -417,6 +420,38 @@ module _ {now : Frames} (z : Inside) (sound : IsSound z) (view : frames_of z ≡
         let stays = set_same z.kept.items frame (Holds is.0) within kept_is ∙ ap (λ k. slice_set z.kept.items k (Holds is.0)) (sym at) in
         (put z.kept movable z.free sources stuck (Holds is.0) said (not flag) (page_only was (seen_test is_holding_state page)).0 refl within stays flags
         (λ n. keep_if n frame (set.contains z.free.members) false (page_isnt_free page)) refl sources_put sources_same (page_is_stuck page) recounts).0
+
+  -- a set of numbers after the run of the frame alone came into it or went out of it
+  one_in : (numbers new : Numbers) → new ≡ record numbers { members = set.insert numbers.members frame } → (n : ℕ) → set.contains new.members n ≡ (in_run frame 1 n || set.contains numbers.members n)
+  one_in numbers new inserted n = ap (λ (s : Numbers). set.contains s.members n) inserted ∙ member_insert numbers.members frame n ∙ ap (λ b. b || set.contains numbers.members n) (sym (run_of_one frame n))
+
+  one_out : (numbers new : Numbers) → new ≡ record numbers { members = set.remove numbers.members frame } → (n : ℕ) → set.contains new.members n ≡ (not (in_run frame 1 n) && set.contains numbers.members n)
+  one_out numbers new removed n = ap (λ (s : Numbers). set.contains s.members n) removed ∙ member_remove numbers.members frame n ∙ ap (λ b. not b && set.contains numbers.members n) (sym (run_of_one frame n))
+
+  -- what is known of the frame holds in the run of it alone
+  in_one : (f : Option (FrameState ℕ) → Bool) → f (slice_get now.states frame) ≡ true → (n : ℕ) → in_run frame 1 n ≡ true → f (slice_get (seen z.held.members z.kept.items) n) ≡ true
+  in_one f is n inside = ap (λ k. f (slice_get (seen z.held.members z.kept.items) k)) (eqb-true n frame (sym (run_of_one frame n) ∙ inside)) ∙ seen_test f is
+
+  one_seen_as : (states : List (FrameState ℕ)) (state : FrameState ℕ) → states ≡ with_run (seen z.held.members z.kept.items) frame 1 state → states ≡ slice_set now.states frame state
+  one_seen_as states state is = is ∙ with_run_of_one (seen z.held.members z.kept.items) frame state ∙ ap (λ (frames : Frames). slice_set frames.states frame state) view
+
+  -- the fields are sound after the frame was held or released, and it is seen so
+  abbrev pub IsHeld : Numbers → Numbers → List ℕ → FrameState ℕ → Type 0
+  IsHeld held free stuck state = IsSound (record z { held = held; free = free; candidates = record z.candidates { stuck = stuck } }) × (seen held.members z.kept.items ≡ slice_set now.states frame state)
+
+  -- a free frame is held
+  pub frame_held : (held free : Numbers) (stuck : List ℕ) → free_at now.states frame ≡ true → held ≡ record z.held { members = set.insert z.held.members frame } → free ≡ record z.free { members = set.remove z.free.members frame } → stuck ≡ with_more z.candidates.stuck (frame / 512) 1 → IsHeld held free stuck Huge
+  frame_held held free stuck is_free inserted removed recounts =
+      let within = is_within is_free_state refl is_free in
+      let next = sound_held z sound held free stuck frame 1 (omega (arith, within)) (omega arith) (omega arith) (in_one is_free_state is_free) (one_in z.held held inserted) (ap (λ (s : Numbers). s.bound) inserted) (one_out z.free free removed) (ap (λ (s : Numbers). s.bound) removed) recounts in
+      (next.0, one_seen_as (seen held.members z.kept.items) Huge next.1)
+
+  -- a frame that is held is free again
+  pub frame_released : (held free : Numbers) (stuck : List ℕ) → huge_at now.states frame ≡ true → held ≡ record z.held { members = set.remove z.held.members frame } → free ≡ record z.free { members = set.insert z.free.members frame } → stuck ≡ with_fewer z.candidates.stuck (frame / 512) 1 → IsHeld held free stuck Free
+  frame_released held free stuck is_huge removed inserted recounts =
+      let within = is_within is_huge_state refl is_huge in
+      let next = sound_released z sound held free stuck frame 1 (omega (arith, within)) (omega arith) (omega arith) (in_one is_huge_state is_huge) (one_out z.held held removed) (ap (λ (s : Numbers). s.bound) removed) (one_in z.free free inserted) (ap (λ (s : Numbers). s.bound) inserted) recounts in
+      (next.0, one_seen_as (seen held.members z.kept.items) Free next.1)
 
 -- the frames of a block are handed out or taken back
 module _ {now : Frames} (z : Inside) (sound : IsSound z) (view : frames_of z ≡ now) (first order : ℕ) where

@@ -1,5 +1,5 @@
 -- How many pageblocks have some of their frames counted, how many have all of them, and how many are marked.
-use Rattle.std.proofs.Common.{◌≡◌, ◌≢◌, ℕ, ◌+◌, ◌<◌, ◌≤◌, Bool, true, false, not, List, length, length-set, inl, inr, sym, ap, ◌∙◌, slice_index, get_or-set_same, get_or-set_other, refl, replicate, zero, suc, lt-ltb, le-ltb, eq-eqb, ne_eqb, arith}
+use Rattle.std.proofs.Common.{◌≡◌, ◌≢◌, ℕ, ◌+◌, ◌-◌, ◌<◌, ◌≤◌, ◌⊎◌, Bool, true, false, not, List, length, length-set, inl, inr, sym, ap, ◌∙◌, slice_index, get_or-set_same, get_or-set_other, refl, replicate, zero, suc, lt-ltb, le-ltb, eq-eqb, ne_eqb, subst, arith}
 use Rattle.std.specs.Prelude.{nat_eq, nat_lt, slice_get, slice_set, ◌&&◌, Option, unwrap_or}
 use Rattle.std.proofs.Math.Bool.{and-false}
 use Rattle.std.proofs.lemmas.Bool.{cases_Bool}
@@ -8,6 +8,7 @@ use Rattle.std.proofs.lemmas.Bool.Decides.{eqb_tells, leb_tells}
 use Rattle.std.proofs.lemmas.List.{get_or_past, length-replicate}
 use Rattle.std.proofs.lemmas.Option.{get_or_from_slice_get, unwrap_or-slice_get}
 use Rattle.frame_core.specs.Below.{count_below, one_if, some_below}
+use Rattle.frame_core.specs.FixedVec.{FixedVec, with_item}
 use Rattle.frame_core.proofs.Lists.{slice_get_replicate}
 use Rattle.frame_core.proofs.Searches.{count_all, count_more, count_most, count_none, count_same, count_some, none_some, some_none}
 use Rattle.scan_core.specs.FrameCounts.{is_all_counted, is_some_counted}
@@ -69,11 +70,17 @@ one_here b is = ap one_if is
 pub none_here : (b : Bool) → b ≡ false → one_if b ≡ 0
 none_here b is = ap one_if is
 
-pub some_or_zero : (n : ℕ) → one_if (nat_lt 0 n) + one_if (nat_eq n 0) ≡ 1
-some_or_zero n = elim (leb_tells n 0) [
-  | inl none ↦ omega (arith, one_here (nat_eq n 0) (eq-eqb n 0 (omega (arith, none.1))), none_here (nat_lt 0 n) (le-ltb 0 n none.1))
-  | inr some ↦ omega (arith, none_here (nat_eq n 0) (ne_eqb n 0 (λ e. absurd (omega (arith, e, some.1)))), one_here (nat_lt 0 n) (lt-ltb 0 n some.1))
-]
+pub some_of : (n : ℕ) → 0 < n → one_if (nat_lt 0 n) ≡ 1
+some_of n some = one_here (nat_lt 0 n) (lt-ltb 0 n some)
+
+pub none_of : (n : ℕ) → n ≡ 0 → one_if (nat_lt 0 n) ≡ 0
+none_of n none = none_here (nat_lt 0 n) (le-ltb 0 n (omega (arith, none)))
+
+pub all_of : (n : ℕ) → n ≡ 512 → one_if (nat_eq n 512) ≡ 1
+all_of n all = one_here (nat_eq n 512) (eq-eqb n 512 all)
+
+pub not_all_of : (n : ℕ) → n ≢ 512 → one_if (nat_eq n 512) ≡ 0
+not_all_of n some = none_here (nat_eq n 512) (ne_eqb n 512 some)
 
 pub byte_most : (b : Bool) → bool_byte b ≤ 1
 byte_most true = omega arith
@@ -105,6 +112,36 @@ module _ (c : Inside) (block item : ℕ) (within : block < length c.counts.items
     ];
     few = omega (arith, length-set c.counts.items block item, tallied.few);
   }
+
+  -- the count is written, and the first of the two numbers is right again
+  pub record IsHalfTallied (half : Inside) : Type 0 where
+    pub counts : half.counts ≡ with_item c.counts block item
+    pub some : half.some + one_if (nat_lt 0 (slice_index c.counts.items block)) ≡ c.some + one_if (nat_lt 0 item)
+    pub whole : half.whole ≡ c.whole
+
+  pub tallied_then : (half : Inside) → IsHalfTallied half → (whole : ℕ) → item ≤ 512 → whole + one_if (nat_eq (slice_index c.counts.items block) 512) ≡ half.whole + one_if (nat_eq item 512) → IsTallied (record half { whole = whole })
+  tallied_then half is whole few whole_is =
+      subst (λ (counts : FixedVec ℕ). IsTallied (record { counts = counts; some = half.some; whole = whole })) (sym is.counts)
+      (tallied_now half.some whole few is.some (omega (arith, whole_is, is.whole)))
+
+  -- the first number is one more where none was counted before, and one less where none is counted now
+  abbrev pub written_with : ℕ → Inside
+  written_with some = record { counts = with_item c.counts block item; some = some; whole = c.whole }
+
+  half_with : (half : Inside) (some : ℕ) → half ≡ written_with some → some + one_if (nat_lt 0 (slice_index c.counts.items block)) ≡ c.some + one_if (nat_lt 0 item) → IsHalfTallied half
+  half_with half some is right = record {
+    counts = ap (λ (h : Inside). h.counts) is;
+    some = omega (arith, ap (λ (h : Inside). h.some) is, right);
+    whole = ap (λ (h : Inside). h.whole) is;
+  }
+
+  pub half_more : (half : Inside) → slice_index c.counts.items block < item → ((slice_index c.counts.items block ≡ 0) × (half ≡ written_with (c.some + 1))) ⊎ ((slice_index c.counts.items block ≢ 0) × (half ≡ written_with c.some)) → IsHalfTallied half
+  half_more half more (inl none) = half_with half (c.some + 1) none.1 (omega (arith, none_of (slice_index c.counts.items block) none.0, some_of item (omega (arith, more))))
+  half_more half more (inr some) = half_with half c.some some.1 (omega (arith, some_of (slice_index c.counts.items block) (omega (arith, some.0)), some_of item (omega (arith, more))))
+
+  pub half_fewer : (half : Inside) → item < slice_index c.counts.items block → ((item ≡ 0) × (half ≡ written_with (c.some - 1))) ⊎ ((item ≢ 0) × (half ≡ written_with c.some)) → IsHalfTallied half
+  half_fewer half fewer (inl none) = half_with half (c.some - 1) none.1 (omega (arith, some_now, none_of item none.0, some_of (slice_index c.counts.items block) (omega (arith, fewer))))
+  half_fewer half fewer (inr some) = half_with half c.some some.1 (omega (arith, some_of item (omega (arith, some.0)), some_of (slice_index c.counts.items block) (omega (arith, fewer))))
 
 -- numbers that are found by how many there are
 module _ (p q : ℕ → Bool) where

@@ -86,8 +86,12 @@ impl FrameCounts {
         let before = self.get(block);
         let count = before + frames;
         self.counts[block as usize] = count;
-        self.some += u32::from(before == 0);
-        self.whole += u32::from(count == 512);
+        if before == 0 {
+            self.some += 1;
+        }
+        if count == 512 {
+            self.whole += 1;
+        }
     }
 
     /// Counts fewer frames in a pageblock. At least as many have to be counted.
@@ -101,8 +105,12 @@ impl FrameCounts {
         let before = self.get(block);
         let count = before - frames;
         self.counts[block as usize] = count;
-        self.some -= u32::from(count == 0);
-        self.whole -= u32::from(before == 512);
+        if count == 0 {
+            self.some -= 1;
+        }
+        if before == 512 {
+            self.whole -= 1;
+        }
     }
 
     /// Whether some frame is counted in a pageblock that isn't marked. It looks at the pageblocks only where as many are marked as have a

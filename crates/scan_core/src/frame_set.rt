@@ -2,7 +2,7 @@
 
 ghost use Rattle.std.specs.Prelude.{◌≡◌, ℕ, ◌+◌, ◌*◌, ◌/◌, ◌^◌, ◌<◌, ◌≤◌, ◌&&◌, ◌||◌, not, true, false, length, nat_lt, IfOk, IfSome};
 ghost use Rattle.std.specs.FinSet as set;
-ghost use Rattle.frame_core.specs.Below.{count_below, count_from, lowest};
+ghost use Rattle.frame_core.specs.Below.{count_below, count_from, highest, lowest};
 ghost use Rattle.frame_core.specs.Order.{is_aligned};
 ghost use Rattle.scan_core.specs.FrameSet.{all_of_block, is_run_of};
 ghost use Rattle.scan_core.specs.NumberSet.{in_run};
@@ -162,6 +162,14 @@ impl FrameSet {
         ensures member { IfSome result (λ frame. set.contains self.now.members frame ≡ true) }
     {
         FrameNo::in_any_zone(self.numbers.first()?)
+    }
+
+    /// The highest frame of the set, if it has one.
+    pub(crate) fn highest(&self) -> Option<FrameNo>
+        ensures highest { result ≡ highest (set.contains self.now.members) self.now.bound }
+        ensures member { IfSome result (λ frame. set.contains self.now.members frame ≡ true) }
+    {
+        FrameNo::in_any_zone(self.numbers.last()?)
     }
 
     /// How many pageblocks have all of their frames in the set.

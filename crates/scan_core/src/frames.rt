@@ -1,7 +1,7 @@
-ghost use Rattle.std.specs.Prelude.{◌≡◌, ◌*◌, ◌^◌, ◌<◌, ◌≤◌, is_some, length, slice_get, slice_set, true, Some, IfOk, IfSome};
+ghost use Rattle.std.specs.Prelude.{◌≡◌, ◌*◌, ◌^◌, ◌<◌, ◌≤◌, ◌&&◌, is_some, length, nat_le, slice_get, slice_set, true, Some, IfOk, IfSome};
 ghost use Rattle.frame_core.specs.declared.state.FrameState.TheVariants.{Free, Holds, Huge, Source, Target};
-ghost use Rattle.frame_core.specs.Below.{count_below, count_from, lowest, some_below};
-ghost use Rattle.scan_core.specs.Frames.{all_free, blocks_of, free_at, free_frames, holds_at, huge_at, is_open_at, is_whole, page_held, true_at, way_at};
+ghost use Rattle.frame_core.specs.Below.{count_below, count_from, highest, lowest, some_below};
+ghost use Rattle.scan_core.specs.Frames.{all_free, blocks_of, free_at, free_frames, holds_at, huge_at, is_open_at, is_whole, page_held, source_at, true_at, way_at};
 ghost use Rattle.scan_core.specs.NumberSet.{all_from};
 ghost use Rattle.scan_core.specs.Pairs.{after_step, is_stuck, is_target, next_step, Finds};
 ghost use Rattle.scan_core.specs.Runs.{first_run, has_block, is_run, with_run};
@@ -204,6 +204,31 @@ impl Frames {
         self.free.count_unmarked(marks)
     }
 
+    /// The highest free frame below `end`, in an unmarked pageblock, if there is one. It passes over the rest of a marked pageblock at
+    /// once.
+    pub fn last_vacant(&self, marks: &Marks, end: u32) -> Option<FrameNo>
+        requires marks { length self.now.states ≤ 512 * length marks.now }
+        requires end { end ≤ length self.now.states }
+        ensures { result ≡ highest (is_target self.now.states marks.now) end }
+    {
+        scanners::highest_target(self.free.numbers(), marks, 0, end)
+    }
+
+    /// The lowest frame from `from` on and below `end` with a page that may be taken from it, in whatever pageblock.
+    pub fn next_movable(&self, from: u32, end: u32) -> Option<FrameNo>
+        requires { end ≤ length self.now.states }
+        ensures { result ≡ lowest (λ frame. nat_le from frame && source_at self.now.states self.now.movable frame) end }
+    {
+        if from >= end {
+            return None;
+        }
+        let frame = self.candidates.sources.at_or_after(from)?;
+        if frame >= end {
+            return None;
+        }
+        FrameNo::in_any_zone(frame)
+    }
+
     /// The lowest free frame, if there is one.
     pub fn lowest_free(&self) -> Option<FrameNo>
         ensures lowest { result ≡ lowest (free_at self.now.states) (length self.now.states) }
@@ -211,6 +236,15 @@ impl Frames {
         ensures within { IfSome result (λ frame. frame < length self.now.states) }
     {
         self.free.lowest()
+    }
+
+    /// The highest free frame, if there is one.
+    pub fn highest_free(&self) -> Option<FrameNo>
+        ensures highest { result ≡ highest (free_at self.now.states) (length self.now.states) }
+        ensures free { IfSome result (λ frame. free_at self.now.states frame ≡ true) }
+        ensures within { IfSome result (λ frame. frame < length self.now.states) }
+    {
+        self.free.highest()
     }
 
     /// How many pageblocks have only free frames.
@@ -252,6 +286,15 @@ impl Frames {
         self.free.first_run(order)
     }
 
+    /// How many pages of a block may be taken from their frames.
+    #[inline(always)]
+    pub fn movable_in_run(&self, first: FrameNo, order: Order) -> u32
+        requires { has_block self.now.states order first ≡ true }
+        ensures { result ≡ count_from (source_at self.now.states self.now.movable) first (2 ^ order) }
+    {
+        self.candidates.sources.count_run(first.get(), order.get())
+    }
+
     /// How many pages rest in a block, where each frame of it is free or has a page that may be taken from it. For each 64 frames it
     /// looks at a word of two sets.
     pub fn pages_of_run(&self, first: FrameNo, order: Order) -> Option<u32>
@@ -261,7 +304,7 @@ impl Frames {
         ensures order { order ≤ 9 }
     {
         let free = self.free.count_run(first, order);
-        let pages = self.candidates.sources.count_run(first.get(), order.get());
+        let pages = self.movable_in_run(first, order);
         if free + pages != order.frames() {
             return None;
         }
@@ -293,6 +336,28 @@ impl Frames {
         self.free.insert_run(first, order);
     }
 
+    /// Holds a single free frame, as a frame of a block that is handed out is held.
+    pub fn hold_frame(&mut self, frame: FrameNo)
+        requires { free_at self.old.states frame ≡ true }
+        ensures state { self.new ≡ record self.old { states = slice_set self.old.states frame Huge } }
+        ensures frames { length self.new.states ≡ length self.old.states }
+    {
+        self.free.remove(frame);
+        self.candidates.stuck.more(frame.get() / 512, 1);
+        self.held.insert(frame.get());
+    }
+
+    /// Takes back a single frame that is handed out.
+    pub fn release_frame(&mut self, frame: FrameNo)
+        requires { huge_at self.old.states frame ≡ true }
+        ensures state { self.new ≡ record self.old { states = slice_set self.old.states frame Free } }
+        ensures frames { length self.new.states ≡ length self.old.states }
+    {
+        self.held.remove(frame.get());
+        self.candidates.stuck.fewer(frame.get() / 512, 1);
+        self.free.insert(frame);
+    }
+
     /// The next pair between the fingers. After it the fingers stand one above its source and at its target; where there
     /// is no pair they stay. They have to be in order, and in the zone;
     /// there is a mark for each pageblock.
@@ -313,7 +378,8 @@ impl Frames {
             return Step::Met;
         };
         let free = self.free.numbers();
-        let Some(target) = scanners::next_target(free, marks, *fingers, source) else {
+        let low = source.get() + 1;
+        let Some(target) = scanners::highest_target(free, marks, low, fingers.free) else {
             return Step::Met;
         };
         fingers.pass(source, target)

@@ -1,6 +1,6 @@
 //! The two scanners of a round, each on the set of the frames that it looks for.
 
-ghost use Rattle.std.specs.Prelude.{◌≡◌, ◌*◌, ◌<◌, ◌≤◌, ◌&&◌, ℕ, not, length, nat_le, nat_lt, MatchOption};
+ghost use Rattle.std.specs.Prelude.{◌≡◌, ◌*◌, ◌<◌, ◌≤◌, ◌&&◌, ℕ, not, length, nat_le, MatchOption};
 ghost use Rattle.std.specs.FinSet as set;
 ghost use Rattle.frame_core.specs.Below.{highest, lowest};
 ghost use Rattle.number_set.specs.Finds.{IsPrevious, NoneBelow};
@@ -32,29 +32,25 @@ pub(crate) fn next_source(sources: &NumberSet, marks: &Marks, fingers: Fingers) 
     None
 }
 
-/// The highest free frame above a source and below the free finger, in an unmarked pageblock. It passes over the rest of a marked
-/// pageblock at once.
-pub(crate) fn next_target(
-    free: &NumberSet,
-    marks: &Marks,
-    fingers: Fingers,
-    source: FrameNo,
-) -> Option<FrameNo>
-    requires few { fingers.free ≤ 16777216 }
-    requires room { fingers.free ≤ free.now.bound }
-    requires marks { fingers.free ≤ 512 * length marks.now }
-    ensures { result ≡ highest (λ frame. nat_lt source frame && (not (is_marked marks.now frame) && set.contains free.now.members frame)) fingers.free }
+/// The highest free frame from `low` on and below `end`, in an unmarked pageblock. It passes over the rest of a marked pageblock at
+/// once.
+#[inline(always)]
+pub(crate) fn highest_target(free: &NumberSet, marks: &Marks, low: u32, end: u32) -> Option<FrameNo>
+    requires few { end ≤ 16777216 }
+    requires room { end ≤ free.now.bound }
+    requires marks { end ≤ 512 * length marks.now }
+    ensures { result ≡ highest (λ frame. nat_le low frame && (not (is_marked marks.now frame) && set.contains free.now.members frame)) end }
 {
-    let mut end = fingers.free;
-    while end > source.get() + 1 {
-        let frame = last_below(free, end)?;
-        if frame <= source.get() {
+    let mut above = end;
+    while above > low {
+        let frame = last_below(free, above)?;
+        if frame < low {
             return None;
         }
         if !marks.is_marked(frame / 512) {
             return FrameNo::in_any_zone(frame);
         }
-        end = frame / 512 * 512;
+        above = frame / 512 * 512;
     }
     None
 }
