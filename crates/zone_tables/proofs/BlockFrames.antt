@@ -91,12 +91,8 @@ module _ {W : ℕ} (z : Inside W) (v : ZoneState) (sound : IsSound z v) (view : 
   pub take_within : first + 2 ^ order ≤ length z.handed_out
   take_within = omega (arith, blocks.run_within v first order run, sound.orders)
 
-  -- whether a frame is held is the same in the list of blocks and in the zone
-  held_same : (frame : ℕ) → held_at z.handed_out frame ≡ is_held v frame
-  held_same frame = λ i. some_below (λ q. covers (orders_seen z v view i q) q frame) (sound.orders i)
-
-  pub take_clear : (frame : ℕ) → IsTrue (covers (Some order) first frame) → held_at z.handed_out frame ≡ false
-  take_clear frame here = held_same frame ∙ unheld_frame v frame (blocks.block_free v first order run frame here)
+  pub take_none : order_of z.handed_out first ≡ None
+  take_none = (λ i. orders_seen z v view i first) ∙ blocks.not_handed_out v first order run
 
   held_states : FramesFit (with_run z.frames.states first (2 ^ order) Huge) (block_taken v first order)
   held_states = record {
@@ -129,7 +125,7 @@ module _ {W : ℕ} (z : Inside W) (v : ZoneState) (sound : IsSound z v) (view : 
     frames = held_states;
     tables = sound.tables;
     size = sound.size;
-    marks = sound.marks;
+    marks = sound.marks; claimed = sound.claimed;
     entries = record { each = sound.entries.each };
     words = record { count = sound.words.count; sized = sound.words.sized; each = sound.words.each };
     notes = record { count = sound.notes.count; each = λ page note e used. (let fit = sound.notes.each page note e used in record { dirty = fit.dirty; pins = fit.pins; maps = fit.maps }) };
@@ -183,11 +179,6 @@ module _ {W : ℕ} (z : Inside W) (v : ZoneState) (sound : IsSound z v) (view : 
     | inr other ↦ order_there z.handed_out first None give_first q other.1 ∙ (λ i. orders_seen z v view i q) ∙ sym (get_remove_other v.handed_out first q other.1)
   ]
 
-  pub give_alone : (frame : ℕ) → IsTrue (covers (Some order) first frame) → held_at (slice_set z.handed_out first None) frame ≡ false
-  give_alone frame here =
-      (λ i. some_below (λ q. covers (orders_then q i) q frame) ((length-set z.handed_out first None ∙ sound.orders) i))
-      ∙ blocks.unheld_given v sound.valid first order at frame here
-
   freed_states : FramesFit (with_run z.frames.states first (2 ^ order) Free) (block_given v first order)
   freed_states = record {
     count = length_with_run z.frames.states first (2 ^ order) Free ∙ sound.frames.count;
@@ -219,7 +210,7 @@ module _ {W : ℕ} (z : Inside W) (v : ZoneState) (sound : IsSound z v) (view : 
     frames = freed_states;
     tables = sound.tables;
     size = sound.size;
-    marks = sound.marks;
+    marks = sound.marks; claimed = sound.claimed;
     entries = record { each = sound.entries.each };
     words = record { count = sound.words.count; sized = sound.words.sized; each = sound.words.each };
     notes = record { count = sound.notes.count; each = λ page note e used. (let fit = sound.notes.each page note e used in record { dirty = fit.dirty; pins = fit.pins; maps = fit.maps }) };

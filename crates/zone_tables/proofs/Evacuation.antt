@@ -166,6 +166,7 @@ module _ {W : ℕ} {z changed : Inside W} {v : ZoneState} {m : Move} {note : Pag
     blocks = refl;
     size = refl;
     handed_out = refl;
+    claimed = refl;
   }
 
   leaves : LeavesOthers v after m.page
@@ -251,6 +252,7 @@ module _ {W : ℕ} {z changed : Inside W} {v : ZoneState} {m : Move} {note : Pag
         tables = known.frames_same ∙ sound.tables;
         size = known.size_same ∙ sound.size;
         marks = ap (λ (y : Inside W). length y.marks) known.rest_same ∙ sound.marks;
+        claimed = subst (λ (y : Inside W). frame_count v ≤ y.claimed.bound) (sym known.rest_same) sound.claimed;
         frames = frames_fit v after m.page old new gets z.frames.states changed.frames.states sound.frames frames_placed;
         movable = movable_fit v after m.page old new gets z.frames.movable changed.frames.movable (can_move v m.page) sound.movable movable_placed refl (λ q ne. refl);
         entries = entries_fit;
@@ -294,6 +296,8 @@ module _ {W : ℕ} {z changed : Inside W} {v : ZoneState} {m : Move} {note : Pag
         room = (known.history i).room;
         unmovable = unmovable_new i;
         marked = gathered (true_at (known.rest_same i).marks) (length (known.rest_same i).marks);
+        apart = (known.rest_same i).apart;
+        claimed = (known.rest_same i).claimed.members;
         handed_out = tabulated (order_of (known.rest_same i).handed_out) (length (known.rest_same i).handed_out);
         contents = contents_same i;
         placement = placement_new i;

@@ -43,6 +43,7 @@ module _ {W : ℕ} (z : Inside W) (v : ZoneState) (sound : IsSound z v) (view : 
     orders = sound.orders;
     cleared = sound.cleared;
     marks = length-set z.marks block true ∙ sound.marks;
+    claimed = sound.claimed;
     tables = sound.tables;
     size = sound.size;
     frames = record { count = sound.frames.count; of_page = sound.frames.of_page; of_block = sound.frames.of_block; of_none = sound.frames.of_none };
@@ -59,6 +60,7 @@ module _ {W : ℕ} (z : Inside W) (v : ZoneState) (sound : IsSound z v) (view : 
     orders = sound.orders;
     cleared = sound.cleared;
     marks = length-set z.marks block false ∙ sound.marks;
+    claimed = sound.claimed;
     tables = sound.tables;
     size = sound.size;
     frames = record { count = sound.frames.count; of_page = sound.frames.of_page; of_block = sound.frames.of_block; of_none = sound.frames.of_none };

@@ -51,8 +51,8 @@ abbrev pub after_noting : {W : ℕ} → Inside W → ℕ → PageNote → Frames
 after_noting z page changed frames tables history = record z { frames = frames; tables = tables; notes = slice_set z.notes page changed; history = history }
 
 -- the page stays where it is, as a change of place from a placement to the same one
-pub stays : (v w : ZoneState) (page : ℕ) → IsValidZone v → IsValidZone w → w.placement ≡ v.placement → w.blocks ≡ v.blocks → w.page_size ≡ v.page_size → w.handed_out ≡ v.handed_out → GetsPlace v w page (map.get v.placement page) (map.get v.placement page)
-stays v w page before after placement blocks size handed_out = record {
+pub stays : (v w : ZoneState) (page : ℕ) → IsValidZone v → IsValidZone w → w.placement ≡ v.placement → w.blocks ≡ v.blocks → w.page_size ≡ v.page_size → w.handed_out ≡ v.handed_out → w.claimed ≡ v.claimed → GetsPlace v w page (map.get v.placement page) (map.get v.placement page)
+stays v w page before after placement blocks size handed_out claimed = record {
   before = before;
   after = after;
   at = refl;
@@ -61,6 +61,7 @@ stays v w page before after placement blocks size handed_out = record {
   blocks = blocks;
   size = size;
   handed_out = handed_out;
+  claimed = claimed;
 }
 
 module _ {W : ℕ} {z : Inside W} {v : ZoneState} {page : ℕ} {entry : Record} {note changed : PageNote} {frames : Frames} {tables : Tables} {history : History} (known : Noting z v page entry note changed frames tables history) where
@@ -79,13 +80,13 @@ module _ {W : ℕ} {z : Inside W} {v : ZoneState} {page : ℕ} {entry : Record} 
         cleared = sound.cleared;
         tables = known.frames_same ∙ sound.tables;
         size = known.size_same ∙ sound.size;
-        marks = sound.marks;
+        marks = sound.marks; claimed = sound.claimed;
         frames = subst (λ (states : List (FrameState ℕ)). FramesFit states (noted v entry)) (sym known.states)
             (record { count = sound.frames.count; of_page = sound.frames.of_page; of_block = sound.frames.of_block; of_none = sound.frames.of_none });
         movable = known.movable;
         entries = known.entries;
         words = record { count = sound.words.count; sized = sound.words.sized; each = λ q placement w at small. sound.words.each q placement w at small ∙ ap Some (sym (known.only.last q w)) };
-        notes = notes_fit v (noted v entry) page _ _ (stays v (noted v entry) page sound.valid known.valid refl refl refl refl) z.notes changed within sound.notes (λ used. known.fits) leaves;
+        notes = notes_fit v (noted v entry) page _ _ (stays v (noted v entry) page sound.valid known.valid refl refl refl refl refl) z.notes changed within sound.notes (λ used. known.fits) leaves;
         moves = known.moves;
       }
 

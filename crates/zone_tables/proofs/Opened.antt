@@ -47,6 +47,9 @@ pub record IsFresh {W : ℕ} (z : Inside W) (number : ℕ) (size : ZoneSize) (pl
   pub handed_out : z.handed_out ≡ replicate (512 * size.blocks) None
   pub cleared : z.cleared ≡ replicate (512 * size.blocks) false
   pub marked : z.marks ≡ replicate size.blocks false
+  pub apart : z.apart ≡ false
+  pub claimed : z.claimed.members ≡ set.empty
+  pub claimed_room : 512 * size.blocks ≤ z.claimed.bound
   pub fingers : z.fingers ≡ record { migrate = 0; free = 0 }
   pub moves : z.moves ≡ record { isolated = 0; moved = 0; back = 0 }
   pub history : z.history ≡ record { records = []; room = places; round = None }
@@ -74,6 +77,8 @@ opened_view {W} z number size places fresh =
       room = (fresh.history i).room;
       unmovable = u i;
       marked = m i;
+      apart = fresh.apart i;
+      claimed = fresh.claimed i;
       handed_out = h i;
       contents = c i;
       placement = p i;
@@ -91,6 +96,7 @@ opened_sound {W} z number size places fresh = record {
   orders = ap length fresh.handed_out ∙ length-replicate (512 * size.blocks) None;
   cleared = ap length fresh.cleared ∙ length-replicate (512 * size.blocks) false;
   marks = ap length fresh.marked ∙ length-replicate size.blocks false;
+  claimed = fresh.claimed_room;
   tables = fresh.tables_frames;
   size = fresh.tables_size;
   frames = record {

@@ -36,7 +36,7 @@ module _ {W : ℕ} (z : Inside W) (v : ZoneState) (sound : IsSound z v) (view : 
       let can : Bool = can_move_by (record note { pins = count }) in
       subst (λ (fs : Frames). MovableFit fs.movable (noted v entry)) (sym frames_are)
       (subst (λ (o : Option Placement). MovableFit (movable_at z.frames.movable o can) (noted v entry)) (sym seen.placement)
-      (movable_said v (noted v entry) page (map.get v.placement page) (stays v (noted v entry) page sound.valid valid refl refl refl refl) z.frames.movable can sound.movable
+      (movable_said v (noted v entry) page (map.get v.placement page) (stays v (noted v entry) page sound.valid valid refl refl refl refl refl) z.frames.movable can sound.movable
       (λ i. nat_eq (is i) 0 && not (seen.unmovable i))
       (λ q ne. ap (λ n. nat_eq n 0 && not (set.contains v.unmovable q)) (others q ne))))
 

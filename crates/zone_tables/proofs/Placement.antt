@@ -34,6 +34,7 @@ pub record GetsPlace (v w : ZoneState) (page : ℕ) (old new : Option Placement)
   pub blocks : w.blocks ≡ v.blocks
   pub size : w.page_size ≡ v.page_size
   pub handed_out : w.handed_out ≡ v.handed_out
+  pub claimed : w.claimed ≡ v.claimed
 
 -- how the states of frames change when a page gets another place
 pub record FramesPlaced (frames changed : List (FrameState ℕ)) (page : ℕ) (old new : Option Placement) : Type 0 where
@@ -81,7 +82,7 @@ module _ (v w : ZoneState) (page : ℕ) (old new : Option Placement) (gets : Get
   frames_same = ap (λ (n : ℕ). 512 * n) gets.blocks
 
   held_same : (g : ℕ) → is_held w g ≡ is_held v g
-  held_same g = λ i. some_below (λ first. covers (map.get (gets.handed_out i) first) first g) (frames_same i)
+  held_same g = λ i. some_below (λ first. covers (map.get (gets.handed_out i) first) first g) (frames_same i) || set.contains (gets.claimed i) g
 
   takes : (o p : Option Placement) (g : ℕ) → o ≡ p → takes_up o g ≡ takes_up p g
   takes o p g e = ap (λ (x : Option Placement). takes_up x g) e

@@ -153,6 +153,7 @@ module _ {W : ℕ} {z changed : Inside W} {v : ZoneState} {page : ℕ} {old new 
     blocks = refl;
     size = refl;
     handed_out = refl;
+    claimed = refl;
   }
 
   leaves : LeavesOthers v after page
@@ -191,6 +192,7 @@ module _ {W : ℕ} {z changed : Inside W} {v : ZoneState} {page : ℕ} {old new 
         tables = known.frames_same ∙ sound.tables;
         size = known.size_same ∙ sound.size;
         marks = ap (λ (y : Inside W). length y.marks) known.rest_same ∙ sound.marks;
+        claimed = subst (λ (y : Inside W). frame_count v ≤ y.claimed.bound) (sym known.rest_same) sound.claimed;
         frames = frames_fit v after page (Some old) (Some new) gets z.frames.states changed.frames.states sound.frames known.frames;
         movable = movable_fit v after page (Some old) (Some new) gets z.frames.movable changed.frames.movable (can_move v page) sound.movable known.movable (sym (can_still page)) (λ q ne. can_still q);
         entries = record { each = entries.each };
@@ -224,6 +226,8 @@ module _ {W : ℕ} {z changed : Inside W} {v : ZoneState} {page : ℕ} {old new 
         room = (known.history i).room;
         unmovable = unmovable_new i;
         marked = gathered (true_at (known.rest_same i).marks) (length (known.rest_same i).marks);
+        apart = (known.rest_same i).apart;
+        claimed = (known.rest_same i).claimed.members;
         handed_out = tabulated (order_of (known.rest_same i).handed_out) (length (known.rest_same i).handed_out);
         contents = known.contents_same i;
         placement = placement_new i;

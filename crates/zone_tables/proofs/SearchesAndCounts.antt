@@ -101,6 +101,3 @@ orders_seen z v view =
 
 pub blocks_seen : {W : ℕ} (z : Inside W) (v : ZoneState) → state_of z ≡ v → length z.handed_out ≡ frame_count v → count_below (λ first. is_some (order_of z.handed_out first)) (length z.handed_out) ≡ count_below (λ first. is_some (get v.handed_out first)) (frame_count v)
 blocks_seen z v view count = λ i. count_below (λ first. is_some (orders_seen z v view i first)) (count i)
-
-pub held_seen : {W : ℕ} (z : Inside W) (v : ZoneState) → state_of z ≡ v → length z.handed_out ≡ frame_count v → count_below (held_at z.handed_out) (length z.handed_out) ≡ count_below (is_held v) (frame_count v)
-held_seen z v view count = λ i. count_below (λ frame. some_below (λ first. covers (orders_seen z v view i first) first frame) (count i)) (count i)

@@ -1,5 +1,5 @@
 -- What contracts see of the fields of a zone, and what is true of them.
-use Rattle.std.specs.Prelude.{◌≡◌, ℕ, length}
+use Rattle.std.specs.Prelude.{◌≡◌, ℕ, ◌≤◌, length}
 use Rattle.zone_tables.specs.declared.zone.ZoneTables.TheInside.{Inside}
 use Rattle.state_core.specs.ZoneState.{ZoneState, frame_count}
 use Rattle.state_core.specs.Valid.{IsValidZone}
@@ -23,6 +23,8 @@ state_of {W} z = record {
   room = z.history.room;
   unmovable = gathered (is_unmovable_of z.notes) (length z.notes);
   marked = gathered (true_at z.marks) (length z.marks);
+  apart = z.apart;
+  claimed = z.claimed.members;
   handed_out = tabulated (order_of z.handed_out) (length z.handed_out);
   contents = tabulated (contents_at W z.words z.cleared z.handed_out) (length z.handed_out);
   placement = tabulated (placement_of z.notes) (length z.notes);
@@ -37,6 +39,7 @@ pub record IsSound {W : ℕ} (z : Inside W) (v : ZoneState) : Type 0 where
   pub orders : length z.handed_out ≡ frame_count v
   pub cleared : length z.cleared ≡ frame_count v
   pub marks : length z.marks ≡ v.blocks
+  pub claimed : frame_count v ≤ z.claimed.bound
   pub frames : FramesFit z.frames.states v
   pub movable : MovableFit z.frames.movable v
   pub tables : z.tables.frames ≡ frame_count v

@@ -1,9 +1,8 @@
 //! The blocks that are handed out.
 
-ghost use Rattle.std.specs.Prelude.{◌≡◌, ℕ, ◌+◌, ◌^◌, ◌≤◌, false, length, replicate, slice_set, is_some, Some, None, IsTrue, IfOk};
+ghost use Rattle.std.specs.Prelude.{◌≡◌, ◌<◌, ◌≤◌, true, length, replicate, slice_set, is_some, Some, None, IfOk};
 ghost use Rattle.frame_core.specs.Below.{count_below};
-ghost use Rattle.zone_tables.specs.HandedOut.{order_of, held_at};
-ghost use Rattle.state_core.specs.ZoneState.{covers};
+ghost use Rattle.zone_tables.specs.HandedOut.{order_of};
 
 use crate::kept_order::KeptOrder;
 use frame_core::{FixedVec, FrameNo, Order};
@@ -15,7 +14,6 @@ use std::marker::Model;
 pub struct HandedOut {
     orders: FixedVec<KeptOrder>,
     blocks: u32,
-    frames: u32,
 }
 
 impl Model for HandedOut {
@@ -38,11 +36,7 @@ impl HandedOut {
         ensures { IfOk result (λ orders. orders ≡ replicate frames None) }
     {
         let orders = FixedVec::filled(alloc, KeptOrder::of(None), frames as usize)?;
-        Ok(HandedOut {
-            orders,
-            blocks: 0,
-            frames: 0,
-        })
+        Ok(HandedOut { orders, blocks: 0 })
     }
 
     /// How many blocks are handed out.
@@ -50,13 +44,6 @@ impl HandedOut {
         ensures { result ≡ count_below (λ first. is_some (order_of self.now first)) (length self.now) }
     {
         self.blocks
-    }
-
-    /// How many frames the blocks have that are handed out.
-    pub fn frames(&self) -> u32
-        ensures { result ≡ count_below (held_at self.now) (length self.now) }
-    {
-        self.frames
     }
 
     /// The order of the block that is handed out from this first frame on, if there is one.
@@ -68,26 +55,22 @@ impl HandedOut {
 
     /// Notes that a block is handed out.
     pub fn take(&mut self, first: FrameNo, order: Order)
-        requires within { first + 2 ^ order ≤ length self.old }
-        requires clear { (frame : ℕ) → IsTrue (covers (Some order) first frame) → held_at self.old frame ≡ false }
+        requires within { first < length self.old }
+        requires none { order_of self.old first ≡ None }
         ensures set { self.new ≡ slice_set self.old first (Some order) }
         ensures low { 3 ≤ order }
         ensures high { order ≤ 9 }
     {
         self.orders[first.get() as usize] = KeptOrder::of(Some(order));
         self.blocks += 1;
-        self.frames += order.frames();
     }
 
     /// Notes that a block was taken back.
-    pub fn give(&mut self, first: FrameNo, order: Order)
-        requires here { order_of self.old first ≡ Some order }
-        requires within { first + 2 ^ order ≤ length self.old }
-        requires alone { (frame : ℕ) → IsTrue (covers (Some order) first frame) → held_at (slice_set self.old first None) frame ≡ false }
+    pub fn give(&mut self, first: FrameNo)
+        requires { is_some (order_of self.old first) ≡ true }
         ensures { self.new ≡ slice_set self.old first None }
     {
         self.orders[first.get() as usize] = KeptOrder::of(None);
         self.blocks -= 1;
-        self.frames -= order.frames();
     }
 }

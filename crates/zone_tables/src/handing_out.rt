@@ -63,7 +63,7 @@ impl<const W: usize> ZoneTables<W> {
         ensures valid { IsValidZone self.new }
     {
         self.frames.release(first, order);
-        self.handed_out.give(first, order);
+        self.handed_out.give(first);
         self.history.note(Record::GiveHuge {
             frame: first,
             order,

@@ -19,13 +19,16 @@ impl<const W: usize> ZoneTables<W> {
         ensures counts { result ≡ info_of self.now }
         ensures sum { result.free + result.pages + result.moving + result.held ≡ frame_count self.now }
     {
+        let free = self.frames.free();
+        let pages = self.notes.in_use();
+        let moving = self.moves.out() as u32;
         Info {
-            free: self.frames.free(),
-            pages: self.notes.in_use(),
-            moving: self.moves.out() as u32,
+            free,
+            pages,
+            moving,
             huge: self.handed_out.blocks(),
             whole: self.frames.whole_blocks(),
-            held: self.handed_out.frames(),
+            held: self.frames.len() - free - pages - moving,
         }
     }
 

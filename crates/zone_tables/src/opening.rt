@@ -1,4 +1,5 @@
 ghost use Rattle.std.specs.Prelude.{◌≡◌, ◌<◌, ◌≤◌, ◌*◌, [], None, false, replicate, IfOk, IfErr, IfSome};
+ghost use Rattle.std.specs.FinSet as set;
 ghost use Rattle.frame_core.specs.Journal.{unrecorded_places};
 ghost use Rattle.frame_core.specs.Page.{blank_words};
 ghost use Rattle.scan_core.specs.Frames.{all_free};
@@ -14,6 +15,7 @@ use crate::moves::Moves;
 use crate::notes::Notes;
 use crate::zone::ZoneTables;
 use frame_core::{WordsOf, ZoneNo};
+use number_set::NumberSet;
 use scan_core::{Fingers, Frames, Marks};
 use state_core::{ZoneError, ZoneSize};
 use std::alloc::{AllocError, Global};
@@ -57,7 +59,7 @@ impl<const W: usize> ZoneTables<W> {
         ensures ok { IfOk result (λ zone. zone ≡ opened_sized W number size history.room) }
         ensures valid { IfOk result (λ zone. IsValidZone zone) }
     {
-        let (handed_out, cleared, marks) = open_blocks(alloc, size.blocks)?;
+        let (handed_out, cleared, marks, claimed) = open_blocks(alloc, size.blocks)?;
         let notes = Notes::open(alloc, 512 * size.blocks)?;
         let (frames, tables, words) = open_memory(alloc, size)?;
         Ok(ZoneTables {
@@ -71,6 +73,8 @@ impl<const W: usize> ZoneTables<W> {
             handed_out,
             cleared,
             marks,
+            apart: false,
+            claimed,
             fingers: Fingers::new(),
             history,
         })
@@ -95,16 +99,22 @@ fn open_memory<const W: usize>(
     Ok((frames, tables, words))
 }
 
-/// Which blocks are handed out, whether each of them is clear of words of pages, and which pageblocks are marked.
-fn open_blocks(alloc: Global, blocks: u32) -> Result<(HandedOut, Cleared, Marks), AllocError>
+/// Which blocks are handed out, whether each of them is clear of words of pages, which pageblocks are marked, and which frames are claimed.
+fn open_blocks(
+    alloc: Global,
+    blocks: u32,
+) -> Result<(HandedOut, Cleared, Marks, NumberSet), AllocError>
     requires { blocks ≤ 32768 }
     ensures handed_out { IfOk result (λ held. held.0 ≡ replicate (512 * blocks) None) }
     ensures cleared { IfOk result (λ held. held.1 ≡ replicate (512 * blocks) false) }
     ensures marks { IfOk result (λ held. held.2 ≡ replicate blocks false) }
+    ensures claimed { IfOk result (λ held. held.3.members ≡ set.empty) }
+    ensures room { IfOk result (λ held. 512 * blocks ≤ held.3.bound) }
 {
     let frames = 512 * blocks;
     let handed_out = HandedOut::open(alloc, frames)?;
     let cleared = Cleared::open(alloc, frames)?;
     let marks = Marks::none(alloc, blocks)?;
-    Ok((handed_out, cleared, marks))
+    let claimed = NumberSet::open(alloc, frames)?;
+    Ok((handed_out, cleared, marks, claimed))
 }

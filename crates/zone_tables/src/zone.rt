@@ -6,6 +6,7 @@ use crate::history::History;
 use crate::moves::Moves;
 use crate::notes::Notes;
 use frame_core::{WordsOf, ZoneNo};
+use number_set::NumberSet;
 use scan_core::{Fingers, Frames, Marks};
 use state_core::ZoneSize;
 use std::marker::Model;
@@ -24,6 +25,8 @@ pub struct ZoneTables<const W: usize> {
     pub(crate) handed_out: HandedOut,
     pub(crate) cleared: Cleared,
     pub(crate) marks: Marks,
+    pub(crate) apart: bool,
+    pub(crate) claimed: NumberSet,
     pub(crate) fingers: Fingers,
     pub(crate) history: History,
 }

@@ -1,9 +1,8 @@
 use Rattle.std.proofs.Common.{◌≡◌, ℕ, List, length, replicate, ◌∙◌, ap, sym, arith}
 use Rattle.std.specs.Prelude.{Option, None, is_some}
 use Rattle.std.proofs.lemmas.List.{length-replicate}
-use Rattle.frame_core.proofs.Searches.{count_none, none_some}
-use Rattle.state_core.specs.ZoneState.{covers}
-use Rattle.zone_tables.specs.HandedOut.{order_of, held_at}
+use Rattle.frame_core.proofs.Searches.{count_none}
+use Rattle.zone_tables.specs.HandedOut.{order_of}
 use Rattle.zone_tables.proofs.Copies.{no_order}
 use Rattle.zone_tables.proofs.handed_out.HandedOut.open.Goals as goal
 
@@ -16,5 +15,4 @@ invariant_of-result c =
     record {
       few = omega (arith, count, c.requires);
       blocks = sym (count_none (λ first. is_some (order_of orders first)) (length orders) (λ first h. ap is_some (none first)));
-      frames = sym (count_none (held_at orders) (length orders) (λ frame h. none_some (λ first. covers (order_of orders first) first frame) (length orders) (λ first below. ap (λ (o : Option ℕ). covers o first frame) (none first))));
     }

@@ -11,9 +11,9 @@ pub hold-requires : goal.hold-requires
 hold-requires g c =
     blocks.run_seen c.self.inside.frames.states c.args.self.now (is_sound c.self.view_is c.self.invariant).frames c.args.order c.args.first ∙ c.requires.run
 
-pub take-requires-clause-clear : goal.take-requires-clause-clear
-take-requires-clause-clear g c =
-    blocks.take_clear c.self.inside c.args.self.now (is_sound c.self.view_is c.self.invariant) c.self.view_is c.args.first c.args.order c.requires.run
+pub take-requires-clause-none : goal.take-requires-clause-none
+take-requires-clause-none g c =
+    blocks.take_none c.self.inside c.args.self.now (is_sound c.self.view_is c.self.invariant) c.self.view_is c.args.first c.args.order c.requires.run
 
 taken : {g : Over} (c : After-note g) → Becomes (record c.self.inside { frames = c.hold.new.self; handed_out = c.take.new.self; cleared = c.hand_out.new.self; history = c.note.new.self }) (block_taken c.args.self.now c.args.first c.args.order)
 taken c =

@@ -1,3 +1,4 @@
+use Rattle.std.proofs.Common.{ap, is_some}
 use Rattle.state_core.specs.HandingOut.{block_given}
 use Rattle.state_core.proofs.Facts.{spare}
 use Rattle.zone_tables.proofs.Facts.{is_sound, Becomes}
@@ -12,13 +13,9 @@ release-requires g c =
     let sound = is_sound c.self.view_is c.self.invariant in
     let held = order_held _ c.args.order c.requires.held in record { block = blocks.give_block c.self.inside c.args.self.now sound c.self.view_is c.args.first c.args.order held; huge = blocks.give_huge c.self.inside c.args.self.now sound c.self.view_is c.args.first c.args.order held }
 
-pub give-requires-clause-here : goal.give-requires-clause-here
-give-requires-clause-here g c =
-    blocks.give_here c.self.inside c.args.self.now (is_sound c.self.view_is c.self.invariant) c.self.view_is c.args.first c.args.order (order_held _ c.args.order c.requires.held)
-
-pub give-requires-clause-alone : goal.give-requires-clause-alone
-give-requires-clause-alone g c =
-    blocks.give_alone c.self.inside c.args.self.now (is_sound c.self.view_is c.self.invariant) c.self.view_is c.args.first c.args.order (order_held _ c.args.order c.requires.held)
+pub give-requires : goal.give-requires
+give-requires g c =
+    ap is_some (blocks.give_here c.self.inside c.args.self.now (is_sound c.self.view_is c.self.invariant) c.self.view_is c.args.first c.args.order (order_held _ c.args.order c.requires.held))
 
 given : {g : Over} (c : After-note g) → Becomes (record c.self.inside { frames = c.release.new.self; handed_out = c.give.new.self; history = c.note.new.self }) (block_given c.args.self.now c.args.first c.args.order)
 given c =

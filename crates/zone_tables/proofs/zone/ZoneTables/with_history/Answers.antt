@@ -1,4 +1,4 @@
-use Rattle.std.proofs.Common.{◌≡◌, refl, subst, sym}
+use Rattle.std.proofs.Common.{◌≡◌, false, refl, subst, sym}
 use Rattle.zone_tables.specs.declared.zone.ZoneTables.TheInside.{Inside}
 use Rattle.state_core.specs.ZoneState.{ZoneState}
 use Rattle.zone_tables.specs.Sound.{IsSound, state_of}
@@ -20,6 +20,8 @@ new_zone c = record {
   handed_out = c.in_ok-handed_out.handed_out;
   cleared = c.in_ok-handed_out.cleared;
   marks = c.in_ok-handed_out.marks;
+  apart = false;
+  claimed = c.in_ok-handed_out.claimed;
   fingers = c.new.result;
   history = c.args.history;
 }
@@ -39,6 +41,9 @@ fresh c = record {
   handed_out = c.in_ok-handed_out.ensures.handed_out;
   cleared = c.in_ok-handed_out.ensures.cleared;
   marked = c.in_ok-handed_out.ensures.marks;
+  apart = refl;
+  claimed = c.in_ok-handed_out.ensures.claimed;
+  claimed_room = c.in_ok-handed_out.ensures.room;
   fingers = c.new.ensures;
   moves = c.none.ensures;
   history = c.requires.none;
