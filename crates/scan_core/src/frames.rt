@@ -20,7 +20,7 @@ use std::marker::Model;
 /// The states of a zone's frames, with sets and counts of them. A zone has 32,768 pageblocks at most.
 #[derive(Drop)]
 pub struct Frames {
-    /// The state of each frame. A frame of a block that is handed out stands here as free, and is a member of `held`.
+    /// The state of each frame. A frame that is handed out stands here as free, and is a member of `held`.
     kept: FixedVec<KeptState>,
     movable: FixedVec<bool>,
     held: NumberSet,
