@@ -1,6 +1,6 @@
 -- A block is handed out or taken back: its frames, and that the tables still stand for the zone.
 use Rattle.std.proofs.Common.{◌≡◌, ◌≢◌, ℕ, zero, suc, ◌+◌, ◌^◌, ◌<◌, ◌≤◌, Bool, true, false, List, length, ◌⊎◌, inl, inr, refl, sym, ap, ◌∙◌, arith}
-use Rattle.std.specs.Prelude.{Option, Some, None, slice_get, slice_set, nat_eq, nat_le, ◌&&◌, ◌||◌, IsTrue}
+use Rattle.std.specs.Prelude.{Option, Some, None, slice_get, slice_set, nat_eq, nat_le, ◌&&◌, ◌||◌}
 use Rattle.std.specs.FinMap as map
 use Rattle.std.proofs.Math.Bool.{or-false}
 use Rattle.std.proofs.lemmas.Bool.{and_parts, both_ways, cases_Bool, eq-eqb, eqb-true, leb-true, or_left}
@@ -9,7 +9,7 @@ use Rattle.std.proofs.lemmas.List.{length-set}
 use Rattle.std.proofs.lemmas.Nat.{pow_pos}
 use Rattle.frame_core.proofs.Lists.{slice_get_set_same, slice_get_set_other}
 use Rattle.frame_core.proofs.Searches.{count_from_all, count_from_same, lowest_same}
-use Rattle.frame_core.specs.Below.{lowest, count_from, some_below}
+use Rattle.frame_core.specs.Below.{lowest, count_from}
 use Rattle.frame_core.specs.Order.{is_aligned}
 use Rattle.frame_core.specs.declared.state.FrameState.{FrameState}
 use Rattle.frame_core.specs.declared.state.FrameState.TheVariants.{Free, Huge}
@@ -20,14 +20,14 @@ use Rattle.scan_core.specs.NumberSet.{all_from}
 use Rattle.scan_core.specs.Runs as runs
 use Rattle.scan_core.specs.Runs.{with_run}
 use Rattle.state_core.specs.HandingOut.{has_block, is_order, is_run, lowest_run, block_taken, block_given}
-use Rattle.state_core.specs.ZoneState.{ZoneState, frame_count, covers, is_held, is_free}
+use Rattle.state_core.specs.ZoneState.{ZoneState, frame_count, is_held, is_free}
 use Rattle.state_core.proofs.Entries.{get_remove_same, get_remove_other}
 use Rattle.state_core.proofs.HandingOut as blocks
 use Rattle.state_core.proofs.HandingOut.{in_block, in_block_from, in_block_parts, held_of}
-use Rattle.state_core.proofs.Places.{unheld_frame, untaken}
+use Rattle.state_core.proofs.Places.{untaken}
 use Rattle.zone_tables.specs.declared.zone.ZoneTables.TheInside.{Inside}
 use Rattle.zone_tables.specs.Fits.{FramesFit}
-use Rattle.zone_tables.specs.HandedOut.{order_of, held_at}
+use Rattle.zone_tables.specs.HandedOut.{order_of}
 use Rattle.zone_tables.specs.History.{History, told}
 use Rattle.zone_tables.specs.Sound.{IsSound, state_of}
 use Rattle.zone_tables.proofs.BlockOrders.{order_here, order_there}

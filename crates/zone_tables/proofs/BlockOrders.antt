@@ -1,18 +1,15 @@
 -- How many blocks are handed out when one is taken or given back.
-use Rattle.std.proofs.Common.{◌≡◌, ◌≢◌, ℕ, ◌+◌, ◌-◌, ◌^◌, ◌<◌, ◌≤◌, true, false,  List, length, inl, inr, refl, sym, subst, ap, ◌∙◌, arith}
-use Rattle.std.specs.Prelude.{Option, Some, None, is_some, slice_set, IsTrue, ◌||◌}
+use Rattle.std.proofs.Common.{◌≡◌, ◌≢◌, ℕ, ◌+◌, ◌-◌, ◌<◌, ◌≤◌, true, false, List, length, inl, inr, refl, sym, ap, ◌∙◌, arith}
+use Rattle.std.specs.Prelude.{Option, Some, None, is_some, slice_set}
 use Rattle.std.specs.Option.{option_and_then}
 use Rattle.frame_core.specs.FixedVec.{with_item}
-use Rattle.std.proofs.Math.Bool.{or-false}
 use Rattle.std.proofs.lemmas.Bool.{both_ways}
-use Rattle.std.proofs.lemmas.Bool.Decides.{ltb_tells}
+use Rattle.std.proofs.lemmas.Bool.Decides.{leb_tells}
+use Rattle.std.proofs.lemmas.Option.{slice_get_past}
 use Rattle.std.proofs.lemmas.List.{length-set}
-use Rattle.std.proofs.lemmas.Nat.{pow_pos}
-use Rattle.frame_core.proofs.Lists.{slice_get_set_same, slice_get_set_other, slice_get_past}
-use Rattle.frame_core.proofs.Searches.{count_more, count_most, count_run, some_at}
-use Rattle.frame_core.specs.Below.{count_below, some_below}
-use Rattle.state_core.specs.ZoneState.{covers}
-use Rattle.state_core.proofs.HandingOut.{IsOneMore, in_block, in_block_from, held_more}
+use Rattle.frame_core.proofs.Lists.{slice_get_set_same, slice_get_set_other}
+use Rattle.frame_core.proofs.Searches.{count_more, count_most}
+use Rattle.frame_core.specs.Below.{count_below}
 use Rattle.zone_tables.specs.declared.handed_out.HandedOut.TheInside.{Inside}
 use Rattle.zone_tables.specs.HandedOut.{order_of}
 use Rattle.zone_tables.specs.HandedOutInside.{IsCounted}
@@ -26,9 +23,9 @@ module _ (orders : List (Option ℕ)) (first : ℕ) (o : Option ℕ) (within : f
 
 -- a block that is handed out begins at a frame of the list
 pub order_within : (orders : List (Option ℕ)) (first : ℕ) → is_some (order_of orders first) ≡ true → first < length orders
-order_within orders first some = elim (ltb_tells first (length orders)) [
-  | inl below ↦ below.1
-  | inr past ↦ absurd (both_ways _ (ap (λ (o : Option (Option ℕ)). is_some (option_and_then (λ (order : Option ℕ). order) o)) (slice_get_past orders first past.1)) some)
+order_within orders first some = elim (leb_tells (length orders) first) [
+  | inr below ↦ below.1
+  | inl past ↦ absurd (both_ways _ (ap (λ (o : Option (Option ℕ)). is_some (option_and_then (λ (order : Option ℕ). order) o)) (slice_get_past orders first past.1)) some)
 ]
 
 -- one more block is counted

@@ -5,7 +5,7 @@ use Rattle.std.specs.Option.{option_and_then}
 use Rattle.std.specs.FinMap.{get}
 use Rattle.std.proofs.lemmas.Option.{slice_get_past}
 use Rattle.frame_core.proofs.Searches.{some_one, lowest_same, count_same, count_from_same}
-use Rattle.frame_core.specs.Below.{lowest, count_below, some_below}
+use Rattle.frame_core.specs.Below.{lowest, count_below}
 use Rattle.frame_core.specs.declared.state.FrameState.{FrameState}
 use Rattle.frame_core.specs.declared.state.FrameState.TheVariants.{Holds, Source, Target}
 use Rattle.zone_tables.specs.declared.note.PageNote.{PageNote}
@@ -14,10 +14,10 @@ use Rattle.state_core.specs.declared.placement.Placement.{Placement}
 use Rattle.state_core.specs.declared.placement.Placement.TheVariants.{At, Moving}
 use Rattle.zone_tables.specs.Fits.{state_by, FramesFit}
 use Rattle.zone_tables.specs.Sound.{state_of}
-use Rattle.state_core.specs.ZoneState.{ZoneState, frame_count, takes_up, covers, is_used, is_held, is_free, lowest_free_frame, lowest_unused_page, is_whole as whole_block}
+use Rattle.state_core.specs.ZoneState.{ZoneState, frame_count, takes_up, is_used, is_held, is_free, lowest_free_frame, lowest_unused_page, is_whole as whole_block}
 use Rattle.scan_core.specs.Frames.{free_at, is_free_state, free_frames, is_whole, blocks_of}
 use Rattle.zone_tables.specs.Notes.{placement_of, is_in_use}
-use Rattle.zone_tables.specs.HandedOut.{order_of, held_at}
+use Rattle.zone_tables.specs.HandedOut.{order_of}
 use Rattle.zone_tables.specs.Tabulated.{tabulated}
 use Rattle.zone_tables.proofs.Tabulating.{get_tabulated_all}
 use Rattle.std.proofs.lemmas.Bool.{and_right}

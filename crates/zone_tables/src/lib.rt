@@ -7,6 +7,7 @@
 
 mod access;
 mod bulk;
+mod claiming;
 mod cleared;
 mod contents;
 mod ending;

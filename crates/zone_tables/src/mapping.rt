@@ -1,10 +1,11 @@
 //! Making an address name a fresh page.
 
-ghost use Rattle.std.specs.Prelude.{◌≡◌, ◌<◌, nat_lt, Some, None, IsTrue, IsSome, IfSome, is_some};
+ghost use Rattle.std.specs.Prelude.{◌≡◌, ◌<◌, nat_lt, Some, None, IsTrue, IsSome, IfSome, is_none, is_some};
 ghost use Rattle.frame_core.specs.History.{page_at};
 ghost use Rattle.state_core.specs.Valid.{IsValidZone};
 ghost use Rattle.state_core.specs.Mapping.{mapped};
-ghost use Rattle.state_core.specs.ZoneState.{frame_count, has_address, has_room, is_free, lowest_free_frame, lowest_unused_page};
+ghost use Rattle.state_core.specs.ZoneState.{frame_count, has_address, has_room, is_free, frame_for, lowest_free_frame, lowest_unused_page};
+ghost use Rattle.state_core.specs.Claiming.{with_apart};
 
 use crate::note::PageNote;
 use crate::zone::ZoneTables;
@@ -45,13 +46,26 @@ impl<const W: usize> ZoneTables<W> {
         self.frames.is_free(frame)
     }
 
-    /// The lowest free frame, if there is one.
-    pub fn find_free(&self) -> Option<FrameNo>
-        ensures lowest { result ≡ lowest_free_frame self.now }
+    /// The frame that a page is mapped to, if one is free: the lowest one, or the highest where the page is unmovable and such pages are
+    /// mapped apart.
+    pub fn frame_for(&self, unmovable: bool) -> Option<FrameNo>
+        ensures frame { result ≡ frame_for self.now unmovable }
+        ensures none { is_none result ≡ is_none (lowest_free_frame self.now) }
         ensures free { IfSome result (λ frame. IsTrue (is_free self.now frame)) }
         ensures within { IfSome result (λ frame. frame < frame_count self.now) }
     {
+        if unmovable && self.apart {
+            return self.frames.highest_free();
+        }
         self.frames.lowest_free()
+    }
+
+    /// Maps unmovable pages apart from the others from now on, or not.
+    pub fn set_apart(&mut self, apart: bool)
+        ensures step { self.new ≡ with_apart self.old apart }
+        ensures valid { IsValidZone self.new }
+    {
+        self.apart = apart;
     }
 
     /// The lowest page number that isn't in use. There is one wherever a frame is free.

@@ -1,0 +1,120 @@
+-- Frames are claimed, or their claims are dropped: the tables of the zone afterwards.
+use Rattle.std.proofs.Common.{◌≡◌, ◌≢◌, ℕ, ◌+◌, ◌*◌, ◌^◌, ◌<◌, ◌≤◌, Bool, true, false, not, List, length, inl, inr, refl, sym, ap, ◌∙◌, arith}
+use Rattle.std.specs.Prelude.{Option, Some, None, ◌&&◌, ◌||◌, nat_eq, nat_le, nat_lt, slice_get, slice_set}
+use Rattle.std.specs.FinMap as map
+use Rattle.std.specs.FinSet as set
+use Rattle.std.specs.Cmp.{nat_cmp_total}
+use Rattle.std.proofs.lemmas.Bool.{and_parts, and_from, both_ways, cases_Bool, eq-eqb, eqb-true, not-true, or_cases, or_from, or_left, or_parts, or_right}
+use Rattle.std.proofs.lemmas.Bool.Decides.{eqb_tells}
+use Rattle.std.proofs.lemmas.List.{length-set}
+use Rattle.frame_core.proofs.Lists.{slice_get_set_same, slice_get_set_other}
+use Rattle.frame_core.proofs.Searches.{count_from_all, count_from_full}
+use Rattle.frame_core.specs.declared.state.FrameState.{FrameState}
+use Rattle.frame_core.specs.declared.state.FrameState.TheVariants.{Free, Huge}
+use Rattle.number_set.specs.Numbers.{Numbers}
+use Rattle.scan_core.specs.Frames.{Frames, huge_at, is_huge_state}
+use Rattle.scan_core.specs.NumberSet.{all_from}
+use Rattle.scan_core.specs.Runs as runs
+use Rattle.scan_core.specs.Runs.{with_run}
+use Rattle.fewest_core.specs.Claims.{claimed_frames}
+use Rattle.state_core.specs.Claiming.{claimed_at, dropped_at, is_claimed, run_dropped, with_apart, without_run}
+use Rattle.state_core.specs.HandingOut.{has_block}
+use Rattle.state_core.specs.ZoneState.{ZoneState, frame_count, is_free, is_held, is_handed_out, is_used}
+use Rattle.state_core.proofs.Claiming.{valid_apart, valid_claimed_at, valid_dropped_at, valid_run_dropped, without_run_has}
+use Rattle.state_core.proofs.Entries.{contains_insert_same, contains_insert_other, contains_remove_same, contains_remove_other}
+use Rattle.state_core.proofs.Places.{unheld_frame, untaken}
+use Rattle.zone_tables.specs.Fits.{FramesFit, state_by}
+use Rattle.zone_tables.specs.History.{History}
+use Rattle.zone_tables.specs.Sound.{state_of, IsSound}
+use Rattle.zone_tables.specs.declared.zone.ZoneTables.TheInside.{Inside}
+use Rattle.zone_tables.proofs.Facts.{Becomes, becomes}
+use Rattle.zone_tables.proofs.Placement.{state_taken}
+
+-- only which frames are claimed and the states of the frames change
+module _ {W : ℕ} (z : Inside W) (v : ZoneState) (sound : IsSound z v) (view : state_of z ≡ v) where
+  -- the fields with these states and claims, and no round
+  abbrev with_claims : List (FrameState ℕ) → set.FinSet nat_cmp → Inside W
+  with_claims states claims = record z { frames = record z.frames { states = states }; claimed = record z.claimed { members = claims }; history = record z.history { round = None } }
+
+  -- the state with these claims, and no round
+  abbrev state_with : set.FinSet nat_cmp → ZoneState
+  state_with claims = record v { claimed = claims; round = None }
+
+  claims_sound : (states : List (FrameState ℕ)) (claims : set.FinSet nat_cmp) → IsValidZone (state_with claims) → FramesFit states (state_with claims) → IsSound (with_claims states claims) (state_with claims)
+  claims_sound states claims valid fit = record {
+    valid = valid;
+    orders = sound.orders;
+    cleared = sound.cleared;
+    frames = fit;
+    tables = sound.tables;
+    size = sound.size;
+    marks = sound.marks;
+    claimed = sound.claimed;
+    entries = record { each = sound.entries.each };
+    words = record { count = sound.words.count; sized = sound.words.sized; each = sound.words.each };
+    notes = record { count = sound.notes.count; each = λ page note e used. (let fit = sound.notes.each page note e used in record { dirty = fit.dirty; pins = fit.pins; maps = fit.maps }) };
+    moves = record { isolated = sound.moves.isolated; moved = sound.moves.moved; back = sound.moves.back };
+    movable = record { count = sound.movable.count; each = sound.movable.each };
+  }
+
+  pub claims_hold : {frames : Frames} {claimed : Numbers} {history : History} (states : List (FrameState ℕ)) (claims : set.FinSet nat_cmp) → IsValidZone (state_with claims) → FramesFit states (state_with claims)
+      → frames ≡ record z.frames { states = states } → claimed ≡ record z.claimed { members = claims } → history ≡ record z.history { round = None }
+      → Becomes (record z { frames = frames; claimed = claimed; history = history }) (state_with claims)
+  claims_hold states claims valid fit f c h =
+      becomes {ideal = with_claims states claims} (λ i. record z { frames = f i; claimed = c i; history = h i }) (ap (λ (u : ZoneState). record u { claimed = claims; round = None }) view) (claims_sound states claims valid fit)
+
+  -- a free frame is claimed
+  module _ (frame : ℕ) (free : is_free v frame ≡ true) (within : frame < frame_count v) where
+    claimed_fit : FramesFit (slice_set z.frames.states frame Huge) (claimed_at v frame)
+    claimed_fit = record {
+      count = length-set z.frames.states frame Huge ∙ sound.frames.count;
+      of_page = λ page other state e. elim (eqb_tells other frame) [
+        | inl same ↦ absurd (both_ways _ (untaken v sound.valid other (ap (is_free v) same.1 ∙ free) page) (state_taken page (map.get v.placement page) other state e))
+        | inr ne ↦ slice_get_set_other z.frames.states frame other Huge ne.1 ∙ sound.frames.of_page page other state e
+      ];
+      of_block = λ other h held. elim (eqb_tells other frame) [
+        | inl same ↦ slice_get_set_same z.frames.states frame other Huge same.1 (omega (arith, within, sound.frames.count))
+        | inr ne ↦ slice_get_set_other z.frames.states frame other Huge ne.1 ∙ sound.frames.of_block other h (sym (ap (λ b. is_handed_out v other || b) (contains_insert_other v.claimed frame other ne.1)) ∙ held)
+      ];
+      of_none = λ other h still. elim (eqb_tells other frame) [
+        | inl same ↦ absurd (both_ways _ (or_parts (is_handed_out v other) _ (unheld_frame (claimed_at v frame) other still)).1 (contains_insert_same v.claimed frame other same.1))
+        | inr ne ↦ slice_get_set_other z.frames.states frame other Huge ne.1 ∙ sound.frames.of_none other h (sym (ap (λ b. not (is_used v other) && not (is_handed_out v other || b)) (contains_insert_other v.claimed frame other ne.1)) ∙ still)
+      ];
+    }
+
+    pub claimed_holds : {frames : Frames} {claimed : Numbers} {history : History} → frames ≡ record z.frames { states = slice_set z.frames.states frame Huge } → claimed ≡ record z.claimed { members = set.insert z.claimed.members frame } → history ≡ record z.history { round = None }
+        → Becomes (record z { frames = frames; claimed = claimed; history = history }) (claimed_at v frame)
+    claimed_holds f c h = claims_hold (slice_set z.frames.states frame Huge) (set.insert v.claimed frame) (valid_claimed_at v sound.valid frame free within) claimed_fit f (c ∙ ap (λ (u : ZoneState). record z.claimed { members = set.insert u.claimed frame }) view) h
+
+  -- a claimed frame is held, and no page takes it up
+  pub claim_held : (frame : ℕ) → is_claimed v frame ≡ true → is_held v frame ≡ true
+  claim_held frame claim = or_right (is_handed_out v frame) _ claim
+
+  claim_untaken : (page frame : ℕ) (state : FrameState ℕ) → is_claimed v frame ≡ true → state_by page (map.get v.placement page) frame ≡ Some state → ⊥
+  claim_untaken page frame state claim e = both_ways _ (sound.valid.pages.clear page frame (state_taken page (map.get v.placement page) frame state e)) (claim_held frame claim)
+
+  pub claim_huge : (frame : ℕ) → is_claimed v frame ≡ true → huge_at z.frames.states frame ≡ true
+  claim_huge frame claim = ap is_huge_state (sound.frames.of_block frame (sound.valid.blocks.claims frame claim) (claim_held frame claim))
+
+  -- the claim of a frame is dropped
+  module _ (frame : ℕ) (claim : is_claimed v frame ≡ true) where
+    dropped_fit : FramesFit (slice_set z.frames.states frame Free) (dropped_at v frame)
+    dropped_fit = record {
+      count = length-set z.frames.states frame Free ∙ sound.frames.count;
+      of_page = λ page other state e. elim (eqb_tells other frame) [
+        | inl same ↦ absurd (claim_untaken page other state (ap (is_claimed v) same.1 ∙ claim) e)
+        | inr ne ↦ slice_get_set_other z.frames.states frame other Free ne.1 ∙ sound.frames.of_page page other state e
+      ];
+      of_block = λ other h held. elim (eqb_tells other frame) [
+        | inl same ↦ ?
+        | inr ne ↦ slice_get_set_other z.frames.states frame other Free ne.1 ∙ sound.frames.of_block other h (sym (ap (λ b. is_handed_out v other || b) (contains_remove_other v.claimed frame other ne.1)) ∙ held)
+      ];
+      of_none = λ other h still. elim (eqb_tells other frame) [
+        | inl same ↦ slice_get_set_same z.frames.states frame other Free same.1 (let within = sound.valid.blocks.claims frame claim in omega (arith, within, sound.frames.count))
+        | inr ne ↦ slice_get_set_other z.frames.states frame other Free ne.1 ∙ sound.frames.of_none other h (sym (ap (λ b. not (is_used v other) && not (is_handed_out v other || b)) (contains_remove_other v.claimed frame other ne.1)) ∙ still)
+      ];
+    }
+
+    pub dropped_holds : {frames : Frames} {claimed : Numbers} {history : History} → frames ≡ record z.frames { states = slice_set z.frames.states frame Free } → claimed ≡ record z.claimed { members = set.remove z.claimed.members frame } → history ≡ record z.history { round = None }
+        → Becomes (record z { frames = frames; claimed = claimed; history = history }) (dropped_at v frame)
+    dropped_holds f c h = claims_hold (slice_set z.frames.states frame Free) (set.remove v.claimed frame) (valid_dropped_at v sound.valid frame) dropped_fit f (c ∙ ap (λ (u : ZoneState). record z.claimed { members = set.remove u.claimed frame }) view) h
