@@ -9,6 +9,7 @@ use Rattle.std.proofs.lemmas.Bool.Decides.{eqb_tells}
 use Rattle.std.proofs.lemmas.List.{length-set}
 use Rattle.frame_core.proofs.Lists.{slice_get_set_same, slice_get_set_other}
 use Rattle.frame_core.proofs.Searches.{count_from_all, count_from_full}
+use Rattle.frame_core.specs.Order.{is_aligned}
 use Rattle.frame_core.specs.declared.state.FrameState.{FrameState}
 use Rattle.frame_core.specs.declared.state.FrameState.TheVariants.{Free, Huge}
 use Rattle.number_set.specs.Numbers.{Numbers}
@@ -20,7 +21,7 @@ use Rattle.fewest_core.specs.Claims.{claimed_frames}
 use Rattle.state_core.specs.Claiming.{claimed_at, dropped_at, is_claimed, run_dropped, with_apart, without_run}
 use Rattle.state_core.specs.HandingOut.{has_block}
 use Rattle.state_core.specs.ZoneState.{ZoneState, frame_count, is_free, is_held, is_handed_out, is_used}
-use Rattle.state_core.proofs.Claiming.{valid_apart, valid_claimed_at, valid_dropped_at, valid_run_dropped, without_run_has}
+use Rattle.state_core.proofs.Claiming.{valid_apart, valid_claimed_at, valid_dropped_at, valid_run_dropped, claimed_may, without_run_has}
 use Rattle.state_core.proofs.Entries.{contains_insert_same, contains_insert_other, contains_remove_same, contains_remove_other}
 use Rattle.state_core.proofs.Places.{unheld_frame, untaken}
 use Rattle.zone_tables.specs.Fits.{FramesFit, state_by}
@@ -106,7 +107,7 @@ module _ {W : ℕ} (z : Inside W) (v : ZoneState) (sound : IsSound z v) (view : 
         | inr ne ↦ slice_get_set_other z.frames.states frame other Free ne.1 ∙ sound.frames.of_page page other state e
       ];
       of_block = λ other h held. elim (eqb_tells other frame) [
-        | inl same ↦ ?
+        | inl same ↦ absurd (both_ways _ (or_from _ _ (claimed_may v sound.valid other (ap (is_claimed v) same.1 ∙ claim)).kept (contains_remove_same v.claimed frame other same.1)) held)
         | inr ne ↦ slice_get_set_other z.frames.states frame other Free ne.1 ∙ sound.frames.of_block other h (sym (ap (λ b. is_handed_out v other || b) (contains_remove_other v.claimed frame other ne.1)) ∙ held)
       ];
       of_none = λ other h still. elim (eqb_tells other frame) [
@@ -118,3 +119,71 @@ module _ {W : ℕ} (z : Inside W) (v : ZoneState) (sound : IsSound z v) (view : 
     pub dropped_holds : {frames : Frames} {claimed : Numbers} {history : History} → frames ≡ record z.frames { states = slice_set z.frames.states frame Free } → claimed ≡ record z.claimed { members = set.remove z.claimed.members frame } → history ≡ record z.history { round = None }
         → Becomes (record z { frames = frames; claimed = claimed; history = history }) (dropped_at v frame)
     dropped_holds f c h = claims_hold (slice_set z.frames.states frame Free) (set.remove v.claimed frame) (valid_dropped_at v sound.valid frame) dropped_fit f (c ∙ ap (λ (u : ZoneState). record z.claimed { members = set.remove u.claimed frame }) view) h
+
+  -- the claims of a run are dropped, all of whose frames were claimed
+  module _ (first order : ℕ) (block : has_block v order first ≡ true) (all : claimed_frames first (2 ^ order) v ≡ 2 ^ order) where
+    run_within : first + 2 ^ order ≤ frame_count v
+    run_within = leb-true _ _ (and_parts (is_aligned order first) _ block).1
+
+    run_claim : (frame : ℕ) → first ≤ frame → frame < first + 2 ^ order → is_claimed v frame ≡ true
+    run_claim frame = count_from_full (is_claimed v) first (2 ^ order) frame all
+
+    -- a frame outside of the run is claimed afterwards where it was, and one of the run isn't
+    claim_outside : (frame : ℕ) → in_block first order frame ≡ false → set.contains (without_run v.claimed first (2 ^ order)) frame ≡ is_claimed v frame
+    claim_outside frame there = without_run_has v.claimed first (2 ^ order) frame ∙ ap (λ b. is_claimed v frame && not b) there ∙ and-true (is_claimed v frame)
+
+    claim_inside : (frame : ℕ) → in_block first order frame ≡ true → set.contains (without_run v.claimed first (2 ^ order)) frame ≡ false
+    claim_inside frame here = without_run_has v.claimed first (2 ^ order) frame ∙ and_right (is_claimed v frame) _ (ap not here)
+
+    run_huge : all_from (huge_at z.frames.states) first (2 ^ order) ≡ true
+    run_huge = eq-eqb _ _ (count_from_all (huge_at z.frames.states) first (2 ^ order) (λ frame low high. claim_huge frame (run_claim frame low high)))
+
+    run_fit : FramesFit (with_run z.frames.states first (2 ^ order) Free) (run_dropped first (2 ^ order) v)
+    run_fit = record {
+      count = length_with_run z.frames.states first (2 ^ order) Free ∙ sound.frames.count;
+      of_page = λ page frame state e. elim (cases_Bool (in_block first order frame)) [
+        | inl here ↦ (let parts = in_block_parts first order frame here in absurd (claim_untaken page frame state (run_claim frame parts.0 parts.1) e))
+        | inr there ↦ off_run z.frames.states first (2 ^ order) Free frame (off_block first order frame there) ∙ sound.frames.of_page page frame state e
+      ];
+      of_block = λ frame h held. elim (cases_Bool (in_block first order frame)) [
+        | inl here ↦ (let parts = in_block_parts first order frame here in
+            absurd (both_ways _ (or_from _ _ (claimed_may v sound.valid frame (run_claim frame parts.0 parts.1)).kept (claim_inside frame here)) held))
+        | inr there ↦ off_run z.frames.states first (2 ^ order) Free frame (off_block first order frame there)
+            ∙ sound.frames.of_block frame h (sym (ap (λ b. is_handed_out v frame || b) (claim_outside frame there)) ∙ held)
+      ];
+      of_none = λ frame h still. elim (cases_Bool (in_block first order frame)) [
+        | inl here ↦ (let parts = in_block_parts first order frame here in in_run z.frames.states first (2 ^ order) Free frame (omega (arith, run_within, sound.frames.count)) parts.0 parts.1)
+        | inr there ↦ off_run z.frames.states first (2 ^ order) Free frame (off_block first order frame there)
+            ∙ sound.frames.of_none frame h (sym (ap (λ b. not (is_used v frame) && not (is_handed_out v frame || b)) (claim_outside frame there)) ∙ still)
+      ];
+    }
+
+    -- the set that is without the run is the one that the state has
+    claims_without : (claims : set.FinSet nat_cmp) → ((frame : ℕ) → set.contains claims frame ≡ (not (in_block first order frame) && set.contains z.claimed.members frame)) → claims ≡ without_run v.claimed first (2 ^ order)
+    claims_without claims has = set.same_set nat_cmp_total set.nat_cmp-IsAntisymmetric _ _ (λ frame.
+        (has frame ∙ ap (λ (u : ZoneState). not (in_block first order frame) && is_claimed u frame) view
+        ∙ and-comm (not (in_block first order frame)) (is_claimed v frame) ∙ sym (without_run_has v.claimed first (2 ^ order) frame)))
+
+    pub run_holds : {frames : Frames} {claimed : Numbers} {history : History} → frames ≡ record z.frames { states = with_run z.frames.states first (2 ^ order) Free }
+        → ((frame : ℕ) → set.contains claimed.members frame ≡ (not (in_block first order frame) && set.contains z.claimed.members frame)) → claimed.bound ≡ z.claimed.bound → history ≡ record z.history { round = None }
+        → Becomes (record z { frames = frames; claimed = claimed; history = history }) (run_dropped first (2 ^ order) v)
+    run_holds {claimed = claimed} f has bound h =
+        claims_hold (with_run z.frames.states first (2 ^ order) Free) (without_run v.claimed first (2 ^ order)) (valid_run_dropped v sound.valid first (2 ^ order)) run_fit f (λ i. record { members = claims_without claimed.members has i; bound = bound i }) h
+
+  -- unmovable pages are mapped apart from now on, or not
+  pub apart_holds : (apart : Bool) → Becomes (record z { apart = apart }) (with_apart v apart)
+  apart_holds apart = becomes {ideal = record z { apart = apart }} refl (ap (λ (u : ZoneState). record u { apart = apart }) view) (record {
+    valid = valid_apart v sound.valid apart;
+    orders = sound.orders;
+    cleared = sound.cleared;
+    frames = record { count = sound.frames.count; of_page = sound.frames.of_page; of_block = sound.frames.of_block; of_none = sound.frames.of_none };
+    tables = sound.tables;
+    size = sound.size;
+    marks = sound.marks;
+    claimed = sound.claimed;
+    entries = record { each = sound.entries.each };
+    words = record { count = sound.words.count; sized = sound.words.sized; each = sound.words.each };
+    notes = record { count = sound.notes.count; each = λ page note e used. (let fit = sound.notes.each page note e used in record { dirty = fit.dirty; pins = fit.pins; maps = fit.maps }) };
+    moves = record { isolated = sound.moves.isolated; moved = sound.moves.moved; back = sound.moves.back };
+    movable = record { count = sound.movable.count; each = sound.movable.each };
+  })

@@ -1,6 +1,7 @@
 pub mod BlockFrames
 pub mod BlockOrders
 pub mod BlockWords
+pub mod Claimed
 pub mod Copies
 pub mod Entries
 pub mod Evacuation

@@ -114,6 +114,23 @@ module _ {W : ℕ} {z : Inside W} {v : ZoneState} (view : state_of z ≡ v) (inv
       count_same (scan.is_target states z.marks) (is_free_unmarked v) (length states) (λ frame h. target_seen frame (omega (arith, h, fit.count)))
       ∙ ap (count_below (is_free_unmarked v)) fit.count
 
+  pub highest_vacant_seen : highest (scan.is_target states z.marks) (length states) ≡ highest_vacant v
+  highest_vacant_seen =
+      highest_same (scan.is_target states z.marks) (is_free_unmarked v) (length states) (λ frame h. target_seen frame (omega (arith, h, fit.count)))
+      ∙ ap (highest (is_free_unmarked v)) fit.count
+
+  go_seen : (frame : ℕ) → frame < frame_count v → source_at states movable frame ≡ may_go v frame
+  go_seen frame h = by_state frame h (slice_get states frame) refl
+
+  pub to_go_counted : (first size : ℕ) → first + size ≤ frame_count v → count_from (source_at states movable) first size ≡ pages_to_go first size v
+  to_go_counted first size within = count_from_same (source_at states movable) (may_go v) first size (λ frame low high. go_seen frame (omega (arith, high, within)))
+
+  pub next_to_go_seen : (first size : ℕ) → first + size ≤ frame_count v → lowest (λ frame. nat_le first frame && source_at states movable frame) (first + size) ≡ next_to_go first size v
+  next_to_go_seen first size within =
+      lowest_same (λ frame. nat_le first frame && source_at states movable frame) (λ frame. is_in_run first size frame && may_go v frame) (first + size)
+      (λ frame h. (λ i. nat_le first frame && go_seen frame (omega (arith, h, within)) i) ∙ ap (λ b. (nat_le first frame && b) && may_go v frame) (sym (lt-ltb _ _ h)) ∙ ?)
+      ∙ sym (lowest_past (λ frame. is_in_run first size frame && may_go v frame) (first + size) (frame_count v) within (λ frame low h. and_left _ _ (and_right (nat_le first frame) _ (le-ltb _ _ low))))
+
   abbrev fingers : Fingers
   fingers = record { migrate = v.migrate; free = v.free }
 

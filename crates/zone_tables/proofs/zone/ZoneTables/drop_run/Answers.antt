@@ -1,0 +1,31 @@
+use Rattle.std.proofs.Common.{◌∙◌, ap, arith}
+use Rattle.state_core.specs.Claiming.{run_dropped}
+use Rattle.zone_tables.proofs.BlockFrames.{block_seen}
+use Rattle.zone_tables.proofs.Claimed.{run_holds, run_huge}
+use Rattle.zone_tables.proofs.Facts.{is_sound, Becomes}
+use Rattle.zone_tables.proofs.zone.ZoneTables.drop_run.Given.{Over}
+use Rattle.zone_tables.proofs.zone.ZoneTables.drop_run.Goals as goal
+use Rattle.zone_tables.proofs.zone.ZoneTables.drop_run.Goals.{After-forget_round}
+
+pub release-requires : goal.release-requires
+release-requires g c =
+    let sound = is_sound c.self.view_is c.self.invariant in
+    record {
+      block = block_seen c.self.inside.frames.states c.args.self.now sound.frames c.args.order c.args.first ∙ c.requires.block;
+      huge = run_huge c.self.inside c.args.self.now sound c.self.view_is c.args.first c.args.order c.requires.block c.requires.claimed;
+    }
+
+pub remove_run-requires : goal.remove_run-requires
+remove_run-requires g c = ?
+
+dropped : {g : Over} (c : After-forget_round g) → Becomes (record c.self.inside { frames = c.release.new.self; claimed = c.remove_run.new.self; history = c.forget_round.new.self }) (run_dropped c.args.first (2 ^ c.args.order) c.args.self.now)
+dropped c = run_holds c.self.inside c.args.self.now (is_sound c.self.view_is c.self.invariant) c.self.view_is c.args.first c.args.order c.requires.block c.requires.claimed c.release.ensures ? c.remove_run.ensures.bound c.forget_round.ensures
+
+pub invariant_of-self : goal.invariant_of-self
+invariant_of-self g c = (dropped c).0
+
+pub returns-clause-step : goal.returns-clause-step
+returns-clause-step g c = (dropped c).1
+
+pub returns-clause-valid : goal.returns-clause-valid
+returns-clause-valid g c = (invariant_of-self g c).valid
