@@ -156,7 +156,11 @@ pub dropped_run : (v : ZoneState) → IsValidZone v → (first order : ℕ) → 
 dropped_run v law first order block all = and_from _ _ block (eq-eqb _ _ (count_from_all (is_free (run_dropped first (2 ^ order) v)) first (2 ^ order) (λ frame low high.
     (let may = claimed_may v law frame (all frame low high) in
     and_from _ _ (ap not may.unused) (ap not (or_from (is_handed_out v frame) _ may.kept
-        (without_run_has v.claimed first (2 ^ order) frame ∙ and_right (is_claimed v frame) _ (ap not (and_from _ _ (le-leb _ _ low) (lt-ltb _ _ high))))))))))
+    (without_run_has v.claimed first (2 ^ order) frame ∙ and_right (is_claimed v frame) _ (ap not (and_from _ _ (le-leb _ _ low) (lt-ltb _ _ high))))))))))
+
+-- a round may be forgotten
+pub valid_forgotten : (v : ZoneState) → IsValidZone v → IsValidZone (record v { round = None })
+valid_forgotten v law = valid_claims v law v.claimed (claimed_may v law)
 
 -- where unmovable pages are mapped is no part of what is valid
 pub valid_apart : (v : ZoneState) → IsValidZone v → (apart : Bool) → IsValidZone (with_apart v apart)

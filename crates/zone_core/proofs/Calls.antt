@@ -26,7 +26,7 @@ use Rattle.state_core.specs.Marking.{mark_refusal, unmark_refusal, marked_of, bl
 use Rattle.state_core.specs.Pinning.{pins_at, pin_refusal, unpin_refusal}
 use Rattle.state_core.specs.Sharing.{maps_at, share_refusal}
 use Rattle.state_core.specs.Unmapping.{is_last, unmap_refusal, without_page, unmapped}
-use Rattle.state_core.specs.ZoneState.{ZoneState, frame_count, is_free, lowest_free_frame, lowest_unused_page, noted}
+use Rattle.state_core.specs.ZoneState.{ZoneState, frame_count, is_free, frame_for, lowest_free_frame, lowest_unused_page, noted}
 use Rattle.zone_core.specs.Outcome.{without_ends, IsSame}
 use Rattle.zone_core.proofs.Same.{line, page_same, number_same, last_same, dirty_same, pins_same, maps_same, has_address_same, room_same, place_same, noted_same, with_books}
 
@@ -217,14 +217,14 @@ module _ (z w : ZoneState) (same : IsSame z w) where
     refusals_agree (Mark block) = mark_agrees block
     refusals_agree (Unmark block) = unmark_agrees block
 
-    same_frame : unwrap_or (lowest_free_frame z) 0 ≡ unwrap_or (lowest_free_frame w) 0
-    same_frame = ap (λ (o : Option ℕ). unwrap_or o 0) frame_agrees
+    same_frame : (unmovable : Bool) → unwrap_or (frame_for z unmovable) 0 ≡ unwrap_or (frame_for w unmovable) 0
+    same_frame unmovable = λ i. unwrap_or (frame_for (line z w same i) unmovable) 0
 
     same_run : (order : ℕ) → unwrap_or (lowest_run z order) 0 ≡ unwrap_or (lowest_run w order) 0
     same_run order = ap (λ (o : Option ℕ). unwrap_or o 0) (run_agrees order)
 
     pub answers_agree : (call : ZoneCall W) → answer_of call z ≡ answer_of call w
-    answers_agree (Map address unmovable) = λ i. Mapped (page_agrees i) (same_frame i)
+    answers_agree (Map address unmovable) = λ i. Mapped (page_agrees i) (same_frame unmovable i)
     answers_agree (MapAt address unmovable frame) = ap (λ (page : ℕ). Mapped page frame) page_agrees
     answers_agree (Load address word) = ap Value (value_agrees address word)
     answers_agree (TakeOrder order) = ap Frame (same_run order)
@@ -233,8 +233,8 @@ module _ (z w : ZoneState) (same : IsSame z w) where
     -- a call that changes no book adds its record alone
     pub same_after : (call : ZoneCall W) (client : ℕ) → IsSame (after call client z) (after call client w)
     same_after (Map address unmovable) client =
-        subst (λ (frame : ℕ). IsSame (mapped z client address unmovable (unwrap_or (lowest_free_frame z) 0)) (mapped w client address unmovable frame)) same_frame
-        (mapped_agrees client address unmovable (unwrap_or (lowest_free_frame z) 0))
+        subst (λ (frame : ℕ). IsSame (mapped z client address unmovable (unwrap_or (frame_for z unmovable) 0)) (mapped w client address unmovable frame)) (same_frame unmovable)
+        (mapped_agrees client address unmovable (unwrap_or (frame_for z unmovable) 0))
     same_after (MapAt address unmovable frame) client = mapped_agrees client address unmovable frame
     same_after (Unmap address) client = unmapped_agrees client address
     same_after (TakeOrder order) client =

@@ -78,6 +78,7 @@ module _ (z : ZoneState) (law : IsValidZone z) (carried : AreCarriedUp z) (page 
         migrate = refl;
         free = refl;
         marked = refl;
+        claimed = refl;
         handed_out = refl;
         unmovable = refl;
         pins_are = λ q. refl;

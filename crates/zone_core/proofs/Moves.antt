@@ -105,6 +105,7 @@ module _ (z w : ZoneState) (alike : IsSameInRound z w) where
     stands = λ page frame low high. ap (λ m. stands_in (map.get m page) frame) alike.same.placement;
     takes = λ page frame low high. ap (λ m. takes_up (map.get m page) frame) alike.same.placement;
     marked = alike.same.marked;
+    claimed = alike.same.claimed;
     handed_out = alike.same.handed_out;
     unmovable = alike.same.unmovable;
     pins_are = pins_same z w alike.same;

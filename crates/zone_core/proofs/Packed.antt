@@ -77,7 +77,7 @@ module _ (start : ZoneState) (law : IsValidZone start) (calm : is_calm start ≡
 -- and so is each zone that is the same
 packed_same : (z w : ZoneState) → IsSame z w → IsPacked z → IsPacked w
 packed_same z w same packed =
-    let there = subst IsPacked (λ i. record z { blocks = same.blocks i; marked = same.marked i; handed_out = same.handed_out i; placement = same.placement i }) packed in
+    let there = subst IsPacked (λ i. record z { blocks = same.blocks i; marked = same.marked i; claimed = same.claimed i; handed_out = same.handed_out i; placement = same.placement i }) packed in
     record { each = there.each }
 
 pub packed_exact : (start z : ZoneState) → IsValidZone start → is_calm start ≡ true → isolate_refusal (all_isolated start) ≡ None → IsSame (by_hand start) z → IsPacked z

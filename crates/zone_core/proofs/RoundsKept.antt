@@ -25,6 +25,8 @@ module _ (z w : ZoneState) (rest_z : IsAtRest z) (rest_w : IsAtRest w) (same : I
     places = same.length_is i + same.room i;
     unmovable = same.unmovable i;
     marked = same.marked i;
+    apart = same.apart i;
+    claimed = same.claimed i;
     handed_out = same.handed_out i;
     contents = same.contents i;
     frame = λ page. final_frame (map.get (same.placement i) page);

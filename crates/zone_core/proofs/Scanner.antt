@@ -42,7 +42,7 @@ module _ (z : ZoneState) (carried : AreCarriedUp z) (page frame : ℕ) where
     by (Some (Moving serial source target)) e = let past = (carried.each page serial source target e).low in ap (λ b. b || nat_eq frame target) (ne_eqb frame source (λ is. omega arith))
 
 pub seen_refl : (z : ZoneState) → IsSeenAs z z
-seen_refl z = record { blocks = refl; migrate = refl; free = refl; marked = refl; handed_out = refl; unmovable = refl; pins_are = λ p. refl; count = refl; spare = refl; stands = λ p f low high. refl; takes = λ p f low high. refl }
+seen_refl z = record { blocks = refl; migrate = refl; free = refl; marked = refl; claimed = refl; handed_out = refl; unmovable = refl; pins_are = λ p. refl; count = refl; spare = refl; stands = λ p f low high. refl; takes = λ p f low high. refl }
 
 pub seen_trans : (z w v : ZoneState) → IsSeenAs z w → IsSeenAs w v → IsSeenAs z v
 seen_trans z w v a b =
@@ -53,6 +53,7 @@ seen_trans z w v a b =
       migrate = a.migrate ∙ b.migrate;
       free = a.free ∙ b.free;
       marked = a.marked ∙ b.marked;
+      claimed = a.claimed ∙ b.claimed;
       handed_out = a.handed_out ∙ b.handed_out;
       unmovable = a.unmovable ∙ b.unmovable;
       pins_are = λ p. a.pins_are p ∙ b.pins_are p;
@@ -160,6 +161,7 @@ module _ (z w : ZoneState) (same : outcome_of z ≡ outcome_of w) (carried_z : A
     migrate = migrate_same;
     free = free_same;
     marked = ap (λ (r : Outcome). r.marked) same;
+    claimed = ap (λ (r : Outcome). r.claimed) same;
     handed_out = ap (λ (r : Outcome). r.handed_out) same;
     unmovable = ap (λ (r : Outcome). r.unmovable) same;
     pins_are = λ page. sym (pins-without_ends z.records page) ∙ ap (λ (r : Outcome). pins r.records page) same ∙ pins-without_ends w.records page;

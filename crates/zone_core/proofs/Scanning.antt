@@ -192,6 +192,7 @@ seen_isolated z w pair low high seen =
       migrate = refl;
       free = refl;
       marked = seen.marked;
+      claimed = seen.claimed;
       handed_out = seen.handed_out;
       unmovable = seen.unmovable;
       pins_are = seen.pins_are;

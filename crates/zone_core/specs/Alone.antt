@@ -25,6 +25,7 @@ pub record IsSeenAs (z w : ZoneState) : Type 0 where
   pub stands : (page frame : ℕ) → z.migrate ≤ frame → frame < z.free → stands_in (map.get z.placement page) frame ≡ stands_in (map.get w.placement page) frame
   pub takes : (page frame : ℕ) → z.migrate ≤ frame → frame < z.free → takes_up (map.get z.placement page) frame ≡ takes_up (map.get w.placement page) frame
   pub marked : z.marked ≡ w.marked
+  pub claimed : z.claimed ≡ w.claimed
   pub handed_out : z.handed_out ≡ w.handed_out
   pub unmovable : z.unmovable ≡ w.unmovable
   pub pins_are : (page : ℕ) → pins z.records page ≡ pins w.records page

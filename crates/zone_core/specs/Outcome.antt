@@ -1,5 +1,5 @@
 -- What a zone comes to once its moving pages have been moved, and when two zones are the same but for the order of moves.
-use Rattle.std.specs.Prelude.{◌≡◌, ℕ, ◌+◌, ◌-◌, List, [], ◌∷◌, length, Option, Some, None}
+use Rattle.std.specs.Prelude.{◌≡◌, ℕ, Bool, ◌+◌, ◌-◌, List, [], ◌∷◌, length, Option, Some, None}
 use Rattle.std.specs.FinMap as map
 use Rattle.std.specs.FinSet as set
 use Rattle.std.specs.Ordering.{nat_cmp}
@@ -38,6 +38,8 @@ pub record Outcome : Type 0 where
   pub places : ℕ
   pub unmovable : set.FinSet nat_cmp
   pub marked : set.FinSet nat_cmp
+  pub apart : Bool
+  pub claimed : set.FinSet nat_cmp
   pub handed_out : map.FinMap nat_cmp ℕ
   pub contents : map.FinMap nat_cmp (List ℕ)
   pub frame : ℕ → Option ℕ
@@ -58,6 +60,8 @@ outcome_of z = record {
   places = length z.records + z.room;
   unmovable = z.unmovable;
   marked = z.marked;
+  apart = z.apart;
+  claimed = z.claimed;
   handed_out = z.handed_out;
   contents = z.contents;
   frame = λ page. final_frame (map.get z.placement page);
@@ -78,6 +82,8 @@ pub record IsSame (z w : ZoneState) : Type 0 where
   pub placement : z.placement ≡ w.placement
   pub unmovable : z.unmovable ≡ w.unmovable
   pub marked : z.marked ≡ w.marked
+  pub apart : z.apart ≡ w.apart
+  pub claimed : z.claimed ≡ w.claimed
   pub handed_out : z.handed_out ≡ w.handed_out
   pub contents : z.contents ≡ w.contents
   -- the same calls in the same order, and as many moves that ended either way

@@ -13,6 +13,7 @@ ghost use Rattle.state_core.specs.ZoneState.{frame_count, noted, keeps_quiet, is
 ghost use Rattle.std.specs.Result.{result_err};
 
 mod calls;
+mod claiming;
 mod evacuating;
 mod free_runs;
 mod moving;

@@ -16,7 +16,7 @@ ghost use Rattle.std.specs.Result.{result_err};
 ghost use Rattle.state_core.specs.Mapping.{map_refusal, map_at_refusal, mapped};
 ghost use Rattle.state_core.specs.Access.{access_refusal, value_at, loaded, stored};
 ghost use Rattle.frame_core.specs.PageFlags.{is_unmovable};
-ghost use Rattle.state_core.specs.ZoneState.{frame_count, lowest_free_frame, noted, keeps_quiet, is_quiet};
+ghost use Rattle.state_core.specs.ZoneState.{frame_count, frame_for, noted, keeps_quiet, is_quiet};
 
 use crate::bare::BareZone;
 use crate::seats::{Blanks, EndSeat, ScanSeat};
@@ -172,8 +172,9 @@ impl<const W: usize, I: Ledger, M: Ledger, B: Ledger> Zone<W, I, M, B> {
         (zone, scan, ends)
     }
 
-    /// Makes an address name a fresh page in the lowest free frame, and answers this frame. The page holds zeros, has no
-    /// pin and isn't dirty. It is unmovable where the flags say so. The flags must not have DIRTY.
+    /// Makes an address name a fresh page in the lowest free frame, or in the highest where the page is unmovable and such pages are mapped
+    /// apart, and answers this frame. The page holds zeros, has no pin and isn't dirty. It is unmovable where the flags say so. The flags
+    /// must not have DIRTY.
     ///
     /// Refused as Range where the zone has no such address, as JournalFull, Occupied or NoFrame.
     pub fn map(
@@ -185,7 +186,7 @@ impl<const W: usize, I: Ledger, M: Ledger, B: Ledger> Zone<W, I, M, B> {
         requires clean { bit_and flags.0 2 ≡ 0 }
         ensures refused { result_err result ≡ map_refusal self.old address }
         ensures err { OnErr result (self.new ≡ self.old) }
-        ensures frame { IfOk result (λ frame. lowest_free_frame self.old ≡ Some frame) }
+        ensures frame { IfOk result (λ frame. frame_for self.old (is_unmovable flags) ≡ Some frame) }
         ensures ok { IfOk result (λ frame. self.new ≡ mapped self.old client address (is_unmovable flags) frame) }
         ensures identity { HasIdentity self.old.number self.old.blocks self.new }
         ensures valid { IsValidZone self.new }
@@ -195,7 +196,7 @@ impl<const W: usize, I: Ledger, M: Ledger, B: Ledger> Zone<W, I, M, B> {
         Ok(frame)
     }
 
-    /// Makes an address name a fresh page in a given frame, as `map` does in the lowest. The flags must not have DIRTY.
+    /// Makes an address name a fresh page in a given frame, as `map` does in one of its own choice. The flags must not have DIRTY.
     ///
     /// Refused as Range where the zone has no such address or no such frame, as JournalFull, as Occupied, or as NoFrame where the frame isn't free.
     pub fn map_at(

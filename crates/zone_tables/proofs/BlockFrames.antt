@@ -38,12 +38,12 @@ use Rattle.zone_tables.specs.Contents.{words_held}
 use Rattle.zone_tables.proofs.Facts.{Becomes, becomes}
 
 -- the states of frames after a run of them changed together
-length_with_run : (states : List (FrameState ℕ)) (first n : ℕ) (state : FrameState ℕ) → length (with_run states first n state) ≡ length states
+pub length_with_run : (states : List (FrameState ℕ)) (first n : ℕ) (state : FrameState ℕ) → length (with_run states first n state) ≡ length states
 unfolding with_run
 length_with_run states first zero state = refl
 length_with_run states first (suc n) state = length-set (with_run states first n state) (first + n) state ∙ length_with_run states first n state
 
-in_run : (states : List (FrameState ℕ)) (first n : ℕ) (state : FrameState ℕ) (k : ℕ) → first + n ≤ length states → first ≤ k → k < first + n → slice_get (with_run states first n state) k ≡ Some state
+pub in_run : (states : List (FrameState ℕ)) (first n : ℕ) (state : FrameState ℕ) (k : ℕ) → first + n ≤ length states → first ≤ k → k < first + n → slice_get (with_run states first n state) k ≡ Some state
 unfolding with_run
 in_run states first zero state k within low high = absurd (omega arith)
 in_run states first (suc n) state k within low high = elim (eqb_tells k (first + n)) [
@@ -51,7 +51,7 @@ in_run states first (suc n) state k within low high = elim (eqb_tells k (first +
   | inr other ↦ slice_get_set_other (with_run states first n state) (first + n) k state other.1 ∙ in_run states first n state k (omega arith) low (omega (arith, other.1))
 ]
 
-off_run : (states : List (FrameState ℕ)) (first n : ℕ) (state : FrameState ℕ) (k : ℕ) → (k < first) ⊎ (first + n ≤ k) → slice_get (with_run states first n state) k ≡ slice_get states k
+pub off_run : (states : List (FrameState ℕ)) (first n : ℕ) (state : FrameState ℕ) (k : ℕ) → (k < first) ⊎ (first + n ≤ k) → slice_get (with_run states first n state) k ≡ slice_get states k
 unfolding with_run
 off_run states first zero state k away = refl
 off_run states first (suc n) state k away =
@@ -125,7 +125,8 @@ module _ {W : ℕ} (z : Inside W) (v : ZoneState) (sound : IsSound z v) (view : 
     frames = held_states;
     tables = sound.tables;
     size = sound.size;
-    marks = sound.marks; claimed = sound.claimed;
+    marks = sound.marks;
+    claimed = sound.claimed;
     entries = record { each = sound.entries.each };
     words = record { count = sound.words.count; sized = sound.words.sized; each = sound.words.each };
     notes = record { count = sound.notes.count; each = λ page note e used. (let fit = sound.notes.each page note e used in record { dirty = fit.dirty; pins = fit.pins; maps = fit.maps }) };
@@ -210,7 +211,8 @@ module _ {W : ℕ} (z : Inside W) (v : ZoneState) (sound : IsSound z v) (view : 
     frames = freed_states;
     tables = sound.tables;
     size = sound.size;
-    marks = sound.marks; claimed = sound.claimed;
+    marks = sound.marks;
+    claimed = sound.claimed;
     entries = record { each = sound.entries.each };
     words = record { count = sound.words.count; sized = sound.words.sized; each = sound.words.each };
     notes = record { count = sound.notes.count; each = λ page note e used. (let fit = sound.notes.each page note e used in record { dirty = fit.dirty; pins = fit.pins; maps = fit.maps }) };

@@ -1,10 +1,12 @@
 -- Frames are claimed, or their claims are dropped: the tables of the zone afterwards.
-use Rattle.std.proofs.Common.{◌≡◌, ◌≢◌, ℕ, ◌+◌, ◌*◌, ◌^◌, ◌<◌, ◌≤◌, Bool, true, false, not, List, length, inl, inr, refl, sym, ap, ◌∙◌, arith}
-use Rattle.std.specs.Prelude.{Option, Some, None, ◌&&◌, ◌||◌, nat_eq, nat_le, nat_lt, slice_get, slice_set}
+use Rattle.std.proofs.Common.{◌≡◌, ℕ, ◌+◌, ◌^◌, ◌<◌, ◌≤◌, Bool, true, false, not, List, inl, inr, refl, sym, ap, ◌∙◌, arith}
+use Rattle.std.specs.Prelude.{Some, None, ◌&&◌, ◌||◌, slice_set}
 use Rattle.std.specs.FinMap as map
 use Rattle.std.specs.FinSet as set
 use Rattle.std.specs.Cmp.{nat_cmp_total}
-use Rattle.std.proofs.lemmas.Bool.{and_parts, and_from, both_ways, cases_Bool, eq-eqb, eqb-true, not-true, or_cases, or_from, or_left, or_parts, or_right}
+use Rattle.std.specs.Ordering.{nat_cmp}
+use Rattle.std.proofs.Math.Bool.{and-true}
+use Rattle.std.proofs.lemmas.Bool.{and_parts, and_right, leb-true, both_ways, cases_Bool, eq-eqb, or_from, or_parts, or_right}
 use Rattle.std.proofs.lemmas.Bool.Decides.{eqb_tells}
 use Rattle.std.proofs.lemmas.List.{length-set}
 use Rattle.frame_core.proofs.Lists.{slice_get_set_same, slice_get_set_other}
@@ -15,13 +17,12 @@ use Rattle.frame_core.specs.declared.state.FrameState.TheVariants.{Free, Huge}
 use Rattle.number_set.specs.Numbers.{Numbers}
 use Rattle.scan_core.specs.Frames.{Frames, huge_at, is_huge_state}
 use Rattle.scan_core.specs.NumberSet.{all_from}
-use Rattle.scan_core.specs.Runs as runs
 use Rattle.scan_core.specs.Runs.{with_run}
 use Rattle.fewest_core.specs.Claims.{claimed_frames}
 use Rattle.state_core.specs.Claiming.{claimed_at, dropped_at, is_claimed, run_dropped, with_apart, without_run}
 use Rattle.state_core.specs.HandingOut.{has_block}
 use Rattle.state_core.specs.ZoneState.{ZoneState, frame_count, is_free, is_held, is_handed_out, is_used}
-use Rattle.state_core.proofs.Claiming.{valid_apart, valid_claimed_at, valid_dropped_at, valid_run_dropped, claimed_may, without_run_has}
+use Rattle.state_core.proofs.Claiming.{valid_apart, valid_claimed_at, valid_dropped_at, valid_run_dropped, valid_forgotten, claimed_may, without_run_has}
 use Rattle.state_core.proofs.Entries.{contains_insert_same, contains_insert_other, contains_remove_same, contains_remove_other}
 use Rattle.state_core.proofs.Places.{unheld_frame, untaken}
 use Rattle.zone_tables.specs.Fits.{FramesFit, state_by}
@@ -29,7 +30,17 @@ use Rattle.zone_tables.specs.History.{History}
 use Rattle.zone_tables.specs.Sound.{state_of, IsSound}
 use Rattle.zone_tables.specs.declared.zone.ZoneTables.TheInside.{Inside}
 use Rattle.zone_tables.proofs.Facts.{Becomes, becomes}
+use Rattle.state_core.specs.Valid.{IsValidZone}
+use Rattle.state_core.proofs.HandingOut.{in_block, in_block_parts}
+use Rattle.zone_tables.proofs.BlockFrames.{in_run, length_with_run, off_run}
+use Rattle.zone_tables.proofs.HeldWords.{off_block}
 use Rattle.zone_tables.proofs.Placement.{state_taken}
+
+swapped : (a b : Bool) → (a && b) ≡ (b && a)
+swapped true true = refl
+swapped true false = refl
+swapped false true = refl
+swapped false false = refl
 
 -- only which frames are claimed and the states of the frames change
 module _ {W : ℕ} (z : Inside W) (v : ZoneState) (sound : IsSound z v) (view : state_of z ≡ v) where
@@ -135,7 +146,7 @@ module _ {W : ℕ} (z : Inside W) (v : ZoneState) (sound : IsSound z v) (view : 
     claim_inside : (frame : ℕ) → in_block first order frame ≡ true → set.contains (without_run v.claimed first (2 ^ order)) frame ≡ false
     claim_inside frame here = without_run_has v.claimed first (2 ^ order) frame ∙ and_right (is_claimed v frame) _ (ap not here)
 
-    run_huge : all_from (huge_at z.frames.states) first (2 ^ order) ≡ true
+    pub run_huge : all_from (huge_at z.frames.states) first (2 ^ order) ≡ true
     run_huge = eq-eqb _ _ (count_from_all (huge_at z.frames.states) first (2 ^ order) (λ frame low high. claim_huge frame (run_claim frame low high)))
 
     run_fit : FramesFit (with_run z.frames.states first (2 ^ order) Free) (run_dropped first (2 ^ order) v)
@@ -162,13 +173,31 @@ module _ {W : ℕ} (z : Inside W) (v : ZoneState) (sound : IsSound z v) (view : 
     claims_without : (claims : set.FinSet nat_cmp) → ((frame : ℕ) → set.contains claims frame ≡ (not (in_block first order frame) && set.contains z.claimed.members frame)) → claims ≡ without_run v.claimed first (2 ^ order)
     claims_without claims has = set.same_set nat_cmp_total set.nat_cmp-IsAntisymmetric _ _ (λ frame.
         (has frame ∙ ap (λ (u : ZoneState). not (in_block first order frame) && is_claimed u frame) view
-        ∙ and-comm (not (in_block first order frame)) (is_claimed v frame) ∙ sym (without_run_has v.claimed first (2 ^ order) frame)))
+        ∙ swapped (not (in_block first order frame)) (is_claimed v frame) ∙ sym (without_run_has v.claimed first (2 ^ order) frame)))
 
     pub run_holds : {frames : Frames} {claimed : Numbers} {history : History} → frames ≡ record z.frames { states = with_run z.frames.states first (2 ^ order) Free }
         → ((frame : ℕ) → set.contains claimed.members frame ≡ (not (in_block first order frame) && set.contains z.claimed.members frame)) → claimed.bound ≡ z.claimed.bound → history ≡ record z.history { round = None }
         → Becomes (record z { frames = frames; claimed = claimed; history = history }) (run_dropped first (2 ^ order) v)
     run_holds {claimed = claimed} f has bound h =
         claims_hold (with_run z.frames.states first (2 ^ order) Free) (without_run v.claimed first (2 ^ order)) (valid_run_dropped v sound.valid first (2 ^ order)) run_fit f (λ i. record { members = claims_without claimed.members has i; bound = bound i }) h
+
+  -- the latest round is forgotten
+  pub forgotten_holds : {history : History} → history ≡ record z.history { round = None } → Becomes (record z { history = history }) (record v { round = None })
+  forgotten_holds h = becomes {ideal = record z { history = record z.history { round = None } }} (λ i. record z { history = h i }) (ap (λ (u : ZoneState). record u { round = None }) view) (record {
+    valid = valid_forgotten v sound.valid;
+    orders = sound.orders;
+    cleared = sound.cleared;
+    frames = record { count = sound.frames.count; of_page = sound.frames.of_page; of_block = sound.frames.of_block; of_none = sound.frames.of_none };
+    tables = sound.tables;
+    size = sound.size;
+    marks = sound.marks;
+    claimed = sound.claimed;
+    entries = record { each = sound.entries.each };
+    words = record { count = sound.words.count; sized = sound.words.sized; each = sound.words.each };
+    notes = record { count = sound.notes.count; each = λ page note e used. (let fit = sound.notes.each page note e used in record { dirty = fit.dirty; pins = fit.pins; maps = fit.maps }) };
+    moves = record { isolated = sound.moves.isolated; moved = sound.moves.moved; back = sound.moves.back };
+    movable = record { count = sound.movable.count; each = sound.movable.each };
+  })
 
   -- unmovable pages are mapped apart from now on, or not
   pub apart_holds : (apart : Bool) → Becomes (record z { apart = apart }) (with_apart v apart)

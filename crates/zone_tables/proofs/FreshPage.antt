@@ -187,7 +187,8 @@ module _ {W : ℕ} (z : Inside W) (v : ZoneState) (client : ℕ) (address : Addr
         cleared = sound.cleared;
         tables = known.frames_same ∙ sound.tables;
         size = known.size_same ∙ sound.size;
-        marks = sound.marks; claimed = sound.claimed;
+        marks = sound.marks;
+        claimed = sound.claimed;
         frames = frames_placed v client address unmovable page frame can z.frames.states sound.frames;
         entries = entries_placed v client address unmovable page frame can z.tables.entries tables.entries sound.entries known.tables_new;
         words = words_placed v client address unmovable page frame can W (ap (λ (u : ZoneState). u.page_size) known.view) z.words sound.words;

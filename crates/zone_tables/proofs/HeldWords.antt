@@ -178,7 +178,8 @@ module _ {W : ℕ} (z : Inside W) (v : ZoneState) (sound : IsSound z v) (view : 
         cleared = length-set z.cleared first true ∙ sound.cleared;
         tables = sound.tables;
         size = sound.size;
-        marks = sound.marks; claimed = sound.claimed;
+        marks = sound.marks;
+        claimed = sound.claimed;
         frames = record { count = sound.frames.count; of_page = sound.frames.of_page; of_block = sound.frames.of_block; of_none = sound.frames.of_none };
         entries = record { each = sound.entries.each };
         words = record {

@@ -47,7 +47,8 @@ loaded_sound z v sound history client address frame word at spare = record {
   cleared = sound.cleared;
   tables = sound.tables;
   size = sound.size;
-  marks = sound.marks; claimed = sound.claimed;
+  marks = sound.marks;
+  claimed = sound.claimed;
   frames = record { count = sound.frames.count; of_page = sound.frames.of_page; of_block = sound.frames.of_block; of_none = sound.frames.of_none };
   entries = record { each = sound.entries.each };
   words = record { count = sound.words.count; sized = sound.words.sized; each = sound.words.each };
@@ -212,7 +213,8 @@ store_sound z v client address page frame word value note history known =
       cleared = sound.cleared;
       tables = sound.tables;
       size = sound.size;
-      marks = sound.marks; claimed = sound.claimed;
+      marks = sound.marks;
+      claimed = sound.claimed;
       frames = record { count = sound.frames.count; of_page = sound.frames.of_page; of_block = sound.frames.of_block; of_none = sound.frames.of_none };
       entries = record { each = sound.entries.each };
       words = stored_words z.words v sound.valid sound.words client address page frame word value known.named known.at known.small;

@@ -80,7 +80,8 @@ module _ {W : ℕ} {z : Inside W} {v : ZoneState} {page : ℕ} {entry : Record} 
         cleared = sound.cleared;
         tables = known.frames_same ∙ sound.tables;
         size = known.size_same ∙ sound.size;
-        marks = sound.marks; claimed = sound.claimed;
+        marks = sound.marks;
+        claimed = sound.claimed;
         frames = subst (λ (states : List (FrameState ℕ)). FramesFit states (noted v entry)) (sym known.states)
             (record { count = sound.frames.count; of_page = sound.frames.of_page; of_block = sound.frames.of_block; of_none = sound.frames.of_none });
         movable = known.movable;

@@ -23,7 +23,8 @@ begun_sound z v sound start here as_calm = record {
   cleared = sound.cleared;
   tables = sound.tables;
   size = sound.size;
-  marks = sound.marks; claimed = sound.claimed;
+  marks = sound.marks;
+  claimed = sound.claimed;
   frames = record { count = sound.frames.count; of_page = sound.frames.of_page; of_block = sound.frames.of_block; of_none = sound.frames.of_none };
   entries = record { each = sound.entries.each };
   words = record { count = sound.words.count; sized = sound.words.sized; each = sound.words.each };

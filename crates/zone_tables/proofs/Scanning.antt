@@ -1,13 +1,17 @@
 -- The searches of a round over the frames of a zone are those of its state.
-use Rattle.std.proofs.Common.{◌≡◌, ℕ, zero, suc, ◌/◌, ◌<◌, Bool, false, not, List, length, refl, sym, ap, ◌∙◌, arith}
-use Rattle.std.specs.Prelude.{Option, Some, None, nat_le, nat_lt, slice_get, unwrap_or, ◌&&◌, ◌||◌, if◌then◌else◌}
+use Rattle.std.proofs.Common.{◌≡◌, ℕ, ◌+◌, ◌/◌, ◌<◌, ◌≤◌, Bool, true, false, not, List, length, refl, sym, ap, ◌∙◌, arith}
+use Rattle.std.specs.Prelude.{Option, Some, None, nat_le, nat_lt, slice_get, unwrap_or, ◌&&◌, ◌||◌}
 use Rattle.std.specs.FinMap as map
 use Rattle.std.proofs.lemmas.Option.{slice_get-get_or}
-use Rattle.frame_core.proofs.Searches.{count_same, lowest_same, some_same}
-use Rattle.frame_core.specs.Below.{count_below, highest, some_below}
+use Rattle.frame_core.proofs.Searches.{count_from_same, count_same, lowest_same, some_same}
+use Rattle.frame_core.specs.Below.{count_below, count_from, highest, lowest, some_below}
 use Rattle.frame_core.specs.declared.state.FrameState.{FrameState}
 use Rattle.frame_core.specs.declared.state.FrameState.TheVariants.{Free, Holds, Source, Target, Huge}
-use Rattle.scan_core.specs.Frames.{true_at, is_holding_state, is_huge_state}
+use Rattle.fewest_core.specs.Claims.{highest_vacant, may_go, next_to_go, pages_to_go}
+use Rattle.fewest_core.specs.Evacuation.{is_in_run}
+use Rattle.frame_core.proofs.Bounds.{lowest_past}
+use Rattle.std.proofs.lemmas.Bool.{and_left, and_right, le-ltb, lt-ltb}
+use Rattle.scan_core.specs.Frames.{source_at, true_at, is_holding_state, is_huge_state}
 use Rattle.scan_core.specs.Pairs as scan
 use Rattle.scan_core.specs.declared.fingers.Fingers.{Fingers}
 use Rattle.scan_core.specs.declared.fingers.Step.TheVariants.{Pair, Met}
@@ -20,17 +24,10 @@ use Rattle.state_core.specs.Pairs.{is_marked, can_move_if_some, stays_if_some, h
 use Rattle.state_core.specs.ZoneState.{ZoneState, frame_count, is_held}
 use Rattle.zone_tables.specs.declared.zone.ZoneTables.TheInside.{Inside}
 use Rattle.zone_tables.specs.Fits.{FramesFit}
-use Rattle.zone_tables.proofs.SearchesAndCounts.{free_seen}
+use Rattle.zone_tables.proofs.SearchesAndCounts.{free_seen, highest_same}
 use Rattle.zone_tables.proofs.Tables.{holds_seen, none_seen, huge_seen, no_huge_seen, mark_seen}
 use Rattle.zone_tables.proofs.Facts.{is_sound}
 use Rattle.zone_tables.specs.Sound.{IsSound, state_of}
-
-highest_same : (p r : ℕ → Bool) (n : ℕ) → ((k : ℕ) → k < n → p k ≡ r k) → highest p n ≡ highest r n
-highest_same p r zero same = refl
-highest_same p r (suc n) same =
-    let here : p n ≡ r n = same n (omega arith) in
-    let rest : highest p n ≡ highest r n = highest_same p r n (λ k h. same k (omega (arith, h))) in
-    λ i. if here i then Some n else rest i
 
 -- the fingers of a zone are those of its state
 fingers_seen : {W : ℕ} (z : Inside W) (v : ZoneState) → state_of z ≡ v → z.fingers ≡ record { migrate = v.migrate; free = v.free }
@@ -44,6 +41,10 @@ pair_to s source target (Some other) e = let first : s ≡ source = cc in let se
 met_to : (s : ℕ) (t : Option ℕ) → Met ≡ scan.step_to s t → t ≡ None
 met_to s None e = refl
 met_to s (Some target) e = cc
+
+in_front : (a b : Bool) → (a && b) ≡ ((a && true) && b)
+in_front true b = refl
+in_front false b = refl
 
 module _ {W : ℕ} {z : Inside W} {v : ZoneState} (view : state_of z ≡ v) (invariant : IsSound z (state_of z)) where
   sound : IsSound z v
@@ -128,7 +129,7 @@ module _ {W : ℕ} {z : Inside W} {v : ZoneState} (view : state_of z ≡ v) (inv
   pub next_to_go_seen : (first size : ℕ) → first + size ≤ frame_count v → lowest (λ frame. nat_le first frame && source_at states movable frame) (first + size) ≡ next_to_go first size v
   next_to_go_seen first size within =
       lowest_same (λ frame. nat_le first frame && source_at states movable frame) (λ frame. is_in_run first size frame && may_go v frame) (first + size)
-      (λ frame h. (λ i. nat_le first frame && go_seen frame (omega (arith, h, within)) i) ∙ ap (λ b. (nat_le first frame && b) && may_go v frame) (sym (lt-ltb _ _ h)) ∙ ?)
+      (λ frame h. (λ i. nat_le first frame && go_seen frame (omega (arith, h, within)) i) ∙ in_front (nat_le first frame) (may_go v frame) ∙ ap (λ b. (nat_le first frame && b) && may_go v frame) (sym (lt-ltb _ _ h)))
       ∙ sym (lowest_past (λ frame. is_in_run first size frame && may_go v frame) (first + size) (frame_count v) within (λ frame low h. and_left _ _ (and_right (nat_le first frame) _ (le-ltb _ _ low))))
 
   abbrev fingers : Fingers

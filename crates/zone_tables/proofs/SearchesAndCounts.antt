@@ -1,11 +1,11 @@
 -- What searches and counts in the tables of a zone answer.
-use Rattle.std.proofs.Common.{◌≡◌, ℕ, ◌*◌, ◌<◌, ◌≤◌, Bool, true, false, not, List, length, refl, sym, ap, ◌∙◌, arith}
+use Rattle.std.proofs.Common.{◌≡◌, ℕ, zero, suc, ◌*◌, ◌<◌, ◌≤◌, Bool, true, false, not, List, length, refl, sym, ap, ◌∙◌, arith}
 use Rattle.std.specs.Prelude.{Option, Some, None, IsSome, IfSome, is_some, is_none, nat_eq, if◌then◌else◌, ◌&&◌, ◌||◌}
 use Rattle.std.specs.Option.{option_and_then}
 use Rattle.std.specs.FinMap.{get}
 use Rattle.std.proofs.lemmas.Option.{slice_get_past}
 use Rattle.frame_core.proofs.Searches.{some_one, lowest_same, count_same, count_from_same}
-use Rattle.frame_core.specs.Below.{lowest, count_below}
+use Rattle.frame_core.specs.Below.{lowest, highest, count_below}
 use Rattle.frame_core.specs.declared.state.FrameState.{FrameState}
 use Rattle.frame_core.specs.declared.state.FrameState.TheVariants.{Holds, Source, Target}
 use Rattle.zone_tables.specs.declared.note.PageNote.{PageNote}
@@ -14,7 +14,7 @@ use Rattle.state_core.specs.declared.placement.Placement.{Placement}
 use Rattle.state_core.specs.declared.placement.Placement.TheVariants.{At, Moving}
 use Rattle.zone_tables.specs.Fits.{state_by, FramesFit}
 use Rattle.zone_tables.specs.Sound.{state_of}
-use Rattle.state_core.specs.ZoneState.{ZoneState, frame_count, takes_up, is_used, is_held, is_free, lowest_free_frame, lowest_unused_page, is_whole as whole_block}
+use Rattle.state_core.specs.ZoneState.{ZoneState, frame_count, takes_up, is_used, is_held, is_free, highest_free_frame, lowest_free_frame, lowest_unused_page, is_whole as whole_block}
 use Rattle.scan_core.specs.Frames.{free_at, is_free_state, free_frames, is_whole, blocks_of}
 use Rattle.zone_tables.specs.Notes.{placement_of, is_in_use}
 use Rattle.zone_tables.specs.HandedOut.{order_of}
@@ -61,6 +61,18 @@ pub lowest_free_seen : (frames : List (FrameState ℕ)) (v : ZoneState) → Fram
 lowest_free_seen frames v fit =
     lowest_same (free_at frames) (is_free v) (length frames) (λ frame h. free_seen frames v fit frame (omega (arith, h, fit.count)))
     ∙ ap (lowest (is_free v)) fit.count
+
+pub highest_same : (p r : ℕ → Bool) (n : ℕ) → ((k : ℕ) → k < n → p k ≡ r k) → highest p n ≡ highest r n
+highest_same p r zero same = refl
+highest_same p r (suc n) same =
+    let here : p n ≡ r n = same n (omega arith) in
+    let rest : highest p n ≡ highest r n = highest_same p r n (λ k h. same k (omega (arith, h))) in
+    λ i. if here i then Some n else rest i
+
+pub highest_free_seen : (frames : List (FrameState ℕ)) (v : ZoneState) → FramesFit frames v → highest (free_at frames) (length frames) ≡ highest_free_frame v
+highest_free_seen frames v fit =
+    highest_same (free_at frames) (is_free v) (length frames) (λ frame h. free_seen frames v fit frame (omega (arith, h, fit.count)))
+    ∙ ap (highest (is_free v)) fit.count
 
 pub placements_seen : {W : ℕ} (z : Inside W) → get (state_of z).placement ≡ placement_of z.notes
 placements_seen z = λ i page. get_placements z.notes page i

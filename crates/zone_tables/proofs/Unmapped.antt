@@ -125,7 +125,8 @@ module _ {W : ℕ} (z : Inside W) (v : ZoneState) (client : ℕ) (address : Addr
           cleared = sound.cleared;
           tables = known.frames_same ∙ sound.tables;
           size = known.size_same ∙ sound.size;
-          marks = sound.marks; claimed = sound.claimed;
+          marks = sound.marks;
+          claimed = sound.claimed;
           frames = frames_fit v gone page (Some (At frame)) None gets z.frames.states (slice_set z.frames.states frame Free) sound.frames (record {
             count = length-set z.frames.states frame Free;
             taken = λ g state e. cc;

@@ -1,6 +1,6 @@
 //! Claims: free frames that are kept for a block, and what a step of an evacuation looks for.
 
-ghost use Rattle.std.specs.Prelude.{◌≡◌, ◌^◌, ◌<◌, true, IsTrue};
+ghost use Rattle.std.specs.Prelude.{◌≡◌, ◌^◌, ◌<◌, true, None, IsTrue};
 ghost use Rattle.fewest_core.specs.Claims.{claimed_frames, highest_vacant, next_to_go, pages_to_go};
 ghost use Rattle.state_core.specs.Claiming.{claimed_at, dropped_at, is_claimed, run_dropped};
 ghost use Rattle.state_core.specs.HandingOut.{has_block};
@@ -25,6 +25,14 @@ impl<const W: usize> ZoneTables<W> {
         ensures { result ≡ claimed_frames first (2 ^ order) self.now }
     {
         self.claimed.count_run(first.get(), order.get())
+    }
+
+    /// Forgets how the latest round began, so that it isn't quiet any more. It may go on.
+    pub fn forget_round(&mut self)
+        ensures step { self.new ≡ record self.old { round = None } }
+        ensures valid { IsValidZone self.new }
+    {
+        self.history.forget_round();
     }
 
     /// Claims a free frame.

@@ -8,7 +8,7 @@ ghost use Rattle.state_core.specs.Calls.{answer_of, is_access};
 ghost use Rattle.state_core.specs.Clear.{IsClear};
 ghost use Rattle.state_core.specs.HandingOut.{is_run, lowest_run};
 ghost use Rattle.state_core.specs.Pairs.{HaveMet};
-ghost use Rattle.state_core.specs.ZoneState.{lowest_free_frame, lowest_unused_page};
+ghost use Rattle.state_core.specs.ZoneState.{frame_for, lowest_unused_page};
 ghost use Rattle.state_core.specs.declared.call.ZoneCall.TheVariants as call;
 ghost use Rattle.zone_core.specs.Made.{IsMade};
 
@@ -55,8 +55,8 @@ impl<const W: usize> BareZone<W> {
         }
     }
 
-    /// Makes an address name a fresh page in the lowest free frame, and answers the number of the page and this frame. The page holds
-    /// zeros and has no pin.
+    /// Makes an address name a fresh page in the lowest free frame, or in the highest where the page is unmovable and such pages are mapped
+    /// apart, and answers the number of the page and this frame. The page holds zeros and has no pin.
     ///
     /// Refused as Range where the zone has no such address, as JournalFull, Occupied or NoFrame.
     #[inline(always)]
@@ -68,7 +68,7 @@ impl<const W: usize> BareZone<W> {
     ) -> Result<(PageNo, FrameNo), ZoneError>
         ensures made { IsMade {W = W} (call.Map address unmovable) client self.old self.new result }
         ensures page { IfOk result (λ mapped. lowest_unused_page self.old ≡ Some mapped.0) }
-        ensures frame { IfOk result (λ mapped. lowest_free_frame self.old ≡ Some mapped.1) }
+        ensures frame { IfOk result (λ mapped. frame_for self.old unmovable ≡ Some mapped.1) }
     {
         if !self.tables.has_address(&address) {
             return Err(ZoneError::Range);
@@ -79,14 +79,14 @@ impl<const W: usize> BareZone<W> {
         if self.tables.names_page(&address) {
             return Err(ZoneError::Occupied);
         }
-        let Some(frame) = self.tables.find_free() else {
+        let Some(frame) = self.tables.frame_for(unmovable) else {
             return Err(ZoneError::NoFrame);
         };
         let page = self.tables.place(client, address, unmovable, frame);
         Ok((page, frame))
     }
 
-    /// Makes an address name a fresh page in a given frame, as `map` does in the lowest, and answers the number of the page.
+    /// Makes an address name a fresh page in a given frame, as `map` does in one of its own choice, and answers the number of the page.
     ///
     /// Refused as Range where the zone has no such address or no such frame, as JournalFull, as Occupied, or as NoFrame where the frame isn't free.
     #[inline(always)]

@@ -7,8 +7,11 @@ use Rattle.zone_tables.proofs.BlockOrders.{taken_counted, taken_few}
 use Rattle.zone_tables.proofs.handed_out.HandedOut.take.Goals as goal
 
 pub overflow_add-self : goal.overflow_add-self
-overflow_add-self c = omega (arith, taken_few c.self.inside c.self.invariant c.args.first c.args.order
-    (subst (λ (os : List (Option ℕ)). c.args.first < length os) (sym c.self.view_is) c.requires.within) (subst (λ (os : List (Option ℕ)). order_of os c.args.first ≡ None) (sym c.self.view_is) c.requires.none))
+overflow_add-self c = omega (
+  arith,
+  taken_few c.self.inside c.self.invariant c.args.first c.args.order
+      (subst (λ (os : List (Option ℕ)). c.args.first < length os) (sym c.self.view_is) c.requires.within) (subst (λ (os : List (Option ℕ)). order_of os c.args.first ≡ None) (sym c.self.view_is) c.requires.none),
+)
 
 pub invariant_of-self : goal.invariant_of-self
 invariant_of-self c =

@@ -1,4 +1,5 @@
 use Rattle.std.proofs.Common.{◌∙◌, ap, arith}
+use Rattle.std.specs.FinSet as set
 use Rattle.state_core.specs.Claiming.{dropped_at}
 use Rattle.zone_tables.proofs.Claimed.{claim_huge, dropped_holds}
 use Rattle.zone_tables.proofs.Facts.{is_sound, Becomes}
@@ -13,7 +14,7 @@ pub remove-requires : goal.remove-requires
 remove-requires g c = let sound = is_sound c.self.view_is c.self.invariant in omega (arith, sound.claimed, sound.valid.blocks.claims c.args.frame c.requires, c.get.ensures.value)
 
 dropped : {g : Over} (c : After-forget_round g) → Becomes (record c.self.inside { frames = c.release_frame.new.self; claimed = c.remove.new.self; history = c.forget_round.new.self }) (dropped_at c.args.self.now c.args.frame)
-dropped c = dropped_holds c.self.inside c.args.self.now (is_sound c.self.view_is c.self.invariant) c.self.view_is c.args.frame c.requires c.release_frame.ensures.state ? c.forget_round.ensures
+dropped c = dropped_holds c.self.inside c.args.self.now (is_sound c.self.view_is c.self.invariant) c.self.view_is c.args.frame c.requires c.release_frame.ensures.state (c.remove.ensures ∙ ap (λ k. record c.self.inside.claimed { members = set.remove c.self.inside.claimed.members k }) c.get.ensures.value) c.forget_round.ensures
 
 pub invariant_of-self : goal.invariant_of-self
 invariant_of-self g c = (dropped c).0
