@@ -99,7 +99,8 @@ fn open_memory<const W: usize>(
     Ok((frames, tables, words))
 }
 
-/// Which blocks are handed out, whether each of them is clear of words of pages, which pageblocks are marked, and which frames are claimed.
+/// Which blocks are handed out, whether each of them is clear of words of pages, which pageblocks are marked, and which frames are
+/// claimed.
 fn open_blocks(
     alloc: Global,
     blocks: u32,
