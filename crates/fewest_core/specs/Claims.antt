@@ -46,15 +46,19 @@ pages_gone first size z (suc n) =
     let before = pages_gone first size z n in
     gone before (next_to_go first size before) (highest_vacant before)
 
--- the zone after a step with at most so many pages: the free frames of the run are claimed, and so are those that the pages leave
+-- how many pages a step with at most so many moves, where there are frames for them
+abbrev pub step_pages : ℕ → ℕ → ZoneState → ℕ → ℕ
+step_pages first size z most = min most (pages_to_go first size z)
+
+-- the zone after such a step: the free frames of the run are claimed, and so are those that the pages leave
 abbrev pub stepped : ℕ → ℕ → ZoneState → ℕ → ZoneState
-stepped first size z most = pages_gone first size (run_claimed first size z) most
+stepped first size z most = pages_gone first size (run_claimed first size z) (step_pages first size z most)
 
 -- why a step is refused, if it is
 abbrev pub step_refusal : ZoneState → ℕ → ℕ → ℕ → Option ZoneError
 step_refusal z first order most =
     if not (has_block z order first) then Some Range
-    else if not (has_room_for_moves z (min most (pages_to_go first (2 ^ order) z))) then Some JournalFull
+    else if not (has_room_for_moves z (step_pages first (2 ^ order) z most)) then Some JournalFull
     else None
 
 -- how many frames of a run are claimed

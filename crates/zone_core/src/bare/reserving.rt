@@ -265,7 +265,7 @@ fn lower(one: Option<u32>, other: Option<u32>) -> Option<u32>
 }
 
 /// The frame with a number.
-fn frame_no(number: u32) -> FrameNo
+pub(crate) fn frame_no(number: u32) -> FrameNo
     requires { number < 16777216 }
     ensures { result ≡ number }
 {
