@@ -73,7 +73,7 @@ module _ (z w : ZoneState) (seen : IsSeenAs z w) where
       ∙ lowest_same (λ page. stands_in (map.get z.placement page) frame) (λ page. stands_in (map.get w.placement page) frame) (frame_count w) (λ page h. seen.stands page frame low high)
 
   held_same : (frame : ℕ) → is_held z frame ≡ is_held w frame
-  held_same frame = λ i. some_below (λ first. covers (map.get (seen.handed_out i) first) first frame) (512 * seen.blocks i)
+  held_same frame = λ i. some_below (λ first. covers (map.get (seen.handed_out i) first) first frame) (512 * seen.blocks i) || set.contains (seen.claimed i) frame
 
   marked_same : (frame : ℕ) → is_marked z frame ≡ is_marked w frame
   marked_same frame = ap (λ m. set.contains m (frame / 512)) seen.marked

@@ -11,4 +11,5 @@ pub mod OneThread
 pub mod Outcome
 pub mod Reserving
 pub mod Seats
+pub mod Stepping
 pub mod ZoneIdentity

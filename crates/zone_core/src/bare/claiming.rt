@@ -1,16 +1,17 @@
 //! Evacuation in steps: a run is claimed, emptied some pages at a time while other calls go on, and handed out.
 
-ghost use Rattle.std.specs.Prelude.{◌≡◌, ◌+◌, ◌/◌, ◌^◌, ◌<◌, ◌≤◌, true, false, Some, None, if◌then◌else◌, min, IfOk, OnOk, OnErr, IsTrue};
+ghost use Rattle.std.specs.Prelude.{◌≡◌, ◌+◌, ◌/◌, ◌^◌, ◌≤◌, ℕ, true, false, Some, None, if◌then◌else◌, IfOk, OnOk, OnErr, IsTrue};
 ghost use Rattle.std.specs.FinMap as map;
 ghost use Rattle.std.specs.Result.{result_err};
-ghost use Rattle.fewest_core.specs.Claims.{claim_refusal, claimed_frames, claimed_taken, drop_refusal, pages_to_go, step_refusal, stepped, take_claimed_refusal};
-ghost use Rattle.fewest_core.specs.Evacuation.{is_in_run, IsCarriedOut};
+ghost use Rattle.fewest_core.specs.Claims.{claim_refusal, claimed_frames, claimed_taken, drop_refusal, gone, highest_vacant, next_to_go, pages_gone, step_refusal, stepped, take_claimed_refusal};
+ghost use Rattle.fewest_core.specs.Evacuation.{has_room_for_moves, is_in_run, IsCarriedOut};
 ghost use Rattle.fewest_core.specs.FewestMoves.{cost};
 ghost use Rattle.frame_core.specs.Moves.{moved};
 ghost use Rattle.state_core.specs.Claiming.{is_claimed, run_claimed, run_dropped, with_apart};
 ghost use Rattle.state_core.specs.HandingOut.{has_block};
 ghost use Rattle.state_core.specs.Valid.{IsValidZone};
-ghost use Rattle.state_core.specs.ZoneState.{frame_count, is_free};
+ghost use Rattle.state_core.specs.ZoneState.{is_free};
+ghost use Rattle.zone_core.specs.Stepping.{IsStepping};
 ghost use Rattle.zone_core.specs.ZoneIdentity.{HasIdentity};
 
 use crate::bare::BareZone;
@@ -81,12 +82,12 @@ impl<const W: usize> BareZone<W> {
         if !self.tables.has_block(first, order) {
             return Err(ZoneError::Range);
         }
-        let pages = self.tables.pages_to_go(first, order).min(most);
+        let pages = most.min(self.tables.pages_to_go(first, order));
         if !self.tables.has_room_for_moves(pages) {
             return Err(ZoneError::JournalFull);
         }
         self.claim_free(first, order);
-        Ok(self.move_out(first, order, most))
+        Ok(self.move_out(first, order, pages))
     }
 
     /// How many frames of a run are claimed, or none where no block of this order can begin at the frame.
@@ -138,13 +139,7 @@ impl<const W: usize> BareZone<W> {
         if !self.tables.has_block(first, order) {
             return Err(ZoneError::Range);
         }
-        self.tables.forget_round();
-        for number in first.get()..first.get() + order.frames() {
-            let frame = frame_no(number);
-            if self.tables.is_claimed(frame) {
-                self.tables.drop_claim(frame);
-            }
-        }
+        self.drop_claims(first, order);
         Ok(())
     }
 
@@ -155,11 +150,69 @@ impl<const W: usize> BareZone<W> {
         ensures valid { IsValidZone self.new }
     {
         self.tables.forget_round();
-        for number in first.get()..first.get() + order.frames() {
-            let frame = frame_no(number);
+        for offset in 0..order.frames() {
+            let frame = frame_no(first.get() + offset);
             if self.tables.is_free(frame) {
                 self.tables.claim(frame);
             }
         }
+    }
+
+    /// Drops the claims of the frames of a run.
+    fn drop_claims(&mut self, first: FrameNo, order: Order)
+        requires { IsTrue (has_block self.old order first) }
+        ensures dropped { self.new ≡ run_dropped first (2 ^ order) self.old }
+        ensures valid { IsValidZone self.new }
+    {
+        self.tables.forget_round();
+        for offset in 0..order.frames() {
+            let frame = frame_no(first.get() + offset);
+            if self.tables.is_claimed(frame) {
+                self.tables.drop_claim(frame);
+            }
+        }
+    }
+
+    /// Moves so many pages out of a run, no frame of which is free, or as many as there are frames for, and claims the frames that they
+    /// leave. Answers how many went.
+    fn move_out(&mut self, first: FrameNo, order: Order, pages: u32) -> u32
+        requires shut { (frame : ℕ) → is_in_run first (2 ^ order) frame ≡ true → is_free self.old frame ≡ false }
+        requires block { IsTrue (has_block self.old order first) }
+        requires room { IsTrue (has_room_for_moves self.old pages) }
+        ensures gone { self.new ≡ pages_gone first (2 ^ order) self.old pages }
+        ensures stepping { IsStepping first (2 ^ order) self.old self.new result }
+        ensures most { result ≤ pages }
+        ensures valid { IsValidZone self.new }
+    {
+        let mut moved = 0;
+        while moved < pages && self.move_one_out(first, order) {
+            moved += 1;
+        }
+        moved
+    }
+
+    /// Moves the lowest page that may go out of a run, no frame of which is free, if there is such a page and a frame for it, and claims
+    /// the frame that it leaves. Answers whether one went.
+    fn move_one_out(&mut self, first: FrameNo, order: Order) -> bool
+        requires shut { (frame : ℕ) → is_in_run first (2 ^ order) frame ≡ true → is_free self.old frame ≡ false }
+        requires block { IsTrue (has_block self.old order first) }
+        requires room { IsTrue (has_room_for_moves self.old 1) }
+        ensures gone { self.new ≡ gone self.old (next_to_go first (2 ^ order) self.old) (highest_vacant self.old) }
+        ensures stays { result ≡ false → self.new ≡ self.old }
+        ensures stepping { result ≡ true → IsStepping first (2 ^ order) self.old self.new 1 }
+        ensures valid { IsValidZone self.new }
+    {
+        let Some(source) = self.tables.next_to_go(first, order) else {
+            return false;
+        };
+        let Some(target) = self.tables.highest_vacant() else {
+            return false;
+        };
+        let Some(page) = self.tables.holder(source) else {
+            unreachable!();
+        };
+        self.tables.move_page(page, source, target);
+        self.tables.claim(source);
+        true
     }
 }
