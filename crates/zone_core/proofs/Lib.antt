@@ -1,6 +1,7 @@
 pub mod Alone
 pub mod ByHand
 pub mod Calls
+pub mod Claims
 mod Clearing
 pub mod Coming
 pub mod Emptying
@@ -24,4 +25,5 @@ pub mod Scanning
 pub mod Seated
 pub mod StaysBooked
 pub mod Steps
+mod Stepping
 mod WordsAtOnce

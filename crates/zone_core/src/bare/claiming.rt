@@ -61,12 +61,7 @@ impl<const W: usize> BareZone<W> {
     ///
     /// Refused as Range where no block of this order can begin at the frame. Else refused as JournalFull unless the journal has two places
     /// for each page that the step might move, besides one for each page that is moving.
-    pub fn empty_some(
-        &mut self,
-        first: FrameNo,
-        order: Order,
-        most: u32,
-    ) -> Result<u32, ZoneError>
+    pub fn empty_some(&mut self, first: FrameNo, order: Order, most: u32) -> Result<u32, ZoneError>
         ensures refused { result_err result ≡ step_refusal self.old first order most }
         ensures err { OnErr result (self.new ≡ self.old) }
         ensures ok { OnOk result (self.new ≡ stepped first (2 ^ order) self.old most) }
@@ -179,6 +174,7 @@ impl<const W: usize> BareZone<W> {
         requires shut { (frame : ℕ) → is_in_run first (2 ^ order) frame ≡ true → is_free self.old frame ≡ false }
         requires block { IsTrue (has_block self.old order first) }
         requires room { IsTrue (has_room_for_moves self.old pages) }
+        requires valid { IsValidZone self.old }
         ensures gone { self.new ≡ pages_gone first (2 ^ order) self.old pages }
         ensures stepping { IsStepping first (2 ^ order) self.old self.new result }
         ensures most { result ≤ pages }
