@@ -273,8 +273,8 @@ uint32_t compactd_close(compactd_pool *pool) COMPACTD_NOT_NULL;
 /* Pages and addresses. Each call but the first is made for a client. Its number is stored in the record and has no other meaning. */
 
 /* Sets whether compactd_map puts unmovable pages apart from the others: into the highest free frame and not into the lowest. So they
- * gather at the top, and fewer pageblocks below have one. A pool that was opened doesn't. Pages that are mapped already stay. The call is
- * unrecorded.
+ * gather at the top, and fewer pageblocks below have one. In a pool that was just opened they go to the lowest too. Pages that are mapped
+ * already stay. The call is unrecorded.
  * Refused: CLOSED. */
 uint32_t compactd_set_apart(compactd_pool *pool, compactd_bool apart) COMPACTD_CALL;
 

@@ -149,7 +149,8 @@ impl Pool {
     }
 
     /// Sets whether [`Pool::map`] puts unmovable pages apart from the others: into the highest free frame and not into the lowest. So they
-    /// gather at the top, and fewer pageblocks below have one. A pool that was opened doesn't. Pages that are mapped already stay.
+    /// gather at the top, and fewer pageblocks below have one. In a pool that was just opened they go to the lowest too. Pages that are
+    /// mapped already stay.
     ///
     /// ```
     /// # use compactd::{Address, Error, PageSize, Pool};

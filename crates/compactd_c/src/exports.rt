@@ -150,7 +150,7 @@ pub extern "C" fn compactd_close(alloc: Global, pool: &mut Pool) -> u32
     }
 }
 
-/// Maps unmovable pages apart from the others from now on, each to the highest free frame; or no longer, as in a pool that was opened.
+/// Maps unmovable pages apart from the others from now on, each to the highest free frame; or no longer, as in a pool that was just opened.
 ///
 /// Refused as CLOSED.
 #[unsafe(no_mangle)]
