@@ -4,14 +4,14 @@ ghost use Rattle.std.specs.Prelude.{◌≡◌, ◌+◌, ◌<◌, ◌≤◌, ◌�
 ghost use Rattle.std.specs.FinMap as map;
 ghost use Rattle.std.specs.Result.{result_err};
 ghost use Rattle.fewest_core.specs.Claims.{claim_refusal, claimed_frames, claimed_taken, drop_refusal, step_refusal, stepped, take_claimed_refusal};
-ghost use Rattle.fewest_core.specs.Evacuation.{evacuate_refusal, evacuated, IsCarriedFrom, IsCarriedOut};
+ghost use Rattle.fewest_core.specs.Evacuation.{evacuate_refusal, evacuated, is_in_run, IsCarriedFrom, IsCarriedOut};
 ghost use Rattle.fewest_core.specs.FewestMoves.{cost, least};
 ghost use Rattle.fewest_core.specs.Reservation.{is_in_runs, reserve_refusal, reserved, ArePicked};
 ghost use Rattle.frame_core.specs.Moves.{moved, out};
 ghost use Rattle.frame_core.specs.declared.record.Cause.{Cause};
 ghost use Rattle.state_core.specs.Access.{access_refusal, value_at, loaded, stored};
 ghost use Rattle.state_core.specs.Bulk.{bulk_refusal, values_at, loaded_all, stored_all};
-ghost use Rattle.state_core.specs.Claiming.{run_claimed, run_dropped, with_apart};
+ghost use Rattle.state_core.specs.Claiming.{is_claimed, run_claimed, run_dropped, with_apart};
 ghost use Rattle.state_core.specs.Contents.{contents_refusal, contents_from, contents_written};
 ghost use Rattle.state_core.specs.Ending.{committed, ended_as, put_back_to_source};
 ghost use Rattle.state_core.specs.HandingOut.{is_run};
@@ -22,7 +22,7 @@ ghost use Rattle.state_core.specs.Opening.{IsAllowed, IsOpenable, opened_sized, 
 ghost use Rattle.state_core.specs.Packed.{IsPacked};
 ghost use Rattle.state_core.specs.Pairs.{HaveMet, next_pair};
 ghost use Rattle.state_core.specs.Rounds.{round_begun};
-ghost use Rattle.state_core.specs.ZoneState.{is_quiet};
+ghost use Rattle.state_core.specs.ZoneState.{is_free, is_quiet};
 ghost use Rattle.zone_core.specs.Counted.{IsCounted};
 ghost use Rattle.zone_core.specs.FreeRuns.{fragmentation, maximal_runs};
 ghost use Rattle.zone_core.specs.NextMoving.{IsNextMoving, IsNoneMoving};
@@ -473,6 +473,7 @@ impl Zone {
         ensures err { OnErr result (self.new ≡ self.old) }
         ensures pages { IfOk result (λ pages. pages ≡ cost self.old (2 ^ order) (first / 2 ^ order)) }
         ensures ok { OnOk result (self.new ≡ run_claimed first (2 ^ order) self.old) }
+        ensures shut { OnOk result ((frame : ℕ) → is_in_run first (2 ^ order) frame ≡ true → is_free self.new frame ≡ false) }
     {
         let (first, order) = block(first, order).ok_or(ZoneError::Range)?;
         match &mut self.kind {
@@ -494,6 +495,9 @@ impl Zone {
         ensures moved { IfOk result (λ step. moved self.new.records ≡ moved self.old.records + step.moved) }
         ensures most { IfOk result (λ step. step.moved ≤ most) }
         ensures unclaimed { IfOk result (λ step. claimed_frames first (2 ^ order) self.new + step.unclaimed ≡ 2 ^ order) }
+        ensures shut { OnOk result ((frame : ℕ) → is_in_run first (2 ^ order) frame ≡ true → is_free self.new frame ≡ false) }
+        ensures claims { OnOk result ((frame : ℕ) → is_claimed self.old frame ≡ true → is_claimed self.new frame ≡ true) }
+        ensures carried { OnOk result (IsCarriedOut first (2 ^ order) self.old self.new) }
     {
         let (first, order) = block(first, order).ok_or(ZoneError::Range)?;
         match &mut self.kind {
@@ -507,6 +511,7 @@ impl Zone {
         ensures refused { result_err result ≡ ranged (is_block first order) (take_claimed_refusal self.old first order) }
         ensures err { OnErr result (self.new ≡ self.old) }
         ensures ok { OnOk result (self.new ≡ claimed_taken self.old first order) }
+        ensures taken { OnOk result (map.get self.new.handed_out first ≡ Some order) }
     {
         let (first, order) = block(first, order).ok_or(ZoneError::Range)?;
         match &mut self.kind {
@@ -718,6 +723,9 @@ fn empty_some<const W: usize>(
     ensures moved { IfOk result (λ step. moved zone.new.records ≡ moved zone.old.records + step.moved) }
     ensures most { IfOk result (λ step. step.moved ≤ most) }
     ensures unclaimed { IfOk result (λ step. claimed_frames first (2 ^ order) zone.new + step.unclaimed ≡ 2 ^ order) }
+    ensures shut { OnOk result ((frame : ℕ) → is_in_run first (2 ^ order) frame ≡ true → is_free zone.new frame ≡ false) }
+    ensures claims { OnOk result ((frame : ℕ) → is_claimed zone.old frame ≡ true → is_claimed zone.new frame ≡ true) }
+    ensures carried { OnOk result (IsCarriedOut first (2 ^ order) zone.old zone.new) }
 {
     let moved = zone.empty_some(first, order, most)?;
     let Some(claimed) = zone.claimed_frames(first, order) else {
