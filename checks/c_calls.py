@@ -212,8 +212,13 @@ class Chooser:
     evacuate = give_order
 
     def claim(self):
-        self.run = self.give_order()
+        """Of some runs the first one that is open, where one is."""
+        some = [self.give_order() for _ in range(20)]
+        self.run = next((run for run in some if self.is_open(*run)), some[0])
         return self.run
+
+    def is_open(self, first, order):
+        return 3 <= order <= 9 and first + 2**order <= self.frames and self.zone.cost(first, 2**order) is not None
 
     def take_claimed(self):
         return self.run if self.chance.random() < 0.7 else self.give_order()

@@ -105,7 +105,7 @@ enum compactd_refusal {
     COMPACTD_PIN_FULL = 8,      /* the page has 255 pins already */
     COMPACTD_NOT_PINNED = 9,    /* the page has no pin */
     COMPACTD_PINNED = 10,       /* the page has a pin and this is its last address */
-    COMPACTD_NO_BLOCK = 11,     /* no block of this order has only free frames, or the run can't be emptied */
+    COMPACTD_NO_BLOCK = 11,     /* no block of this order has only free frames, or the run can't be emptied or isn't claimed as a whole */
     COMPACTD_NOT_HUGE = 12,     /* no block of this order that begins at this frame is handed out */
     COMPACTD_STRANGER = 13,     /* no such page is moving in this pool, or its words differ */
     COMPACTD_MEMORY = 14,       /* there isn't enough memory */
@@ -133,7 +133,7 @@ COMPACTD_IN_HEADER const char *compactd_refusal_text(uint32_t refusal)
     case COMPACTD_PIN_FULL: return "the page has 255 pins already";
     case COMPACTD_NOT_PINNED: return "the page has no pin";
     case COMPACTD_PINNED: return "the page has a pin and this is its last address";
-    case COMPACTD_NO_BLOCK: return "no block of this order has only free frames, or the run can't be emptied";
+    case COMPACTD_NO_BLOCK: return "no block of this order has only free frames, or the run can't be emptied or isn't claimed as a whole";
     case COMPACTD_NOT_HUGE: return "no block of this order that begins at this frame is handed out";
     case COMPACTD_STRANGER: return "no such page is moving in this pool, or its words differ";
     case COMPACTD_MEMORY: return "there isn't enough memory";
