@@ -1,10 +1,12 @@
-/* Requests for huge blocks in a pool that lives, from C, by what is done where no block is free: the policies.
+/* Requests for huge blocks in a pool that lives, from C, by what is done where no block is free, and by where unmovable pages are mapped:
+ * the policies.
  *
  * - nothing;
  * - a full round: compactd_compact;
  * - a round that stops: compactd_move_pages in slices of 32 pages until there is a block. It goes on where the one before stopped; where
  *   its scanners meet, one more is begun;
- * - a reservation: compactd_reserve, of one block.
+ * - a reservation: compactd_reserve, of one block;
+ * - a reservation, unmovable pages apart: the same in a pool where compactd_set_apart was called when it was opened.
  *
  * The pool has 2^18 frames, twice as many addresses, and at first a page in each frame. There are two waves. In each, pages are unmapped at
  * random until 70 % of the frames hold one. Then 120 blocks are asked for, seven of ten of order 9, the others of orders 3 to 5. Before
@@ -45,6 +47,7 @@ struct block {
 struct policy {
     const char *name;
     int (*find)(struct block *block); /* where no block is free */
+    compactd_bool apart; /* whether unmovable pages are mapped apart */
 };
 
 static compactd_pool pool;
@@ -263,7 +266,7 @@ static void make_wave(const struct policy *policy)
     map_up_to(MOST_PAGES);
 }
 
-static void open_pool(void)
+static void open_pool(compactd_bool apart)
 {
     uint32_t address, refusal = compactd_open_sized(&pool, words, PAGEBLOCKS, SPACES, VPAGES, 0);
 
@@ -271,6 +274,7 @@ static void open_pool(void)
         fprintf(stderr, "the pool isn't opened: %s\n", compactd_refusal_text(refusal));
         exit(1);
     }
+    need(compactd_set_apart(&pool, apart) == COMPACTD_OK);
     for (address = 0; address < ADDRESSES; address++)
         addresses[address] = places[address] = address;
     pages = moved = 0;
@@ -281,7 +285,7 @@ static void measure(const struct policy *policy, uint64_t seed)
     uint32_t wave;
 
     random_state = seed;
-    open_pool();
+    open_pool(policy->apart);
     map_up_to(FRAMES);
     for (wave = 0; wave < WAVES; wave++)
         make_wave(policy);
@@ -292,7 +296,11 @@ static void measure(const struct policy *policy, uint64_t seed)
 int main(int count, char **arguments)
 {
     static const struct policy policies[] = {
-        {"nothing", do_nothing}, {"full round", make_full_round}, {"round that stops", make_round_that_stops}, {"reservation", reserve}
+        {"nothing", do_nothing, 0},
+        {"full round", make_full_round, 0},
+        {"round that stops", make_round_that_stops, 0},
+        {"reservation", reserve, 0},
+        {"reservation, unmovable pages apart", reserve, 1},
     };
     size_t at;
 

@@ -1,4 +1,4 @@
-"""How often there is a huge block in a pool that lives, how many pages are moved for it, and how long a request takes, by four policies.
+"""How often there is a huge block in a pool that lives, how many pages are moved for it, and how long a request takes, by five policies.
 
     python3 bench/c_churn.py [--words WORDS] [--svg FILE] [RUNS]
 
@@ -29,13 +29,14 @@ Result = collections.namedtuple("Result", "got pages median high")
 COLORS = {policy: color for policy, (color, _, _) in c_reserve.DRAWN.items()}
 DRAWN = {
     "nothing": ("#24292f", "nothing", 26),
-    "full round": (COLORS["full round"], "full round", 116),
-    "round that stops": (COLORS["round that stops"], "round that stops at a block", 222),
-    "reservation": (COLORS["reservation"], "reservation of one block", 436),
+    "full round": (COLORS["full round"], "full round", 98),
+    "round that stops": (COLORS["round that stops"], "round that stops", 182),
+    "reservation": (COLORS["reservation"], "reservation", 302),
+    "reservation, unmovable pages apart": ("#009e73", "reservation, unmovable pages apart", 398),
 }
 PAGES = {10: "10", 100: "100", 1_000: "1,000", 10_000: "10,000", 100_000: ""}
 TIMES = {1: "1 µs", 1_000: "1 ms", 1_000_000: "1 s"}
-HEIGHT, GROUP = 420, 88
+HEIGHT, GROUP = 477, 107
 
 
 def requests(program, words, unmovable, runs):
@@ -103,8 +104,8 @@ def panel(found, head, ticks, row):
     yield from c_reserve.scale(c_reserve.TOP + GROUP * len(UNMOVABLE) - 14, ticks)
     for at, unmovable in enumerate(UNMOVABLE):
         y = c_reserve.TOP + GROUP * at
-        yield c_reserve.text(f"{unmovable} %", 0, y + c_reserve.ROW + 4)
-        yield c_reserve.text("unmovable", 0, y + c_reserve.ROW + 20)
+        yield c_reserve.text(f"{unmovable} %", 0, y + 2 * c_reserve.ROW - 4)
+        yield c_reserve.text("unmovable", 0, y + 2 * c_reserve.ROW + 12)
         for policy_at, (policy, (color, _, _)) in enumerate(DRAWN.items()):
             yield from row(found[unmovable, policy], color, y + c_reserve.ROW * policy_at)
 

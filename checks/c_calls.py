@@ -1,14 +1,14 @@
 """Random calls of the library for C are answered as by the machine of `checks/machine.py`.
 
 A million calls are made through `libcompactd.so` and beside them on the machine, with pages of both sizes, with a journal and without one,
-among them rounds, slices of rounds, pages that are moved by hand, runs that are emptied, and up to 4 blocks that are reserved. Most are made
-on pools of 1 to 8 pageblocks, and 100,000 on pools of 9 to 513, of which some are filled with blocks but for a few pageblocks at the top. Half
-of the pools have random numbers of spaces and of virtual pages, and their first and last addresses are among those of the calls. 100,000 more
-calls are made on one pool of 262,144 frames and 16,777,216 addresses: nine in ten are about a few of them, the others about any. After each
-call the number of its refusal is compared, and what it tells; where it is refused, what it would have told has to be untouched. The reserved
-words of a structure have to be 0 once a call has filled it, and are random in those that a call is given. Numbers are also out of their
-ranges. All refusals come up but those of a pool that is closed, open already or can't have its memory, which `checks/c_exports.py` tries. At
-the end the records of each pool are compared too."""
+among them rounds, slices of rounds, pages that are moved by hand, runs that are emptied at once or claimed and emptied in steps, and up to 4
+blocks that are reserved. Most are made on pools of 1 to 8 pageblocks, and 100,000 on pools of 9 to 513, of which some are filled with blocks
+but for a few pageblocks at the top. Half of the pools have random numbers of spaces and of virtual pages, and their first and last addresses
+are among those of the calls. 100,000 more calls are made on one pool of 262,144 frames and 16,777,216 addresses: nine in ten are about a few
+of them, the others about any. After each call the number of its refusal is compared, and what it tells; where it is refused, what it would
+have told has to be untouched. The reserved words of a structure have to be 0 once a call has filled it, and are random in those that a call
+is given. Numbers are also out of their ranges. All refusals come up but those of a pool that is closed, open already or can't have its
+memory, which `checks/c_exports.py` tries. At the end the records of each pool are compared too."""
 
 import collections
 import ctypes
@@ -100,6 +100,7 @@ ARGUMENTS = {
     "open_journal": [u32, u32, u32],
     "open_sized": [u32, u32, u32, u32, u32],
     "close": [],
+    "set_apart": [flag],
     "map": [u32, u32, u32, flag, told(u32)],
     "map_at": [u32, u32, u32, flag, u32],
     "load": [u32, u32, u32, u32, told(u64)],
@@ -128,6 +129,10 @@ ARGUMENTS = {
     "begin_round": [],
     "move_pages": [u32, told(u32), told(u32)],
     "evacuate": [u32, u32, told(u32)],
+    "claim": [u32, u32, told(u32)],
+    "empty_some": [u32, u32, u32, told(u32), told(u32)],
+    "take_claimed": [u32, u32],
+    "drop_claim": [u32, u32],
     "reserve": [u32, told(u32), size, told(u32)],
     "isolate": [told(MovingPage), told(u64), size],
     "commit": [told(MovingPage), told(u64), size, told(byte)],
@@ -150,6 +155,7 @@ class Chooser:
         self.page_words, self.frames, self.blocks = zone.page_words, zone.size, zone.blocks
         self.pages = few(chance, chance.choice([20, 200, 4000]), zone.pages_of_a_space)
         self.spaces = few(chance, chance.choice([1, 2, 8]), zone.spaces)
+        self.run = 0, 3  # the first frame and the order of the latest claim
 
     def number(self, count, limit=None, among=None):
         """A number below a count, of those that are given; and once in 200 times the count, the limit of its range or a number far beyond
@@ -167,6 +173,9 @@ class Chooser:
 
     def is_unmovable(self):
         return self.chance.random() < 0.05
+
+    def set_apart(self):
+        return (self.chance.random() < 0.5,)
 
     def order(self):
         return self.chance.choice([3, 3, 3, 4, 5, 6, 7, 8, 9, 9, self.number(12)])
@@ -201,6 +210,26 @@ class Chooser:
         return self.number(self.frames >> shift, machine.MOST_FRAMES >> shift) << shift, order
 
     evacuate = give_order
+
+    def claim(self):
+        """Of some runs the first one that is open, where one is."""
+        some = [self.give_order() for _ in range(20)]
+        self.run = next((run for run in some if self.is_open(*run)), some[0])
+        return self.run
+
+    def is_open(self, first, order):
+        return 3 <= order <= 9 and first + 2**order <= self.frames and self.zone.cost(first, 2**order) is not None
+
+    def take_claimed(self):
+        return self.run if self.chance.random() < 0.7 else self.give_order()
+
+    def empty_some(self):
+        return *self.take_claimed(), self.chance.choice([0, 1, 2, 8, self.number(600)])
+
+    def drop_claim(self):
+        """A part, or the pageblock of a claimed frame."""
+        claimed = self.zone.claimed
+        return (next(iter(claimed)) >> 9 << 9, 9) if claimed and self.chance.random() < 0.4 else self.take_claimed()
 
     def reserve(self):
         return self.order(), self.chance.randrange(5)
@@ -287,13 +316,13 @@ OFTEN = {
     **dict.fromkeys(["take_order", "give_order", "read_block", "write_block", "evacuate"], 15),
     **dict.fromkeys(["mark", "unmark", "marked", "info", "quiet", "audit", "describe", "free_runs", "fragmentation"], 5),
     **dict.fromkeys(["isolate", "commit"], 20),
-    "next_moving": 10,
-    **dict.fromkeys(["put_back", "move_pages"], 5),
-    **dict.fromkeys(["begin_round", "reserve"], 2),
+    **dict.fromkeys(["next_moving", "claim", "empty_some"], 10),
+    **dict.fromkeys(["put_back", "move_pages", "take_claimed", "drop_claim"], 5),
+    **dict.fromkeys(["begin_round", "reserve", "set_apart"], 2),
     "compact": 1,
 }
 # The calls that end the quiet of a round where they are accepted.
-LOUD = {"map", "map_at", "share", "unmap", "pin", "unpin", "take_order", "give_order", "mark", "unmark"}
+LOUD = {"map", "map_at", "share", "unmap", "pin", "unpin", "take_order", "give_order", "mark", "unmark"} | {"claim", "empty_some", "drop_claim"}
 BY_HAND = {"isolate", "commit", "put_back"}
 
 

@@ -38,9 +38,10 @@ class Zone(machine.Zone):
         self.is_quiet = not self.moving and all(map(self.is_marked, self.obstacles()))
 
     def obstacles(self):
-        """The frames of the pages that no round moves, and the first ones of the blocks that are handed out."""
+        """The frames of the pages that no round moves, the first ones of the blocks that are handed out, and the claimed ones."""
         yield from (page.frame for page in self.pages.values() if page.unmovable or page.pins > 0)
         yield from (first for first, _ in self.handed_out)
+        yield from self.claimed
 
     def isolate(self, source, target):
         page = super().isolate(source, target)
@@ -130,6 +131,9 @@ class ByMachine:
         self.zone = zone
         self.places = places  # of a journal that is kept
         self.numbers = {}  # by their serials: the numbers of moving pages, as the library has them
+
+    def set_apart(self, apart):
+        self.zone.apart = apart
 
     def map(self, client, space, page, unmovable):
         frame = self.zone.map(need_place(client, space, page), unmovable)
@@ -267,6 +271,22 @@ class ByMachine:
     def evacuate(self, first, order):
         need_order(order)
         return self.zone.evacuate(first, order)
+
+    def claim(self, first, order):
+        need_order(order)
+        return self.zone.claim(first, order)
+
+    def empty_some(self, first, order, most):
+        need_order(order)
+        return self.zone.empty_some(first, order, most)
+
+    def take_claimed(self, first, order):
+        need_order(order)
+        self.zone.take_claimed(first, order)
+
+    def drop_claim(self, first, order):
+        need_order(order)
+        self.zone.drop_claim(first, order)
 
     def reserve(self, order, count):
         """How many pages were moved, and the first frames of the blocks."""

@@ -20,6 +20,7 @@ MOST_ADDRESSES = 4
 MOST_PINS = 255
 MOST_ROUNDS = 4  # of a pool
 MOST_CLIENT_LINES = 1000  # of a block
+CLAIMED = "claimed"
 ANY = "?"  # in a reply: a number that the manual leaves to the threads
 
 # What stands in the place of a number: its least and its largest value.
@@ -73,8 +74,8 @@ class Page:
 
 
 class Frames:
-    """The frames of a zone. One is free where it is None, or it has a page, the page that is to come, or the block that
-    was handed out. How many are used, and how many have pages, is counted by pageblock, so that a search passes by those
+    """The frames of a zone. One is free where it is None, or it has a page, the page that is to come, the block that was
+    handed out, or CLAIMED. How many are used, and how many have pages, is counted by pageblock, so that a search passes by those
     where it finds nothing."""
 
     def __init__(self, blocks):
@@ -105,6 +106,9 @@ class Frames:
     def lowest_free(self):
         block = next((block for block, used in enumerate(self.used) if used < FRAMES_OF_A_PAGEBLOCK), None)
         return None if block is None else self.held.index(None, block * FRAMES_OF_A_PAGEBLOCK)
+
+    def highest_free(self):
+        return next((frame for frame in self.downwards(0, len(self.held)) if self.held[frame] is None), None)
 
     def lowest_free_run(self, count):
         """The first frame of the lowest aligned run of so many frames that are all free, if there is one."""
@@ -152,6 +156,8 @@ class Zone:
         self.waiting = []
         self.pages_in_hand, self.copies_in_hand = {}, {}
         self.handed_out = set()  # the first frame and the order of each block
+        self.claimed = set()  # frames
+        self.apart = False  # whether unmovable pages are mapped to the highest free frame
         self.marks = set()
         self.client = None  # while a client makes calls beside a round
 
@@ -195,12 +201,12 @@ class Zone:
     def need_pageblock(self, block):
         self.need_frames(block * FRAMES_OF_A_PAGEBLOCK, FRAMES_OF_A_PAGEBLOCK)
 
-    def fresh_frame(self, frame):
-        """The frame of a fresh page: the one that is asked for, or else the lowest."""
+    def fresh_frame(self, frame, unmovable):
+        """The frame of a fresh page: the one that is asked for, or else the lowest, or the highest of an unmovable page apart."""
         if not self.is_told or self.moves_beside():
             return self.fresh_frame_beside_moves(frame)
         if frame is None:
-            frame = self.frames.lowest_free()
+            frame = self.frames.highest_free() if self.apart and unmovable else self.frames.lowest_free()
         if frame is None or self.frames[frame] is not None:
             raise Refused(6)
         return frame
@@ -222,7 +228,7 @@ class Zone:
         return len(set(self.pages.values()))
 
     def held(self):
-        return sum(2**order for _, order in self.handed_out)
+        return sum(2**order for _, order in self.handed_out) + len(self.claimed)
 
     # Pages and addresses.
 
@@ -233,7 +239,7 @@ class Zone:
         self.need_places(1)
         if address in self.pages:
             raise Refused(5)
-        frame = self.fresh_frame(frame)
+        frame = self.fresh_frame(frame, unmovable)
         self.change_beside()
         self.places -= 1
         self.pages[address] = Page(frame, address, unmovable)
@@ -327,16 +333,13 @@ class Zone:
     def is_marked(self, frame):
         return frame // FRAMES_OF_A_PAGEBLOCK in self.marks
 
-    def can_move(self, frame):
+    def may_go(self, frame):
+        """Whether a frame has a page that may be taken from it, in whatever pageblock."""
         page = self.frames[frame]
-        return (
-            isinstance(page, Page)
-            and page.frame == frame
-            and page.serial is None
-            and not page.unmovable
-            and not page.pins
-            and not self.is_marked(frame)
-        )
+        return isinstance(page, Page) and page.frame == frame and page.serial is None and not page.unmovable and not page.pins
+
+    def can_move(self, frame):
+        return self.may_go(frame) and not self.is_marked(frame)
 
     def can_take(self, frame):
         return self.frames[frame] is None and not self.is_marked(frame)
@@ -476,6 +479,51 @@ class Zone:
         for source, target in zip(sources, targets):
             self.end_move(self.isolate(source, target), True)
         return len(sources)
+
+    # Claims.
+
+    def claim(self, first, order):
+        """Claims the free frames of an open run. How many pages it has."""
+        self.need_frames(first, 2**order)
+        pages = self.cost(first, 2**order)
+        if pages is None:
+            raise Refused(11)
+        self.claim_free(range(first, first + 2**order))
+        return pages
+
+    def claim_free(self, run):
+        for frame in run:
+            if self.frames[frame] is None:
+                self.frames[frame] = CLAIMED
+                self.claimed.add(frame)
+
+    def empty_some(self, first, order, most):
+        """A step: how many pages went out of a run, so many at most, and how many of its frames aren't claimed after it."""
+        self.need_frames(first, 2**order)
+        run = range(first, first + 2**order)
+        sources = list(itertools.islice(filter(self.may_go, run), most))
+        self.need_places(2 * len(sources))
+        self.claim_free(run)
+        targets = list(itertools.islice(filter(self.can_take, self.frames.downwards(0, self.size)), len(sources)))
+        for source, target in zip(sources, targets):
+            self.end_move(self.isolate(source, target), True)
+        self.claim_free(run)
+        return len(targets), len(set(run) - self.claimed)
+
+    def take_claimed(self, first, order):
+        self.need_frames(first, 2**order)
+        self.need_places(1)
+        run = set(range(first, first + 2**order))
+        if not run <= self.claimed:
+            raise Refused(11)
+        self.claimed -= run
+        self.hand_out_at(first, order)
+
+    def drop_claim(self, first, order):
+        self.need_frames(first, 2**order)
+        for frame in self.claimed.intersection(range(first, first + 2**order)):
+            self.frames[frame] = None
+            self.claimed.remove(frame)
 
     def compact(self):
         if self.is_open:

@@ -105,7 +105,7 @@ enum compactd_refusal {
     COMPACTD_PIN_FULL = 8,      /* the page has 255 pins already */
     COMPACTD_NOT_PINNED = 9,    /* the page has no pin */
     COMPACTD_PINNED = 10,       /* the page has a pin and this is its last address */
-    COMPACTD_NO_BLOCK = 11,     /* no block of this order has only free frames, or the run can't be emptied */
+    COMPACTD_NO_BLOCK = 11,     /* no block of this order has only free frames, or the run can't be emptied or isn't claimed as a whole */
     COMPACTD_NOT_HUGE = 12,     /* no block of this order that begins at this frame is handed out */
     COMPACTD_STRANGER = 13,     /* no such page is moving in this pool, or its words differ */
     COMPACTD_MEMORY = 14,       /* there isn't enough memory */
@@ -133,7 +133,7 @@ COMPACTD_IN_HEADER const char *compactd_refusal_text(uint32_t refusal)
     case COMPACTD_PIN_FULL: return "the page has 255 pins already";
     case COMPACTD_NOT_PINNED: return "the page has no pin";
     case COMPACTD_PINNED: return "the page has a pin and this is its last address";
-    case COMPACTD_NO_BLOCK: return "no block of this order has only free frames, or the run can't be emptied";
+    case COMPACTD_NO_BLOCK: return "no block of this order has only free frames, or the run can't be emptied or isn't claimed as a whole";
     case COMPACTD_NOT_HUGE: return "no block of this order that begins at this frame is handed out";
     case COMPACTD_STRANGER: return "no such page is moving in this pool, or its words differ";
     case COMPACTD_MEMORY: return "there isn't enough memory";
@@ -155,7 +155,7 @@ typedef struct compactd_counts {
     uint32_t moving; /* moving pages */
     uint32_t huge;   /* blocks that are handed out */
     uint32_t whole;  /* pageblocks whose 512 frames are all free */
-    uint32_t held;   /* frames of the blocks that are handed out */
+    uint32_t held;   /* frames of the blocks that are handed out, and claimed frames */
     uint64_t reserved[2];
 } compactd_counts;
 
@@ -270,10 +270,16 @@ uint32_t compactd_open_sized(compactd_pool *pool, uint32_t page_words, uint32_t 
  * Refused: CLOSED. */
 uint32_t compactd_close(compactd_pool *pool) COMPACTD_NOT_NULL;
 
-/* Pages and addresses. Each call is made for a client. Its number is stored in the record and has no other meaning. */
+/* Pages and addresses. Each call but the first is made for a client. Its number is stored in the record and has no other meaning. */
 
-/* Makes an address name a fresh page of zeros in the lowest free frame, and gets this frame. A page may be unmovable: then no round
- * moves it.
+/* Sets whether compactd_map puts unmovable pages apart from the others: into the highest free frame and not into the lowest. So they
+ * gather at the top, and fewer pageblocks below have one. In a pool that was just opened they go to the lowest too. Pages that are mapped
+ * already stay. The call is unrecorded.
+ * Refused: CLOSED. */
+uint32_t compactd_set_apart(compactd_pool *pool, compactd_bool apart) COMPACTD_CALL;
+
+/* Makes an address name a fresh page of zeros, and gets its frame: the lowest free one, or the highest where the page is unmovable and
+ * compactd_set_apart says so. No round moves an unmovable page.
  * Refused: CLOSED; RANGE, also where the pool doesn't have the address; JOURNAL_FULL; OCCUPIED; NO_FRAME. */
 uint32_t compactd_map(compactd_pool *pool, uint32_t client, uint32_t space, uint32_t vpage, compactd_bool unmovable, uint32_t *frame)
     COMPACTD_CALL;
@@ -380,8 +386,9 @@ uint32_t compactd_look(compactd_pool *pool, uint32_t space, uint32_t vpage, comp
 uint32_t compactd_marked(compactd_pool *pool, uint32_t block, compactd_bool *marked) COMPACTD_CALL;
 
 /* Gets whether the latest round is quiet: it started with no moving page and no obstacle outside marked pageblocks, and only loads, stores
- * and moves of rounds followed. An obstacle is a page that has a pin or is unmovable, or a block that is handed out. When the scanners of a
- * quiet round have met and no page is moving, the pool is packed: in the pageblocks that aren't marked, each free frame is below each page.
+ * and moves of rounds followed. An obstacle is a page that has a pin or is unmovable, a block that is handed out, or a claimed frame. When
+ * the scanners of a quiet round have met and no page is moving, the pool is packed: in the pageblocks that aren't marked, each free frame is
+ * below each page.
  * Refused: CLOSED. */
 uint32_t compactd_quiet(compactd_pool *pool, compactd_bool *quiet) COMPACTD_CALL;
 
@@ -450,9 +457,42 @@ uint32_t compactd_put_back(compactd_pool *pool, const compactd_moving_page *page
  * pageblock, the next page to the next of these frames below, and so on. Each page is copied once. Where a page is moved, the latest round
  * isn't quiet any more; it may go on.
  * Refused: CLOSED; RANGE, also where the frame isn't a multiple of 2^order or the run goes past the pool; NO_BLOCK where a frame of the run
- * is in a marked pageblock, in a block that is handed out, or taken up by a page that is moving, pinned or unmovable, or where there are
- * fewer frames to go to than pages; JOURNAL_FULL where there aren't two places for each page, or fewer isolations are left than pages. */
+ * is in a marked pageblock, in a block that is handed out, claimed, or taken up by a page that is moving, pinned or unmovable, or where there
+ * are fewer frames to go to than pages; JOURNAL_FULL where there aren't two places for each page, or fewer isolations are left than pages. */
 uint32_t compactd_evacuate(compactd_pool *pool, uint32_t first, uint32_t order, uint32_t *moved) COMPACTD_CALL;
+
+/* Evacuations in steps. compactd_claim; then compactd_empty_some until no frame of the run is unclaimed, with other calls between these
+ * steps; then compactd_take_claimed. Or compactd_drop_claim, at any time.
+ *
+ * A claimed frame is empty and kept for a block: it isn't free, so no page is mapped there, moved there or brought there, and
+ * compactd_take_order, compactd_evacuate and compactd_reserve pass over each run that has one. Linux isolates the pageblocks of a range so,
+ * before it empties them, in alloc_contig_range; here a run of 8 to 512 frames is claimed. A frame of the run that becomes free later, as by
+ * compactd_unmap, is free until the next step claims it. Claims are unrecorded, and end with the pool. After each of these calls the latest
+ * round isn't quiet; it may go on. */
+
+/* Claims the free frames of the run of 2^order frames that begins at a frame, and gets how many pages are in the run.
+ * Refused: CLOSED; RANGE, also where the frame isn't a multiple of 2^order or the run goes past the pool; NO_BLOCK where a frame of the run
+ * is in a marked pageblock, in a block that is handed out, claimed already, or taken up by a page that is moving, pinned or unmovable. */
+uint32_t compactd_claim(compactd_pool *pool, uint32_t first, uint32_t order, uint32_t *pages) COMPACTD_CALL;
+
+/* Makes a step: claims the free frames of a run, and moves the next of its pages, so many at most, each by one copy. The lowest page goes to
+ * the highest free frame that is in no marked pageblock, and the frame that it leaves is claimed, and so on. Gets how many pages were moved,
+ * and how many frames of the run aren't claimed yet; where that is 0, compactd_take_claimed takes the run. A page that is moving, pinned or
+ * unmovable stays, and a later step may move it. Where fewer pages were moved than were asked for, and frames are unclaimed, such pages are
+ * left or no frame is free for them. With `most` 0 it only claims. A run without a claim may be emptied so too.
+ * Refused: CLOSED; RANGE, as compactd_claim is; JOURNAL_FULL where there aren't two places for each page that may go, or for `most` of them
+ * where they are more. */
+uint32_t compactd_empty_some(compactd_pool *pool, uint32_t first, uint32_t order, uint32_t most, uint32_t *moved, uint32_t *unclaimed)
+    COMPACTD_CALL;
+
+/* Hands out the block of 2^order frames that begins at a frame, all of which are claimed. Its words are zeros. It is given back by
+ * compactd_give_order.
+ * Refused: CLOSED; RANGE, as compactd_claim is; JOURNAL_FULL; NO_BLOCK where a frame of it isn't claimed. */
+uint32_t compactd_take_claimed(compactd_pool *pool, uint32_t first, uint32_t order) COMPACTD_CALL;
+
+/* Drops the claims of the frames of a run, if it has any: these frames are free.
+ * Refused: CLOSED; RANGE, as compactd_claim is. */
+uint32_t compactd_drop_claim(compactd_pool *pool, uint32_t first, uint32_t order) COMPACTD_CALL;
 
 /* Reservations. */
 

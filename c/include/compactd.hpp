@@ -228,6 +228,12 @@ struct Slice {
     std::uint32_t stopped;
 };
 
+// What Pool::empty_some did: how many pages it moved, and how many frames of the run aren't claimed yet.
+struct Step {
+    std::uint32_t moved;
+    std::uint32_t unclaimed;
+};
+
 // What Pool::reserve did: the blocks that it handed out, and how many pages it moved for them.
 struct Reserved {
     std::vector<Huge> blocks;
@@ -269,6 +275,9 @@ public:
             throw Error(COMPACTD_CLOSED);
         return &handle_->raw;
     }
+
+    // Sets whether map puts unmovable pages apart from the others: into the highest free frame and not into the lowest.
+    void set_apart(bool apart) { detail::done(compactd_set_apart(raw(), apart)); }
 
     std::uint32_t map(std::uint32_t client, Address at, bool unmovable = false)
     {
@@ -469,6 +478,35 @@ public:
         detail::done(compactd_evacuate(raw(), first, order, &moved));
         return moved;
     }
+
+    // An evacuation in steps: claim, then empty_some until no frame of the run is unclaimed, with other calls between these steps, then
+    // take_claimed. Or drop_claim, at any time. No page comes to a claimed frame.
+
+    // Claims the free frames of the run of 2^order frames that begins at a frame, and returns how many pages are in the run.
+    std::uint32_t claim(std::uint32_t first, std::uint32_t order = 9)
+    {
+        std::uint32_t pages = 0;
+        detail::done(compactd_claim(raw(), first, order, &pages));
+        return pages;
+    }
+
+    // Claims the free frames of a run, and moves the next of its pages, so many at most, each by one copy.
+    Step empty_some(std::uint32_t first, std::uint32_t order, std::uint32_t most)
+    {
+        Step step = Step();
+        detail::done(compactd_empty_some(raw(), first, order, most, &step.moved, &step.unclaimed));
+        return step;
+    }
+
+    // Hands out a run whose frames are all claimed.
+    Huge take_claimed(std::uint32_t first, std::uint32_t order = 9)
+    {
+        detail::done(compactd_take_claimed(raw(), first, order));
+        return Huge(handle_, first, order);
+    }
+
+    // Drops the claims of the frames of a run, if it has any: these frames are free.
+    void drop_claim(std::uint32_t first, std::uint32_t order = 9) { detail::done(compactd_drop_claim(raw(), first, order)); }
 
     // Reservations.
 

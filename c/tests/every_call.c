@@ -35,11 +35,13 @@ static uint64_t records, room;
 static uint32_t runs;
 static int32_t fragmentation;
 static uint32_t moved, stopped;
+static uint32_t in_run, unclaimed;
 static uint32_t firsts[4];
 
 /* Each call on a pool that is closed: from the beginning, or by compactd_close. */
 static void closed(compactd_pool *pool)
 {
+    IS(CLOSED, compactd_set_apart(pool, 1));
     IS(CLOSED, compactd_map(pool, 0, 0, 0, 0, &frame));
     IS(CLOSED, compactd_map_at(pool, 0, 0, 0, 0, 0));
     IS(CLOSED, compactd_load(pool, 0, 0, 0, 0, &value));
@@ -76,6 +78,12 @@ static void closed(compactd_pool *pool)
     firsts[0] = 7;
     IS(CLOSED, compactd_reserve(pool, 9, firsts, 1, &moved));
     HOLDS(moved == 7 && firsts[0] == 7);
+    in_run = unclaimed = 7;
+    IS(CLOSED, compactd_claim(pool, 0, 9, &in_run));
+    IS(CLOSED, compactd_empty_some(pool, 0, 9, 1, &moved, &unclaimed));
+    HOLDS(in_run == 7 && moved == 7 && unclaimed == 7);
+    IS(CLOSED, compactd_take_claimed(pool, 0, 9));
+    IS(CLOSED, compactd_drop_claim(pool, 0, 9));
     IS(CLOSED, compactd_isolate(pool, &page, words, 8));
     IS(CLOSED, compactd_commit(pool, &page, words, 8, &is_so));
     IS(CLOSED, compactd_put_back(pool, &page));
@@ -110,7 +118,9 @@ static void addresses(compactd_pool *pool)
 /* Arguments out of their ranges, of a pool with one pageblock. */
 static void ranges(compactd_pool *pool, uint32_t page_words)
 {
+    static const uint32_t no_runs[][2] = {{0, 2}, {0, 10}, {0, 0xFFFFFFFFu}, {4, 3}, {256, 9}, {512, 3}, {4096, 3}, {0xFFFFFFF8u, 3}};
     const uint32_t far = 0xFFFFFFFFu;
+    size_t at;
 
     IS(RANGE, compactd_map(pool, 8, 0, 0, 0, &frame));
     IS(RANGE, compactd_map(pool, 0, 8, 0, 0, &frame));
@@ -147,16 +157,15 @@ static void ranges(compactd_pool *pool, uint32_t page_words)
     IS(RANGE, compactd_fragmentation(pool, far, &fragmentation));
     IS(RANGE, compactd_next_moving(pool, 1 << 24, &page, &move));
     IS(RANGE, compactd_next_moving(pool, far, &page, &move));
-    moved = 7;
-    IS(RANGE, compactd_evacuate(pool, 0, 2, &moved));
-    IS(RANGE, compactd_evacuate(pool, 0, 10, &moved));
-    IS(RANGE, compactd_evacuate(pool, 0, far, &moved));
-    IS(RANGE, compactd_evacuate(pool, 4, 3, &moved));
-    IS(RANGE, compactd_evacuate(pool, 256, 9, &moved));
-    IS(RANGE, compactd_evacuate(pool, 512, 3, &moved));
-    IS(RANGE, compactd_evacuate(pool, 4096, 3, &moved));
-    IS(RANGE, compactd_evacuate(pool, far - 7, 3, &moved));
-    firsts[0] = 7;
+    moved = in_run = unclaimed = firsts[0] = 7;
+    for (at = 0; at < sizeof no_runs / sizeof no_runs[0]; at++) {
+        IS(RANGE, compactd_evacuate(pool, no_runs[at][0], no_runs[at][1], &moved));
+        IS(RANGE, compactd_claim(pool, no_runs[at][0], no_runs[at][1], &in_run));
+        IS(RANGE, compactd_empty_some(pool, no_runs[at][0], no_runs[at][1], 1, &moved, &unclaimed));
+        IS(RANGE, compactd_take_claimed(pool, no_runs[at][0], no_runs[at][1]));
+        IS(RANGE, compactd_drop_claim(pool, no_runs[at][0], no_runs[at][1]));
+    }
+    HOLDS(in_run == 7 && unclaimed == 7);
     IS(RANGE, compactd_reserve(pool, 2, firsts, 1, &moved));
     IS(RANGE, compactd_reserve(pool, 10, firsts, 4, &moved));
     IS(RANGE, compactd_reserve(pool, far, NULL, 0, &moved));
@@ -525,6 +534,247 @@ static void evacuations_of_a_journal(uint32_t page_words)
     HOLDS(record.kind == COMPACTD_WAS_MOVED && record.number == 1);
     empties(&pool, 8, 3, 0);
     IS(JOURNAL_FULL, compactd_evacuate(&pool, 0, 3, &moved));
+    OK(compactd_close(&pool));
+}
+
+/* A claim of this run finds so many pages. */
+static void claims(compactd_pool *pool, uint32_t first, uint32_t order, uint32_t wanted)
+{
+    in_run = 7;
+    OK(compactd_claim(pool, first, order, &in_run));
+    HOLDS(in_run == wanted);
+}
+
+/* A claim of this run is refused as NO_BLOCK, and writes nothing. */
+static void is_not_claimed(compactd_pool *pool, uint32_t first, uint32_t order)
+{
+    in_run = 7;
+    IS(NO_BLOCK, compactd_claim(pool, first, order, &in_run));
+    HOLDS(in_run == 7);
+}
+
+/* A step of at most so many pages moves `wanted` pages out of this run, and leaves so many frames of it unclaimed. */
+static void steps(compactd_pool *pool, uint32_t first, uint32_t order, uint32_t most, uint32_t wanted, uint32_t left)
+{
+    moved = unclaimed = 7;
+    OK(compactd_empty_some(pool, first, order, most, &moved, &unclaimed));
+    HOLDS(moved == wanted && unclaimed == left);
+}
+
+static void counts_are(compactd_pool *pool, uint32_t free_frames, uint32_t blocks, uint32_t held)
+{
+    OK(compactd_info(pool, &counts));
+    HOLDS(counts.free == free_frames && counts.huge == blocks && counts.held == held);
+}
+
+/* Three pages in the frames 8 to 15, which are claimed, and pages in the eight frames below them. No other call comes into the run. */
+static void claim_of_three_pages(compactd_pool *pool)
+{
+    uint32_t at;
+
+    for (at = 0; at < 8; at++)
+        map_into(pool, 20 + at, at);
+    map_into(pool, 0, 9);
+    map_into(pool, 1, 12);
+    map_into(pool, 2, 15);
+    OK(compactd_begin_round(pool));
+    claims(pool, 8, 3, 3);
+    OK(compactd_quiet(pool, &is_so));
+    HOLDS(!is_so);
+    counts_are(pool, 1008, 0, 5);
+    OK(compactd_map(pool, 0, 0, 3, 0, &frame));
+    HOLDS(frame == 16);
+    IS(NO_FRAME, compactd_map_at(pool, 0, 0, 4, 0, 8));
+    is_not_claimed(pool, 8, 3);
+    is_not_claimed(pool, 0, 9);
+    stays(pool, 8, 3);
+    stays(pool, 0, 4);
+    OK(compactd_take_order(pool, 3, &frame));
+    HOLDS(frame == 24);
+    OK(compactd_give_order(pool, 24, 3));
+    IS(NO_BLOCK, compactd_take_claimed(pool, 8, 3));
+}
+
+/* A page that has a pin waits in the run until the pin is taken off. Then the run is handed out, and given back as any block is. */
+static void steps_of_a_claim(uint32_t page_words)
+{
+    compactd_pool pool = {0};
+
+    OK(compactd_open(&pool, page_words, 2));
+    claim_of_three_pages(&pool);
+    OK(compactd_pin(&pool, 0, 0, 1));
+    steps(&pool, 8, 3, 0, 0, 3);
+    steps(&pool, 8, 3, 2, 2, 1);
+    is_in_frame(&pool, 0, 1023);
+    is_in_frame(&pool, 1, 12);
+    is_in_frame(&pool, 2, 1022);
+    counts_are(&pool, 1005, 0, 7);
+    steps(&pool, 8, 3, 2, 0, 1);
+    IS(NO_BLOCK, compactd_take_claimed(&pool, 8, 3));
+    OK(compactd_unpin(&pool, 0, 0, 1));
+    steps(&pool, 8, 3, 0xFFFFFFFFu, 1, 0);
+    is_in_frame(&pool, 1, 1021);
+    steps(&pool, 8, 3, 1, 0, 0);
+    OK(compactd_take_claimed(&pool, 8, 3));
+    IS(NO_BLOCK, compactd_take_claimed(&pool, 8, 3));
+    steps(&pool, 8, 3, 1, 0, 8);
+    counts_are(&pool, 1004, 1, 8);
+    OK(compactd_read_block(&pool, 8, 3, 0, words, 1));
+    HOLDS(words[0] == 0);
+    OK(compactd_give_order(&pool, 8, 3));
+    OK(compactd_map(&pool, 0, 0, 4, 0, &frame));
+    HOLDS(frame == 8);
+    OK(compactd_close(&pool));
+}
+
+/* A frame that becomes free in a claimed run is free until the next step. Where the claim is dropped all of them are, and the claim of no
+ * other run ends. */
+static void claims_that_are_dropped(uint32_t page_words)
+{
+    compactd_pool pool = {0};
+
+    OK(compactd_open(&pool, page_words, 2));
+    map_into(&pool, 0, 9);
+    map_into(&pool, 1, 12);
+    claims(&pool, 8, 3, 2);
+    claims(&pool, 16, 3, 0);
+    OK(compactd_unmap(&pool, 0, 0, 0));
+    OK(compactd_map_at(&pool, 0, 0, 0, 0, 9));
+    OK(compactd_unmap(&pool, 0, 0, 0));
+    counts_are(&pool, 1009, 0, 14);
+    steps(&pool, 8, 3, 0, 0, 1);
+    IS(NO_FRAME, compactd_map_at(&pool, 0, 0, 0, 0, 9));
+    OK(compactd_drop_claim(&pool, 8, 3));
+    counts_are(&pool, 1015, 0, 8);
+    OK(compactd_map_at(&pool, 0, 0, 0, 0, 9));
+    OK(compactd_drop_claim(&pool, 8, 3));
+    OK(compactd_drop_claim(&pool, 0, 9));
+    counts_are(&pool, 1022, 0, 0);
+    OK(compactd_close(&pool));
+}
+
+/* Rounds bring no page into a claimed run, and reservations pass over it. A claimed frame is an obstacle for a quiet round. */
+static void claims_beside_rounds(uint32_t page_words)
+{
+    compactd_pool pool = {0};
+
+    OK(compactd_open(&pool, page_words, 2));
+    map_into(&pool, 0, 9);
+    claims(&pool, 1016, 3, 0);
+    claims(&pool, 0, 3, 0);
+    OK(compactd_compact(&pool, &is_so));
+    HOLDS(is_so);
+    is_in_frame(&pool, 0, 1015);
+    OK(compactd_quiet(&pool, &is_so));
+    HOLDS(!is_so);
+    OK(compactd_reserve(&pool, 3, firsts, 1, &moved));
+    HOLDS(firsts[0] == 8 && moved == 0);
+    OK(compactd_give_order(&pool, 8, 3));
+    OK(compactd_drop_claim(&pool, 512, 9));
+    OK(compactd_drop_claim(&pool, 0, 9));
+    OK(compactd_begin_round(&pool));
+    OK(compactd_quiet(&pool, &is_so));
+    HOLDS(is_so);
+    OK(compactd_close(&pool));
+}
+
+/* A page that leaves a run or comes to one isn't moved by a step, and one in a marked pageblock is, as an unmovable one isn't. */
+static void steps_of_odd_runs(uint32_t page_words)
+{
+    compactd_pool pool = {0};
+
+    OK(compactd_open(&pool, page_words, 2));
+    map_into(&pool, 0, 9);
+    OK(compactd_begin_round(&pool));
+    OK(compactd_isolate(&pool, &page, words, page_words)); /* from frame 9 to frame 1023 */
+    is_not_claimed(&pool, 8, 3);
+    steps(&pool, 8, 3, 1, 0, 1);
+    steps(&pool, 1016, 3, 1, 0, 1);
+    OK(compactd_commit(&pool, &page, words, page_words, &is_so));
+    steps(&pool, 8, 3, 1, 0, 0);
+    steps(&pool, 1016, 3, 1, 1, 0);
+    is_in_frame(&pool, 0, 1015);
+    OK(compactd_mark(&pool, 1));
+    is_not_claimed(&pool, 1008, 3);
+    steps(&pool, 1008, 3, 1, 1, 0);
+    is_in_frame(&pool, 0, 511);
+    OK(compactd_map_at(&pool, 0, 0, 1, 1, 500));
+    is_not_claimed(&pool, 496, 3);
+    steps(&pool, 496, 4, 9, 1, 1);
+    is_in_frame(&pool, 0, 495);
+    OK(compactd_close(&pool));
+}
+
+/* A pool without a free frame, and then with one. */
+static void steps_of_a_full_pool(uint32_t page_words)
+{
+    compactd_pool pool = {0};
+    uint32_t at;
+
+    OK(compactd_open(&pool, page_words, 1));
+    for (at = 0; at < 512; at++)
+        OK(compactd_map(&pool, 0, 0, at, 0, &frame));
+    claims(&pool, 0, 3, 8);
+    steps(&pool, 0, 3, 9, 0, 8);
+    OK(compactd_unmap(&pool, 0, 0, 8));
+    steps(&pool, 0, 3, 9, 1, 7);
+    OK(compactd_look(&pool, 0, 0, &info));
+    HOLDS(info.frame == 8);
+    OK(compactd_close(&pool));
+}
+
+/* A journal with places for three pages and for two moves. Claims take no place. */
+static void steps_of_a_journal(uint32_t page_words)
+{
+    compactd_pool pool = {0};
+    uint32_t at;
+
+    OK(compactd_open_journal(&pool, page_words, 1, 7));
+    for (at = 7; at < 10; at++)
+        OK(compactd_map_at(&pool, 0, 0, at, 0, at));
+    claims(&pool, 0, 4, 3);
+    moved = unclaimed = 7;
+    IS(JOURNAL_FULL, compactd_empty_some(&pool, 0, 4, 3, &moved, &unclaimed));
+    HOLDS(moved == 7 && unclaimed == 7);
+    steps(&pool, 0, 4, 2, 2, 1);
+    OK(compactd_record_at(&pool, 5, &record));
+    HOLDS(record.kind == COMPACTD_WAS_ISOLATED && record.number == 1);
+    OK(compactd_record_at(&pool, 6, &record));
+    HOLDS(record.kind == COMPACTD_WAS_MOVED && record.number == 1);
+    IS(JOURNAL_FULL, compactd_empty_some(&pool, 0, 4, 1, &moved, &unclaimed));
+    steps(&pool, 0, 4, 0, 0, 1);
+    IS(JOURNAL_FULL, compactd_take_claimed(&pool, 0, 4));
+    claims(&pool, 16, 3, 0);
+    OK(compactd_drop_claim(&pool, 0, 4));
+    OK(compactd_set_apart(&pool, 1));
+    OK(compactd_journal(&pool, &records, &room));
+    HOLDS(records == 7 && room == 0);
+    OK(compactd_close(&pool));
+}
+
+/* An unmovable page goes to the highest free frame where such pages are mapped apart. The others go to the lowest. */
+static void unmovable_pages_apart(uint32_t page_words)
+{
+    static const uint32_t wanted[] = {1023, 0, 1022, 1, 2, 3};
+    compactd_pool pool = {0};
+    uint32_t at;
+
+    OK(compactd_open(&pool, page_words, 2));
+    OK(compactd_begin_round(&pool));
+    OK(compactd_set_apart(&pool, 1));
+    OK(compactd_quiet(&pool, &is_so));
+    HOLDS(is_so);
+    for (at = 0; at < 6; at++) {
+        if (at == 4)
+            OK(compactd_set_apart(&pool, 0));
+        OK(compactd_map(&pool, 0, 0, at, at % 2 == 0, &frame));
+        HOLDS(frame == wanted[at]);
+    }
+    OK(compactd_set_apart(&pool, 1));
+    OK(compactd_map_at(&pool, 0, 0, 6, 1, 5));
+    claims(&pool, 1008, 3, 0);
+    OK(compactd_map(&pool, 0, 0, 7, 1, &frame));
+    HOLDS(frame == 1021);
     OK(compactd_close(&pool));
 }
 
@@ -897,6 +1147,13 @@ static void both_sizes(uint32_t page_words)
     evacuations(page_words);
     evacuations_of_a_full_pool(page_words);
     evacuations_of_a_journal(page_words);
+    steps_of_a_claim(page_words);
+    claims_that_are_dropped(page_words);
+    claims_beside_rounds(page_words);
+    steps_of_odd_runs(page_words);
+    steps_of_a_full_pool(page_words);
+    steps_of_a_journal(page_words);
+    unmovable_pages_apart(page_words);
     reservations(page_words);
     reservations_of_a_journal(page_words);
     every_number_of_blocks(page_words);

@@ -250,6 +250,27 @@ void evacuations()
     HOLDS(refusal([&] { pool.evacuate(0, 3); }) == COMPACTD_JOURNAL_FULL && pool.look(low).frame == 0);
 }
 
+// A run with two pages is emptied in two steps and handed out, and another claim is dropped. No page comes into a claimed run.
+void evacuations_in_steps()
+{
+    Pool pool = with_round();
+    pool.set_apart(true);
+    HOLDS(pool.map(0, {1, 0}, true) == 511 && refusal([&] { pool.claim(504, 3); }) == COMPACTD_NO_BLOCK);
+    HOLDS(pool.claim(0, 3) == 2 && pool.info().held == 6 && pool.map(0, {1, 1}) == 8);
+    HOLDS(refusal([&] { pool.claim(0, 3); }) == COMPACTD_NO_BLOCK && refusal([&] { pool.empty_some(0, 2, 1); }) == COMPACTD_RANGE);
+    compactd::Step step = pool.empty_some(0, 3, 1);
+    HOLDS(step.moved == 1 && step.unclaimed == 1 && refusal([&] { pool.take_claimed(0, 3); }) == COMPACTD_NO_BLOCK);
+    step = pool.empty_some(0, 3, 9);
+    HOLDS(step.moved == 1 && step.unclaimed == 0 && pool.look(low).frame == 510 && pool.look(high).frame == 509);
+    {
+        const Huge huge = pool.take_claimed(0, 3);
+        HOLDS(huge.first() == 0 && huge.order() == 3 && pool.info().huge == 1 && pool.load(0, low, 1) == 9);
+    }
+    HOLDS(pool.info().held == 0 && pool.claim(8, 3) == 1 && pool.info().held == 7);
+    pool.drop_claim(8, 3);
+    HOLDS(pool.info().held == 0 && refusal([&] { pool.drop_claim(512); }) == COMPACTD_RANGE);
+}
+
 // Two runs without a page are handed out, and one whose page has to go. Their blocks go back where they are destroyed.
 void reservations()
 {
@@ -323,6 +344,7 @@ int main()
     moving_pages();
     slices();
     evacuations();
+    evacuations_in_steps();
     reservations();
     carriers_that_go();
     questions();

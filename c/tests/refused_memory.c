@@ -95,7 +95,7 @@ static void make_calls_on_pages(compactd_pool *pool, uint32_t page_words)
 static void make_rounds(compactd_pool *pool, uint32_t page_words)
 {
     compactd_move move;
-    uint32_t moved, stopped;
+    uint32_t moved, stopped, pages, unclaimed;
 
     made(compactd_mark(pool, 7));
     made(compactd_marked(pool, 7, &is_so));
@@ -109,6 +109,12 @@ static void make_rounds(compactd_pool *pool, uint32_t page_words)
     made(compactd_move_pages(pool, 3, &moved, &stopped));
     made(compactd_evacuate(pool, 0, 4, &moved));
     made(compactd_evacuate(pool, 0, 9, &moved));
+    made(compactd_set_apart(pool, 1));
+    made(compactd_claim(pool, 0, 4, &pages));
+    made(compactd_empty_some(pool, 0, 9, 5, &moved, &unclaimed));
+    made(compactd_take_claimed(pool, 0, 4));
+    made(compactd_take_claimed(pool, 0, 9));
+    made(compactd_drop_claim(pool, 0, 9));
     made(compactd_compact(pool, &is_so));
 }
 

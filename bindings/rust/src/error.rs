@@ -24,7 +24,7 @@ pub enum Error {
     NotPinned,
     /// The page has a pin and this is its last address.
     Pinned,
-    /// No block of this order has only free frames, or the run can't be emptied.
+    /// No block of this order has only free frames, or the run can't be emptied or isn't claimed as a whole.
     NoBlock,
     /// No such block is handed out by this pool.
     NotHuge,
@@ -56,7 +56,7 @@ const KNOWN: [(Error, u32, &str); 18] = [
     (Error::PinFull, 8, "the page has 255 pins already"),
     (Error::NotPinned, 9, "the page has no pin"),
     (Error::Pinned, 10, "the page has a pin and this is its last address"),
-    (Error::NoBlock, 11, "no block of this order has only free frames, or the run can't be emptied"),
+    (Error::NoBlock, 11, "no block of this order has only free frames, or the run can't be emptied or isn't claimed as a whole"),
     (Error::NotHuge, 12, "no block of this order that begins at this frame is handed out"),
     (Error::Stranger, 13, "no such page is moving in this pool, or its words differ"),
     (Error::Memory, 14, "there isn't enough memory"),

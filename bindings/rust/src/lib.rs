@@ -39,6 +39,7 @@
 
 #![deny(missing_docs, unsafe_op_in_unsafe_fn)]
 
+mod claims;
 mod error;
 mod huge;
 mod moving;
@@ -48,6 +49,7 @@ mod raw;
 mod record;
 mod rounds;
 
+pub use claims::Step;
 pub use error::Error;
 pub use huge::{Huge, Kept};
 pub use moving::{Move, Moving, MovingGuard, MovingPage};

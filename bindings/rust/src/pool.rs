@@ -148,7 +148,26 @@ impl Pool {
         self.page_size
     }
 
-    /// Makes an address name a fresh page of zeros in the lowest free frame, and returns this frame. No round moves an unmovable page.
+    /// Sets whether [`Pool::map`] puts unmovable pages apart from the others: into the highest free frame and not into the lowest. So they
+    /// gather at the top, and fewer pageblocks below have one. In a pool that was just opened they go to the lowest too. Pages that are
+    /// mapped already stay.
+    ///
+    /// ```
+    /// # use compactd::{Address, Error, PageSize, Pool};
+    /// # fn main() -> Result<(), Error> {
+    /// # let mut pool = Pool::open(PageSize::Bytes64, 1)?;
+    /// pool.set_apart(true);
+    /// assert_eq!(pool.map(0, Address::new(0, 0), true)?, 511);
+    /// assert_eq!(pool.map(0, Address::new(0, 1), false)?, 0);
+    /// # Ok(())
+    /// # }
+    /// ```
+    pub fn set_apart(&mut self, apart: bool) {
+        is_done(unsafe { raw::compactd_set_apart(&mut self.raw, apart) });
+    }
+
+    /// Makes an address name a fresh page of zeros, and returns its frame: the lowest free one, or the highest where the page is unmovable
+    /// and [`Pool::set_apart`] says so. No round moves an unmovable page.
     ///
     /// Refused as [`Error::Range`], [`Error::JournalFull`], [`Error::Occupied`] or [`Error::NoFrame`].
     pub fn map(&mut self, client: u32, at: Address, unmovable: bool) -> Result<u32, Error> {

@@ -21,7 +21,7 @@ pub struct Counts {
     pub huge: u32,
     /// Pageblocks whose 512 frames are all free.
     pub whole: u32,
-    /// Frames of the blocks that are handed out.
+    /// Frames of the blocks that are handed out, and claimed frames.
     pub held: u32,
     reserved: [u64; 2],
 }
@@ -105,6 +105,7 @@ extern "C" {
     pub fn compactd_open_journal(pool: *mut Handle, page_words: u32, blocks: u32, places: u32) -> u32;
     pub fn compactd_open_sized(pool: *mut Handle, page_words: u32, blocks: u32, spaces: u32, vpages: u32, places: u32) -> u32;
     pub fn compactd_close(pool: *mut Handle) -> u32;
+    pub fn compactd_set_apart(pool: *mut Handle, apart: bool) -> u32;
     pub fn compactd_map(pool: *mut Handle, client: u32, space: u32, vpage: u32, unmovable: bool, frame: *mut u32) -> u32;
     pub fn compactd_map_at(pool: *mut Handle, client: u32, space: u32, vpage: u32, unmovable: bool, frame: u32) -> u32;
     pub fn compactd_load(pool: *mut Handle, client: u32, space: u32, vpage: u32, word: u32, value: *mut u64) -> u32;
@@ -136,6 +137,10 @@ extern "C" {
     pub fn compactd_commit(pool: *mut Handle, page: *const MovingPage, words: *const u64, count: usize, moved: *mut bool) -> u32;
     pub fn compactd_put_back(pool: *mut Handle, page: *const MovingPage) -> u32;
     pub fn compactd_evacuate(pool: *mut Handle, first: u32, order: u32, moved: *mut u32) -> u32;
+    pub fn compactd_claim(pool: *mut Handle, first: u32, order: u32, pages: *mut u32) -> u32;
+    pub fn compactd_empty_some(pool: *mut Handle, first: u32, order: u32, most: u32, moved: *mut u32, unclaimed: *mut u32) -> u32;
+    pub fn compactd_take_claimed(pool: *mut Handle, first: u32, order: u32) -> u32;
+    pub fn compactd_drop_claim(pool: *mut Handle, first: u32, order: u32) -> u32;
     pub fn compactd_reserve(pool: *mut Handle, order: u32, firsts: *mut u32, count: usize, moved: *mut u32) -> u32;
     pub fn compactd_next_moving(pool: *mut Handle, from: u32, page: *mut MovingPage, at: *mut Move) -> u32;
     pub fn compactd_journal(pool: *mut Handle, records: *mut u64, room: *mut u64) -> u32;

@@ -120,8 +120,8 @@ impl Pool {
     /// ```
     ///
     /// Refused as [`Error::Range`], also where the frame isn't a multiple of `2^order` or the run goes past the pool; as [`Error::NoBlock`]
-    /// where a frame of the run is in a marked pageblock, in a block that is handed out, or taken up by a page that is moving, pinned or
-    /// unmovable, or where there are fewer frames to go to than pages; or as [`Error::JournalFull`] where there aren't two places for each
+    /// where a frame of the run is in a marked pageblock, in a block that is handed out, claimed, or taken up by a page that is moving, pinned
+    /// or unmovable, or where there are fewer frames to go to than pages; or as [`Error::JournalFull`] where there aren't two places for each
     /// page, or fewer isolations are left than pages.
     pub fn evacuate(&mut self, first: u32, order: u32) -> Result<u32, Error> {
         let mut moved = 0;

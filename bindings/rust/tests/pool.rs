@@ -2,7 +2,7 @@
 
 use std::sync::Mutex;
 
-use compactd::{Address, Error, Kept, MovingGuard, PageSize, Place, Pool, PoolSize, Record, Reserved, Slice, Stopped};
+use compactd::{Address, Error, Kept, MovingGuard, PageSize, Place, Pool, PoolSize, Record, Reserved, Slice, Step, Stopped};
 
 fn pool() -> Pool {
     Pool::open(PageSize::Bytes64, 1).expect("a pool of one pageblock can be opened")
@@ -170,6 +170,38 @@ fn empties_a_run() {
     let places = [0, 1, 2].map(|page| pool.look(Address::new(0, page)).unwrap().place);
     assert_eq!(places, [(510, false), (509, true), (511, false)].map(|(frame, dirty)| Place::At { frame, unmovable: false, dirty }));
     assert_eq!((pool.evacuate(504, 3), pool.journal(), pool.free_runs(8)), (Err(Error::JournalFull), (12, 0), Ok(1)));
+}
+
+#[test]
+fn empties_a_claimed_run_in_steps() {
+    let mut pool = Pool::open_journal(PageSize::Bytes64, 1, 12).unwrap();
+    for page in 0..3 {
+        pool.map_at(0, Address::new(0, page), false, 9 + page).unwrap();
+    }
+    assert_eq!([(0, 10), (4, 3), (512, 3)].map(|(first, order)| pool.claim(first, order)), [Err(Error::Range); 3]);
+    assert_eq!([pool.claim(8, 3), pool.claim(8, 3), pool.evacuate(0, 4)], [Ok(3), Err(Error::NoBlock), Err(Error::NoBlock)]);
+    pool.pin(0, Address::new(0, 1)).unwrap();
+    assert_eq!(pool.empty_some(8, 3, 2), Ok(Step { moved: 2, unclaimed: 1 }));
+    assert_eq!(pool.take_claimed(8, 3), Err(Error::NoBlock));
+    pool.unpin(0, Address::new(0, 1)).unwrap();
+    assert_eq!(pool.empty_some(8, 3, 2), Ok(Step { moved: 1, unclaimed: 0 }));
+    let places = [0, 1, 2].map(|page| pool.look(Address::new(0, page)).unwrap().place);
+    assert_eq!(places, [511, 509, 510].map(|frame| Place::At { frame, unmovable: false, dirty: false }));
+    let huge = pool.take_claimed(8, 3).unwrap();
+    assert_eq!((pool.journal(), pool.info().held, huge.first(), huge.order()), ((12, 0), 8, 8, 3));
+    assert_eq!([pool.drop_claim(8, 3), pool.drop_claim(8, 2)], [Ok(()), Err(Error::Range)]);
+    assert_eq!(pool.info().held, 8);
+}
+
+#[test]
+fn maps_unmovable_pages_apart() {
+    let mut pool = pool();
+    let frames = [(true, true), (true, false), (false, true)].map(|(apart, unmovable)| {
+        pool.set_apart(apart);
+        let page = pool.info().pages;
+        pool.map(0, Address::new(0, page), unmovable)
+    });
+    assert_eq!(frames, [Ok(511), Ok(0), Ok(1)]);
 }
 
 #[test]

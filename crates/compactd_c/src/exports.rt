@@ -6,6 +6,7 @@ ghost use Rattle.compactd_c.specs.Answers.{answer, left, number_for};
 ghost use Rattle.compactd_c.specs.Asked.{address_of, is_address, is_client, is_order, ranged};
 ghost use Rattle.compactd_c.specs.Kinds.{IsPageSize};
 ghost use Rattle.state_core.specs.Access.{access_refusal, value_at, loaded, stored};
+ghost use Rattle.state_core.specs.Claiming.{with_apart};
 ghost use Rattle.state_core.specs.HandingOut.{lowest_run, take_order_refusal, give_order_refusal, block_taken, block_given};
 ghost use Rattle.state_core.specs.Mapping.{map_refusal, map_at_refusal, mapped};
 ghost use Rattle.state_core.specs.Marking.{mark_refusal, unmark_refusal, block_marked, block_unmarked};
@@ -14,7 +15,7 @@ ghost use Rattle.state_core.specs.Opening.{IsAllowed, IsOpenable, IsSize, opened
 ghost use Rattle.state_core.specs.Pinning.{pin_refusal, pinned, unpin_refusal, unpinned};
 ghost use Rattle.state_core.specs.Sharing.{share_refusal, shared};
 ghost use Rattle.state_core.specs.Unmapping.{unmap_refusal, unmapped};
-ghost use Rattle.state_core.specs.ZoneState.{ZoneState, lowest_free_frame};
+ghost use Rattle.state_core.specs.ZoneState.{ZoneState, frame_for};
 
 use crate::asked::Asked;
 use crate::calls::{CLOSED, done, framed, make, number, numbered, told};
@@ -149,7 +150,23 @@ pub extern "C" fn compactd_close(alloc: Global, pool: &mut Pool) -> u32
     }
 }
 
-/// Makes an address name a fresh page in the lowest free frame, and tells this frame. The page holds zeros.
+/// Maps unmovable pages apart from the others from now on, each to the highest free frame; or no longer, as in a pool that was just opened.
+///
+/// Refused as CLOSED.
+#[unsafe(no_mangle)]
+pub extern "C" fn compactd_set_apart(pool: &mut Pool, apart: bool) -> u32
+    ensures answer { result ≡ answer pool.old.zone (λ z. None) }
+    ensures zone { pool.new.zone ≡ left pool.old.zone (λ z. None) (λ z. with_apart z apart) }
+{
+    let Some(zone) = pool.zone() else {
+        return CLOSED;
+    };
+    zone.set_apart(apart);
+    0
+}
+
+/// Makes an address name a fresh page, and tells its frame: the lowest free one, or the highest where the page is unmovable and such pages
+/// are mapped apart. The page holds zeros.
 ///
 /// Refused as CLOSED, RANGE, JOURNAL_FULL, OCCUPIED or NO_FRAME.
 #[unsafe(no_mangle)]
@@ -162,8 +179,8 @@ pub extern "C" fn compactd_map(
     frame: &mut u32,
 ) -> u32
     ensures answer { result ≡ answer pool.old.zone (λ z. ranged (is_client client && is_address space vpage) (map_refusal z (address_of space vpage))) }
-    ensures zone { pool.new.zone ≡ left pool.old.zone (λ z. ranged (is_client client && is_address space vpage) (map_refusal z (address_of space vpage))) (λ z. mapped z client (address_of space vpage) unmovable (unwrap_or (lowest_free_frame z) 0)) }
-    ensures frame { (z : ZoneState) → pool.old.zone ≡ Some z → result ≡ 0 → frame.new ≡ unwrap_or (lowest_free_frame z) 0 }
+    ensures zone { pool.new.zone ≡ left pool.old.zone (λ z. ranged (is_client client && is_address space vpage) (map_refusal z (address_of space vpage))) (λ z. mapped z client (address_of space vpage) unmovable (unwrap_or (frame_for z unmovable) 0)) }
+    ensures frame { (z : ZoneState) → pool.old.zone ≡ Some z → result ≡ 0 → frame.new ≡ unwrap_or (frame_for z unmovable) 0 }
     ensures kept { ¬ (result ≡ 0) → frame.new ≡ frame.old }
 {
     framed(

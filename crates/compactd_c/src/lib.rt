@@ -9,6 +9,7 @@ mod asked;
 mod bulk;
 mod calls;
 mod carrying;
+mod claiming;
 mod evacuating;
 mod exports;
 mod free_runs;

@@ -32,7 +32,7 @@ pub struct Counts {
     pub huge: u32,
     /// Pageblocks whose 512 frames are all free.
     pub whole: u32,
-    /// Frames of the blocks that are handed out.
+    /// Frames of the blocks that are handed out, and claimed frames.
     pub held: u32,
     pub reserved: [u64; 2],
 }

@@ -3,13 +3,15 @@
 ghost use Rattle.std.specs.Prelude.{◌≡◌, ◌+◌, ◌<◌, ◌≤◌, ◌↔◌, ◌&&◌, ◌/◌, ◌^◌, nat_lt, true, ℕ, false, length, reverse, slice_get, slice_index, is_some, Some, None, IsTrue, IsOk, IfOk, IfErr, OnOk, OnErr, IfSome};
 ghost use Rattle.std.specs.FinMap as map;
 ghost use Rattle.std.specs.Result.{result_err};
-ghost use Rattle.fewest_core.specs.Evacuation.{evacuate_refusal, evacuated, IsCarriedFrom, IsCarriedOut};
+ghost use Rattle.fewest_core.specs.Claims.{claim_refusal, claimed_frames, claimed_taken, drop_refusal, step_refusal, stepped, take_claimed_refusal};
+ghost use Rattle.fewest_core.specs.Evacuation.{evacuate_refusal, evacuated, is_in_run, IsCarriedFrom, IsCarriedOut};
 ghost use Rattle.fewest_core.specs.FewestMoves.{cost, least};
 ghost use Rattle.fewest_core.specs.Reservation.{is_in_runs, reserve_refusal, reserved, ArePicked};
 ghost use Rattle.frame_core.specs.Moves.{moved, out};
 ghost use Rattle.frame_core.specs.declared.record.Cause.{Cause};
 ghost use Rattle.state_core.specs.Access.{access_refusal, value_at, loaded, stored};
 ghost use Rattle.state_core.specs.Bulk.{bulk_refusal, values_at, loaded_all, stored_all};
+ghost use Rattle.state_core.specs.Claiming.{is_claimed, run_claimed, run_dropped, with_apart};
 ghost use Rattle.state_core.specs.Contents.{contents_refusal, contents_from, contents_written};
 ghost use Rattle.state_core.specs.Ending.{committed, ended_as, put_back_to_source};
 ghost use Rattle.state_core.specs.HandingOut.{is_run};
@@ -20,7 +22,7 @@ ghost use Rattle.state_core.specs.Opening.{IsAllowed, IsOpenable, opened_sized, 
 ghost use Rattle.state_core.specs.Packed.{IsPacked};
 ghost use Rattle.state_core.specs.Pairs.{HaveMet, next_pair};
 ghost use Rattle.state_core.specs.Rounds.{round_begun};
-ghost use Rattle.state_core.specs.ZoneState.{is_quiet};
+ghost use Rattle.state_core.specs.ZoneState.{is_free, is_quiet};
 ghost use Rattle.zone_core.specs.Counted.{IsCounted};
 ghost use Rattle.zone_core.specs.FreeRuns.{fragmentation, maximal_runs};
 ghost use Rattle.zone_core.specs.NextMoving.{IsNextMoving, IsNoneMoving};
@@ -44,6 +46,13 @@ use state_core::{Audit, Ended, Info, Look, Next, ZoneAnswer, ZoneError, ZoneSize
 use std::alloc::Global;
 use std::marker::Model;
 use zone_core::{Answered, BareZone, MovingPage as Found, Slice};
+
+/// What came of a step that empties a run: how many pages were moved, and how many frames of the run aren't claimed yet.
+#[derive(Clone, Copy)]
+pub(crate) struct Step {
+    pub(crate) moved: u32,
+    pub(crate) unclaimed: u32,
+}
 
 /// The two kinds of zones.
 #[derive(Drop)]
@@ -448,6 +457,82 @@ impl Zone {
         }
     }
 
+    /// Maps unmovable pages apart from the others from now on, or no longer.
+    pub(crate) fn set_apart(&mut self, apart: bool)
+        ensures { self.new ≡ with_apart self.old apart }
+    {
+        match &mut self.kind {
+            Kind::Small(zone) => zone.set_apart(apart),
+            Kind::Large(zone) => zone.set_apart(apart),
+        }
+    }
+
+    /// Claims the free frames of an open run, and answers how many pages it has.
+    pub(crate) fn claim(&mut self, first: u32, order: u32) -> Result<u32, ZoneError>
+        ensures refused { result_err result ≡ ranged (is_block first order) (claim_refusal self.old first order) }
+        ensures err { OnErr result (self.new ≡ self.old) }
+        ensures pages { IfOk result (λ pages. pages ≡ cost self.old (2 ^ order) (first / 2 ^ order)) }
+        ensures ok { OnOk result (self.new ≡ run_claimed first (2 ^ order) self.old) }
+        ensures shut { OnOk result ((frame : ℕ) → is_in_run first (2 ^ order) frame ≡ true → is_free self.new frame ≡ false) }
+    {
+        let (first, order) = block(first, order).ok_or(ZoneError::Range)?;
+        match &mut self.kind {
+            Kind::Small(zone) => zone.claim(first, order),
+            Kind::Large(zone) => zone.claim(first, order),
+        }
+    }
+
+    /// Moves at most so many pages out of a run, and claims its frames that are free or that they leave.
+    pub(crate) fn empty_some(
+        &mut self,
+        first: u32,
+        order: u32,
+        most: u32,
+    ) -> Result<Step, ZoneError>
+        ensures refused { result_err result ≡ ranged (is_block first order) (step_refusal self.old first order most) }
+        ensures err { OnErr result (self.new ≡ self.old) }
+        ensures ok { OnOk result (self.new ≡ stepped first (2 ^ order) self.old most) }
+        ensures moved { IfOk result (λ step. moved self.new.records ≡ moved self.old.records + step.moved) }
+        ensures most { IfOk result (λ step. step.moved ≤ most) }
+        ensures unclaimed { IfOk result (λ step. claimed_frames first (2 ^ order) self.new + step.unclaimed ≡ 2 ^ order) }
+        ensures shut { OnOk result ((frame : ℕ) → is_in_run first (2 ^ order) frame ≡ true → is_free self.new frame ≡ false) }
+        ensures claims { OnOk result ((frame : ℕ) → is_claimed self.old frame ≡ true → is_claimed self.new frame ≡ true) }
+        ensures carried { OnOk result (IsCarriedOut first (2 ^ order) self.old self.new) }
+    {
+        let (first, order) = block(first, order).ok_or(ZoneError::Range)?;
+        match &mut self.kind {
+            Kind::Small(zone) => empty_some(zone, first, order, most),
+            Kind::Large(zone) => empty_some(zone, first, order, most),
+        }
+    }
+
+    /// Hands out a run whose frames are all claimed.
+    pub(crate) fn take_claimed(&mut self, first: u32, order: u32) -> Result<(), ZoneError>
+        ensures refused { result_err result ≡ ranged (is_block first order) (take_claimed_refusal self.old first order) }
+        ensures err { OnErr result (self.new ≡ self.old) }
+        ensures ok { OnOk result (self.new ≡ claimed_taken self.old first order) }
+        ensures taken { OnOk result (map.get self.new.handed_out first ≡ Some order) }
+    {
+        let (first, order) = block(first, order).ok_or(ZoneError::Range)?;
+        match &mut self.kind {
+            Kind::Small(zone) => zone.take_claimed(first, order),
+            Kind::Large(zone) => zone.take_claimed(first, order),
+        }
+    }
+
+    /// Drops the claims of the frames of a run.
+    pub(crate) fn drop_claim(&mut self, first: u32, order: u32) -> Result<(), ZoneError>
+        ensures refused { result_err result ≡ ranged (is_block first order) (drop_refusal self.old first order) }
+        ensures err { OnErr result (self.new ≡ self.old) }
+        ensures ok { OnOk result (self.new ≡ run_dropped first (2 ^ order) self.old) }
+    {
+        let (first, order) = block(first, order).ok_or(ZoneError::Range)?;
+        match &mut self.kind {
+            Kind::Small(zone) => zone.drop_claim(first, order),
+            Kind::Large(zone) => zone.drop_claim(first, order),
+        }
+    }
+
     /// Isolates the next page of a round, whose words go where C wants them. There is none where the scanners have met.
     pub(crate) fn isolate(&mut self, words: &mut [u64]) -> Result<Option<MovingPage>, ZoneError>
         ensures refused { result_err result ≡ isolate_refused self.old (length words.old) }
@@ -623,6 +708,33 @@ fn put_back<const W: usize>(
     let page = PageOf::new(zone.number(), number);
     zone.put_back(IsolatedOf::new(serial, page))
         .or(Err(ZoneError::Stranger))
+}
+
+fn empty_some<const W: usize>(
+    zone: &mut BareZone<W>,
+    first: FrameNo,
+    order: Order,
+    most: u32,
+) -> Result<Step, ZoneError>
+    requires { W ≤ 65536 }
+    ensures refused { result_err result ≡ step_refusal zone.old first order most }
+    ensures err { OnErr result (zone.new ≡ zone.old) }
+    ensures ok { OnOk result (zone.new ≡ stepped first (2 ^ order) zone.old most) }
+    ensures moved { IfOk result (λ step. moved zone.new.records ≡ moved zone.old.records + step.moved) }
+    ensures most { IfOk result (λ step. step.moved ≤ most) }
+    ensures unclaimed { IfOk result (λ step. claimed_frames first (2 ^ order) zone.new + step.unclaimed ≡ 2 ^ order) }
+    ensures shut { OnOk result ((frame : ℕ) → is_in_run first (2 ^ order) frame ≡ true → is_free zone.new frame ≡ false) }
+    ensures claims { OnOk result ((frame : ℕ) → is_claimed zone.old frame ≡ true → is_claimed zone.new frame ≡ true) }
+    ensures carried { OnOk result (IsCarriedOut first (2 ^ order) zone.old zone.new) }
+{
+    let moved = zone.empty_some(first, order, most)?;
+    let Some(claimed) = zone.claimed_frames(first, order) else {
+        unreachable!();
+    };
+    Ok(Step {
+        moved,
+        unclaimed: order.frames() - claimed,
+    })
 }
 
 /// A block's first frame and its order, if both are in their ranges.
