@@ -1,6 +1,7 @@
 -- What a call that was made says in the words of its own method.
-use Rattle.std.proofs.Common.{◌≡◌, ℕ, Bool, false, refl, sym, ap, ◌∙◌, Option, None, Some}
-use Rattle.std.specs.Prelude.{is_none, is_some, not, unwrap_or}
+use Rattle.std.proofs.Common.{◌≡◌, ℕ, Bool, true, false, refl, sym, ap, ◌∙◌, Option, None, Some}
+use Rattle.std.proofs.lemmas.Bool.{not-false}
+use Rattle.std.specs.Prelude.{is_none, is_some, not, unwrap_or, IsSome, ◌&&◌, if◌then◌else◌}
 use Rattle.frame_core.specs.declared.place.Address.{Address}
 use Rattle.frame_core.specs.declared.record.Record.TheVariants as entry
 use Rattle.frame_core.specs.History.{page_at}
@@ -12,22 +13,28 @@ use Rattle.state_core.specs.declared.error.ZoneError.TheVariants.{JournalFull, N
 use Rattle.state_core.specs.Access.{access_refusal, value_at}
 use Rattle.state_core.specs.Calls.{refusal_of, answer_of, after, record_of}
 use Rattle.state_core.specs.Mapping.{map_refusal, map_at_refusal, mapped}
-use Rattle.state_core.specs.ZoneState.{ZoneState, has_address, has_room, lowest_free_frame, lowest_unused_page}
-use Rattle.client_core.specs.Calls.{HasMade, IsAccepted, leaving, loading, mapping, mapping_lowest}
+use Rattle.state_core.specs.ZoneState.{ZoneState, frame_for, has_address, has_room, highest_free_frame, lowest_free_frame, lowest_unused_page}
+use Rattle.state_core.proofs.Finding.{some_highest}
+use Rattle.client_core.specs.Calls.{HasMade, IsAccepted, leaving, loading, mapping, mapping_free}
 use Rattle.client_core.specs.Receipts.{Client, with_receipt}
 use Rattle.client_core.proofs.ManyCalls.{passes}
 
--- there was a free frame, where a zone accepted a map
-found : (o : Option ℕ) → is_none o ≡ false → o ≡ Some (unwrap_or o 0)
-found None e = cc
-found (Some n) e = refl
+-- there was a frame for the page, where a zone accepted a map
+found : (o : Option ℕ) → IsSome o → o ≡ Some (unwrap_or o 0)
+found None some = cc
+found (Some n) some = refl
 
-free_frame : (z : ZoneState) (address : Address) → map_refusal z address ≡ None → lowest_free_frame z ≡ Some (unwrap_or (lowest_free_frame z) 0)
-free_frame z address passed =
+either_some : (z : ZoneState) → IsSome (lowest_free_frame z) → (apart : Bool) → IsSome (if apart then highest_free_frame z else lowest_free_frame z)
+either_some z some true = some_highest z some
+either_some z some false = some
+
+free_frame : (z : ZoneState) (address : Address) (unmovable : Bool) → map_refusal z address ≡ None → frame_for z unmovable ≡ Some (unwrap_or (frame_for z unmovable) 0)
+free_frame z address unmovable passed =
     let unless_ranged = passes (not (has_address z address)) Range _ passed in
     let unless_full = passes (not (has_room z)) JournalFull _ unless_ranged.1 in
     let unless_occupied = passes (is_some (page_at z.records address)) Occupied _ unless_full.1 in
-    found (lowest_free_frame z) (passes (is_none (lowest_free_frame z)) NoFrame None unless_occupied.1).0
+    let unless_none = passes (is_none (lowest_free_frame z)) NoFrame None unless_occupied.1 in
+    found (frame_for z unmovable) (either_some z (not-false _ unless_none.0) (z.apart && unmovable))
 
 module _ {W : ℕ} (old new : Client) (answer : ZoneAnswer) where
   -- a valid zone accepted a call that was made, and is what the call leaves
@@ -61,15 +68,15 @@ module _ {W : ℕ} (old new : Client) (answer : ZoneAnswer) where
 
   pub map_went : (address : Address) (unmovable : Bool) (page_told frame : ℕ) → answer ≡ Mapped page_told frame → HasMade {W = W} old (Map address unmovable) answer new
       → (page : ℕ) × (new ≡ with_receipt old (entry.Map old.number address page))
-      × IsAccepted (λ zone. map_refusal zone address) (mapping_lowest old.number address unmovable frame) page
+      × IsAccepted (λ zone. map_refusal zone address) (mapping_free old.number address unmovable frame) page
   map_went address unmovable page_told frame is made =
       let zone = made.0.zone in
       let page = unwrap_or (lowest_unused_page zone) 0 in
-      let lowest = unwrap_or (lowest_free_frame zone) 0 in
-      let told : Mapped page lowest ≡ Mapped page_told frame = sym made.0.answer_is ∙ is in
-      let same : lowest ≡ frame = cc in (
+      let free = unwrap_or (frame_for zone unmovable) 0 in
+      let told : Mapped page free ≡ Mapped page_told frame = sym made.0.answer_is ∙ is in
+      let same : free ≡ frame = cc in (
         page,
         receipt_is (Map address unmovable) made,
-        accepted_by (Map address unmovable) made (mapping_lowest old.number address unmovable frame) page
-            (free_frame zone address made.0.accepted ∙ ap Some same, (refl, ap (mapped zone old.number address unmovable) same)),
+        accepted_by (Map address unmovable) made (mapping_free old.number address unmovable frame) page
+            (free_frame zone address unmovable made.0.accepted ∙ ap Some same, (refl, ap (mapped zone old.number address unmovable) same)),
       )

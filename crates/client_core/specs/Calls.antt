@@ -8,7 +8,7 @@ use Rattle.state_core.specs.Access.{value_at, loaded}
 use Rattle.state_core.specs.Calls.{refusal_of, answer_of, record_of}
 use Rattle.state_core.specs.Valid.{IsValidZone}
 use Rattle.state_core.specs.Mapping.{mapped}
-use Rattle.state_core.specs.ZoneState.{ZoneState, lowest_free_frame, lowest_unused_page}
+use Rattle.state_core.specs.ZoneState.{ZoneState, frame_for, lowest_unused_page}
 use Rattle.client_core.specs.declared.error.ClientError.{ClientError}
 use Rattle.client_core.specs.declared.error.ClientError.TheVariants.{Memory, Zone}
 use Rattle.client_core.specs.Receipts.{Client, with_receipt}
@@ -57,7 +57,7 @@ abbrev pub mapping : ℕ → Address → Bool → ℕ → ZoneState → ℕ → 
 mapping client address unmovable frame zone page zone_new =
     (page ≡ unwrap_or (lowest_unused_page zone) 0) × (zone_new ≡ mapped zone client address unmovable frame)
 
--- a map answers the fresh page, which is in the lowest free frame, and leaves the zone with this page
-abbrev pub mapping_lowest : ℕ → Address → Bool → ℕ → ZoneState → ℕ → ZoneState → Type 0
-mapping_lowest client address unmovable frame zone page zone_new =
-    (lowest_free_frame zone ≡ Some frame) × mapping client address unmovable frame zone page zone_new
+-- a map that names no frame answers the fresh page, which is in the frame for such a page, and leaves the zone with this page
+abbrev pub mapping_free : ℕ → Address → Bool → ℕ → ZoneState → ℕ → ZoneState → Type 0
+mapping_free client address unmovable frame zone page zone_new =
+    (frame_for zone unmovable ≡ Some frame) × mapping client address unmovable frame zone page zone_new

@@ -8,7 +8,7 @@ ghost use Rattle.state_core.specs.Mapping.{map_refusal, map_at_refusal};
 ghost use Rattle.state_core.specs.Pinning.{pin_refusal, unpin_refusal, pinned, unpinned};
 ghost use Rattle.state_core.specs.Sharing.{share_refusal, shared as shared_by};
 ghost use Rattle.state_core.specs.Unmapping.{unmap_refusal, unmapped};
-ghost use Rattle.client_core.specs.Calls.{HasMade, IsAccepted, IsFailed, leaving, loading, mapping, mapping_lowest};
+ghost use Rattle.client_core.specs.Calls.{HasMade, IsAccepted, IsFailed, leaving, loading, mapping, mapping_free};
 ghost use Rattle.client_core.specs.Receipts.{AreSince, with_receipt};
 ghost use Rattle.hand_core.specs.Told.{pair_of};
 
@@ -183,8 +183,8 @@ impl<J: Telling, T: Receipts> Client<J, T> {
         Ok(answer)
     }
 
-    /// Makes an address name a fresh page in the lowest free frame, and answers this frame. The receipt has the number of
-    /// the page. The flags must not have DIRTY.
+    /// Makes an address name a fresh page in the lowest free frame, or in the highest where the page is unmovable and such pages are mapped
+    /// apart, and answers this frame. The receipt has the number of the page. The flags must not have DIRTY.
     ///
     /// The zone refuses as Range, JournalFull, Occupied or NoFrame.
     pub fn map<K: Keeping, I: Ledger, M: Ledger, B: Ledger, R: Wait>(
@@ -197,7 +197,7 @@ impl<J: Telling, T: Receipts> Client<J, T> {
         requires allows { K.allows self.old.number J.pair }
         requires clean { bit_and flags.0 2 ≡ 0 }
         ensures ok { IfOk result (λ frame. (page : ℕ) × (self.new ≡ with_receipt self.old (Map self.old.number address page))
-            × IsAccepted (λ zone. map_refusal zone address) (mapping_lowest self.old.number address (is_unmovable flags) frame) page) }
+            × IsAccepted (λ zone. map_refusal zone address) (mapping_free self.old.number address (is_unmovable flags) frame) page) }
         ensures err { OnErr result (self.new ≡ self.old) }
         ensures refused { IfErr result (IsFailed T.takes_memory (λ zone. map_refusal zone address)) }
     {

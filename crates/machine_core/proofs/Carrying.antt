@@ -43,7 +43,6 @@ use Rattle.machine_core.specs.World.{WorldState, IsOrderly, isolated_by}
 use Rattle.state_core.specs.ZoneState.{ZoneState, frame_count, has_address, has_room, is_free, placement_at, lowest_free_frame, lowest_unused_page}
 use Rattle.state_core.proofs.Finding.{some_lowest, unused_left, unused_is}
 use Rattle.state_core.proofs.Carried.{own_begun, own_loaded, own_stored, own_placed, own_isolated, own_fresh, own_unmapped}
-use Rattle.state_core.proofs.Facts.{not_none}
 use Rattle.machine_core.proofs.Orderly.{orderly_with_zone, orderly_round_opened, orderly_noted, orderly_isolated}
 
 -- Lists of what hands hold
@@ -276,10 +275,10 @@ module _ (zone next : ZoneState) (scan : ScanSeat) (ends : EndSeat) (is_open : B
   carried_call W call client (Ok done) law refused err ok =
       changed (after call client zone) ok law (call_leaves call client zone) (own_called call client zone was.orderly.valid (sym refused))
 
-  pub carried_mapped : (client : ℕ) (address : Address) (unmovable : Bool) (result : Result ℕ ZoneError) → IsValidZone next → OnErr result (next ≡ zone) → IfOk result (λ frame. lowest_free_frame zone ≡ Some frame) → IfOk result (λ frame. next ≡ mapped zone client address unmovable frame) → IsCarried next scan ends is_open list held capacity
-  carried_mapped client address unmovable (Err error) law err lowest ok = unchanged err
-  carried_mapped client address unmovable (Ok frame) law err lowest ok =
-      changed (mapped zone client address unmovable frame) ok law (record { same_out = refl; migrate = refl; free = refl; blocks = refl }) (own_mapped zone client address unmovable frame was.orderly.valid (not_none _ frame lowest))
+  pub carried_mapped : (client : ℕ) (address : Address) (unmovable : Bool) (result : Result ℕ ZoneError) → IsValidZone next → result_err result ≡ map_refusal zone address → OnErr result (next ≡ zone) → IfOk result (λ frame. next ≡ mapped zone client address unmovable frame) → IsCarried next scan ends is_open list held capacity
+  carried_mapped client address unmovable (Err error) law refused err ok = unchanged err
+  carried_mapped client address unmovable (Ok frame) law refused err ok =
+      changed (mapped zone client address unmovable frame) ok law (record { same_out = refl; migrate = refl; free = refl; blocks = refl }) (own_mapped zone client address unmovable frame was.orderly.valid (frame_left zone address (sym refused)))
 
   pub carried_taken : {T : Type 0} (first : T → ℕ) (order : ℕ) (result : Result T ZoneError) → IsValidZone next → OnErr result (next ≡ zone) → IfOk result (λ block. next ≡ block_taken zone (first block) order) → IsCarried next scan ends is_open list held capacity
   carried_taken first order (Err error) law err ok = unchanged err

@@ -15,7 +15,7 @@ ghost use Rattle.state_core.specs.Mapping.{map_refusal, map_at_refusal, mapped};
 ghost use Rattle.state_core.specs.Access.{access_refusal, value_at, loaded, stored};
 ghost use Rattle.frame_core.specs.PageFlags.{is_unmovable};
 ghost use Rattle.machine_core.specs.World.{WorldState, IsOrderly, waits, world_opened_with, world_closed, with_zone, round_opened, scan_stopped, scanned_by, isolated_by, scan_refusal, scan_answer, scanned, take_step, copy_step, finish_step, shut_step};
-ghost use Rattle.state_core.specs.ZoneState.{lowest_free_frame};
+ghost use Rattle.state_core.specs.ZoneState.{frame_for};
 
 mod calls;
 
@@ -188,7 +188,7 @@ impl<const W: usize, I: Ledger, N: Ledger, M: Ledger, B: Ledger> World<W, I, N, 
         self.is_open
     }
 
-    /// Makes an address name a fresh page in the lowest free frame. Its condition and its refusals are those of `Zone::map`.
+    /// Makes an address name a fresh page in a free frame. The frame, the condition and the refusals are those of `Zone::map`.
     pub fn map(
         &mut self,
         client: ClientNo,
@@ -198,7 +198,7 @@ impl<const W: usize, I: Ledger, N: Ledger, M: Ledger, B: Ledger> World<W, I, N, 
         requires clean { bit_and flags.0 2 ≡ 0 }
         ensures refused { result_err result ≡ map_refusal self.old.zone address }
         ensures err { OnErr result (self.new ≡ self.old) }
-        ensures frame { IfOk result (λ frame. lowest_free_frame self.old.zone ≡ Some frame) }
+        ensures frame { IfOk result (λ frame. frame_for self.old.zone (is_unmovable flags) ≡ Some frame) }
         ensures ok { IfOk result (λ frame. self.new ≡ with_zone self.old (mapped self.old.zone client address (is_unmovable flags) frame)) }
         ensures orderly { IsOrderly self.new }
     {

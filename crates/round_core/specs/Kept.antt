@@ -9,7 +9,7 @@ use Rattle.state_core.specs.ZoneState.{ZoneState, takes_up, is_held}
 pub record LockInvariant (z : ZoneState) : Type 0 where
   -- each load in the journal gave the value that was stored last before it in that word of that page
   pub loads : IsTruthful z.records
-  -- each block that is handed out is clear: no page takes up a frame of it
+  -- each frame that is in a block that is handed out, or claimed, is clear: no page takes it up
   pub clear : (page frame : ℕ) → is_held z frame ≡ true → takes_up (map.get z.placement page) frame ≡ false
   -- the zone is valid, as every zone is
   pub valid : IsValidZone z

@@ -2,6 +2,7 @@ ghost use Rattle.std.specs.Prelude.{◌≡◌, ◌≤◌};
 
 mod answers;
 mod calls;
+mod claims;
 mod contents;
 mod counts;
 mod draws;

@@ -36,7 +36,7 @@ pub fn plays(rt: &impl Abort, zone: &mut BareZone<1>, name: &str, rows: &[(Call,
 }
 
 /// The frame of a page.
-pub fn frame_of(rt: &impl Abort, zone: &BareZone<1>, name: Name) -> u32 {
+pub fn frame_of<const W: usize>(rt: &impl Abort, zone: &BareZone<W>, name: Name) -> u32 {
     match zone.look(address(rt, name)).shown() {
         Answer::At { frame, .. } => frame,
         _ => panic!(rt; "there is no page"),
