@@ -13,7 +13,7 @@ use Rattle.state_core.specs.Calls.{refusal_of, answer_of, after}
 use Rattle.state_core.specs.Valid.{IsValidZone}
 use Rattle.state_core.specs.Mapping.{mapped}
 use Rattle.state_core.specs.Unmapping.{is_last, unmapped, without_page}
-use Rattle.state_core.specs.ZoneState.{ZoneState, lowest_free_frame, noted}
+use Rattle.state_core.specs.ZoneState.{ZoneState, frame_for, lowest_free_frame, noted}
 use Rattle.state_core.proofs.Placed.{clash}
 use Rattle.machine_core.proofs.Carrying.{frame_left, frame_left_at}
 use Rattle.machine_core.specs.World.{IsOrderly, WorldState, with_zone, world_opened}
@@ -96,7 +96,7 @@ module _ (older : List Record) (w : WorldState) (o : IsOrderly w) (m : Match w.z
   kept journal names words = match_same w.zone.records journal.records older names words m
 
   tells_accepted : (c : ZoneCall 8) → refusal_of c w.zone ≡ None → Tells older (Zone c) (says (reply_for c (answer_of c w.zone)) (with_zone w (after c 0 w.zone)))
-  tells_accepted (Map a unmovable) e = record { match = maps_fresh older w.zone a unmovable (unwrap_or (lowest_free_frame w.zone) 0) o.valid (frame_left w.zone a e) m; value = λ zone. tt }
+  tells_accepted (Map a unmovable) e = record { match = maps_fresh older w.zone a unmovable (unwrap_or (frame_for w.zone unmovable) 0) o.valid (frame_left w.zone a e) m; value = λ zone. tt }
   tells_accepted (MapAt a unmovable frame) e = record { match = maps_fresh older w.zone a unmovable frame o.valid (frame_left_at w.zone a frame e) m; value = λ zone. tt }
   tells_accepted (Store a word value) e = record { match = match_stored w.zone.records older a word value m; value = λ zone. tt }
   tells_accepted (Load a word) e =
