@@ -6,9 +6,9 @@ use Rattle.state_core.specs.HandingOut.{has_block}
 use Rattle.state_core.specs.ZoneState.{ZoneState}
 use Rattle.compactd_c.proofs.zone.empty_some.Goals as goal
 
--- where a run may have a block, the frames that are told are those of it that are claimed
+-- where a run may have a block, as many frames are answered as it has claimed ones
 claimed_in_run : (z : ZoneState) (first order claimed : ℕ) → Some claimed ≡ (if has_block z order first then Some (claimed_frames first (2 ^ order) z) else None) → claimed ≡ claimed_frames first (2 ^ order) z
-claimed_in_run z first order claimed told = grind arith
+claimed_in_run z first order claimed answered = grind arith
 
 pub overflow_sub-result : goal.overflow_sub-result
 overflow_sub-result g c =
