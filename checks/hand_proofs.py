@@ -83,6 +83,10 @@ HAND_PROOFS = {
         "it says how many of the numbers are written, and proves no function by hand",
         "18903cc8d90fcb315c40b3a13ba86e87e8b8d112b0fe74cecc4b40d486cb26aa",
     ),
+    "crates/compactd_c/proofs/zone/empty_some/Answers.antt": (
+        "it says that a run has no more claimed frames than frames, and proves no function by hand",
+        "6f493b492c2205806d4afb616d9b068534a23c1d77c37f134f7fccc8fdc86c41",
+    ),
     "crates/compactd_c/src/pool.rt": (
         "it makes a box of its pointer or lends what lies there, and may go to another thread",
         "b26e6210a9cef64380e8af249fc29c7cf52ea60180bc07976e1c91eaa9825807",
