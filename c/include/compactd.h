@@ -479,7 +479,8 @@ uint32_t compactd_claim(compactd_pool *pool, uint32_t first, uint32_t order, uin
  * the highest free frame that is in no marked pageblock, and the frame that it leaves is claimed, and so on. Gets how many pages were moved,
  * and how many frames of the run aren't claimed yet; where that is 0, compactd_take_claimed takes the run. A page that is moving, pinned or
  * unmovable stays, and a later step may move it. Where fewer pages were moved than were asked for, and frames are unclaimed, such pages are
- * left or no frame is free for them. With `most` 0 it only claims. A run without a claim may be emptied so too.
+ * left or no frame is free for them. With `most` 0 it only claims. A run without a claim may be emptied so too, and a mark
+ * of its pageblock doesn't matter.
  * Refused: CLOSED; RANGE, as compactd_claim is; JOURNAL_FULL where there aren't two places for each page that may go, or for `most` of them
  * where they are more. */
 uint32_t compactd_empty_some(compactd_pool *pool, uint32_t first, uint32_t order, uint32_t most, uint32_t *moved, uint32_t *unclaimed)
