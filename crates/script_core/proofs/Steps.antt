@@ -1,6 +1,6 @@
 -- Each call keeps a world orderly, with the same number of pageblocks.
 use Rattle.std.proofs.Common.{◌≡◌, ℕ, zero, suc, ◌+◌, ◌*◌, refl, ap, ◌∙◌, arith, Option, Some, None}
-use Rattle.std.specs.Prelude.{nat_eq, IfSome}
+use Rattle.std.specs.Prelude.{nat_eq}
 use Rattle.std.specs.List.{list_any}
 use Rattle.frame_core.specs.declared.place.Address.{Address}
 use Rattle.state_core.specs.declared.call.ZoneAnswer.{ZoneAnswer}
