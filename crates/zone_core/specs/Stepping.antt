@@ -1,9 +1,18 @@
 -- While pages leave a run in steps, one after the other.
-use Rattle.std.specs.Prelude.{◌≡◌, ℕ, ◌+◌, ◌*◌, true, false, length}
+use Rattle.std.specs.Prelude.{◌≡◌, ℕ, ◌+◌, ◌*◌, ◌^◌, Bool, true, false, ◌&&◌, ◌||◌, is_some, length, nat_lt}
+use Rattle.frame_core.specs.Below.{count_from}
 use Rattle.frame_core.specs.Moves.{moved, out}
+use Rattle.fewest_core.specs.Claims.{highest_vacant, pages_to_go}
 use Rattle.fewest_core.specs.Evacuation.{is_in_run, IsCarriedOut}
 use Rattle.state_core.specs.Claiming.{is_claimed}
+use Rattle.state_core.specs.HandingOut.{has_block}
 use Rattle.state_core.specs.ZoneState.{ZoneState, is_free}
+
+-- whether a step would do something for a run: a frame of it is free, or a page of it may go and there is a frame for it
+abbrev pub is_unfinished : ZoneState → (first order : ℕ) → Bool
+is_unfinished z first order =
+    has_block z order first
+    && (nat_lt 0 (count_from (is_free z) first (2 ^ order)) || (nat_lt 0 (pages_to_go first (2 ^ order) z) && is_some (highest_vacant z)))
 
 -- n pages of a run went, none of whose frames is free
 pub record IsStepping (first size : ℕ) (old z : ZoneState) (n : ℕ) : Type 0 where

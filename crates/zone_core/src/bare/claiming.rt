@@ -3,7 +3,7 @@
 ghost use Rattle.std.specs.Prelude.{◌≡◌, ◌+◌, ◌/◌, ◌^◌, ◌≤◌, ℕ, true, false, Some, None, if◌then◌else◌, IfOk, OnOk, OnErr, IsTrue};
 ghost use Rattle.std.specs.FinMap as map;
 ghost use Rattle.std.specs.Result.{result_err};
-ghost use Rattle.fewest_core.specs.Claims.{claim_refusal, claimed_frames, claimed_taken, drop_refusal, gone, highest_vacant, next_to_go, pages_gone, step_refusal, stepped, take_claimed_refusal};
+ghost use Rattle.fewest_core.specs.Claims.{claim_refusal, claimed_frames, claimed_taken, drop_refusal, pages_gone, step_refusal, stepped, take_claimed_refusal};
 ghost use Rattle.fewest_core.specs.Evacuation.{has_room_for_moves, is_in_run, IsCarriedOut};
 ghost use Rattle.fewest_core.specs.FewestMoves.{cost};
 ghost use Rattle.frame_core.specs.Moves.{moved};
@@ -168,47 +168,32 @@ impl<const W: usize> BareZone<W> {
         }
     }
 
-    /// Moves so many pages out of a run, no frame of which is free, or as many as there are frames for, and claims the frames that they
-    /// leave. Answers how many went.
+    /// Moves so many pages out of a run, no frame of which is free, or as many as there are frames for, the lowest page first. Each goes to
+    /// the highest free frame of an unmarked pageblock, and the frame that it leaves is claimed. Answers how many went.
     fn move_out(&mut self, first: FrameNo, order: Order, pages: u32) -> u32
         requires shut { (frame : ℕ) → is_in_run first (2 ^ order) frame ≡ true → is_free self.old frame ≡ false }
         requires block { IsTrue (has_block self.old order first) }
         requires room { IsTrue (has_room_for_moves self.old pages) }
-        requires valid { IsValidZone self.old }
         ensures gone { self.new ≡ pages_gone first (2 ^ order) self.old pages }
         ensures stepping { IsStepping first (2 ^ order) self.old self.new result }
         ensures most { result ≤ pages }
         ensures valid { IsValidZone self.new }
     {
         let mut moved = 0;
-        while moved < pages && self.move_one_out(first, order) {
+        while moved < pages {
+            let Some(source) = self.tables.next_to_go(first, order) else {
+                return moved;
+            };
+            let Some(target) = self.tables.highest_vacant() else {
+                return moved;
+            };
+            let Some(page) = self.tables.holder(source) else {
+                unreachable!();
+            };
+            self.tables.move_page(page, source, target);
+            self.tables.claim(source);
             moved += 1;
         }
         moved
-    }
-
-    /// Moves the lowest page that may go out of a run, no frame of which is free, if there is such a page and a frame for it, and claims
-    /// the frame that it leaves. Answers whether one went.
-    fn move_one_out(&mut self, first: FrameNo, order: Order) -> bool
-        requires shut { (frame : ℕ) → is_in_run first (2 ^ order) frame ≡ true → is_free self.old frame ≡ false }
-        requires block { IsTrue (has_block self.old order first) }
-        requires room { IsTrue (has_room_for_moves self.old 1) }
-        ensures gone { self.new ≡ gone self.old (next_to_go first (2 ^ order) self.old) (highest_vacant self.old) }
-        ensures stays { result ≡ false → self.new ≡ self.old }
-        ensures stepping { result ≡ true → IsStepping first (2 ^ order) self.old self.new 1 }
-        ensures valid { IsValidZone self.new }
-    {
-        let Some(source) = self.tables.next_to_go(first, order) else {
-            return false;
-        };
-        let Some(target) = self.tables.highest_vacant() else {
-            return false;
-        };
-        let Some(page) = self.tables.holder(source) else {
-            unreachable!();
-        };
-        self.tables.move_page(page, source, target);
-        self.tables.claim(source);
-        true
     }
 }

@@ -22,7 +22,7 @@ move_out-requires g c =
         subst (IsShutRun c.args.first (2 ^ c.args.order)) (sym base) (claimed_shut c.args.first (2 ^ c.args.order) c.args.self.now),
         (
           ap (λ (u : ZoneState). has_block u c.args.order c.args.first) base ∙ block,
-          (ap (λ (u : ZoneState). has_room_for_moves u c.min-pages.result) base ∙ room, c.claim_free.ensures.valid),
+          ap (λ (u : ZoneState). has_room_for_moves u c.min-pages.result) base ∙ room,
         ),
       ),
     )

@@ -6,10 +6,10 @@ use Rattle.zone_core.proofs.bare.BareZone.move_out.Given as goal
 
 abbrev pub invariant-loop-moved : goal.invariant-loop-moved
 invariant-loop-moved g l = record {
-  gone : l.self ≡ pages_gone l.first (2 ^ l.order) l.fn.self l.moved;
-  stepping : IsStepping l.first (2 ^ l.order) l.fn.self l.self l.moved;
+  gone : l.self-inside.tables.value ≡ pages_gone l.first (2 ^ l.order) l.fn.self l.moved;
+  stepping : IsStepping l.first (2 ^ l.order) l.fn.self l.self-inside.tables.value l.moved;
   most : l.moved ≤ l.pages;
-  valid : IsValidZone l.self;
+  valid : IsValidZone l.self-inside.tables.value;
 }
 
 abbrev pub decreases-loop-moved : goal.decreases-loop-moved
