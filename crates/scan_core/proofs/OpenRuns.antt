@@ -1,7 +1,6 @@
 -- Runs of frames that are free, or have a page that may be taken from them.
-use Rattle.std.proofs.Common.{◌≡◌, ◌≢◌, ℕ, zero, suc, ◌+◌, ◌^◌, ◌≤◌, Bool, true, false, refl, sym, ap, ◌∙◌, eq-eqb, arith}
+use Rattle.std.proofs.Common.{◌≡◌, ◌≢◌, ℕ, zero, suc, ◌+◌, ◌^◌, ◌≤◌, Bool, true, false, refl, sym, ◌∙◌, eq-eqb, arith}
 use Rattle.std.specs.Prelude.{Option, Some, None, slice_get, ◌||◌, if◌then◌else◌}
-use Rattle.std.specs.FinSet as set
 use Rattle.std.proofs.lemmas.Bool.{ne_eqb}
 use Rattle.number_set.specs.Runs.{count_in_run}
 use Rattle.frame_core.specs.Below.{count_below, count_from, one_if}
@@ -10,8 +9,6 @@ use Rattle.frame_core.specs.declared.state.FrameState.TheVariants.{Free, Holds, 
 use Rattle.frame_core.proofs.Searches.{count_from_full, count_from_most, count_from_same}
 use Rattle.scan_core.specs.Frames.{Frames, free_at, holds_at, is_free_state, is_holding_state, is_open_at, is_source_state, source_at, true_at}
 use Rattle.scan_core.specs.NumberSet.{all_from}
-use Rattle.scan_core.specs.Sound.{frames_of, IsSound}
-use Rattle.scan_core.specs.declared.frames.Frames.TheInside.{Inside}
 use Rattle.scan_core.proofs.Steps.{free_not_source}
 
 -- the two words for the count of the numbers of a run
@@ -50,17 +47,15 @@ open_holds (Some (Target serial)) movable is = refl
 open_holds None movable is = refl
 
 -- the counts that the two sets give of a run
-module _ (z : Inside) (sound : IsSound z) {now : Frames} (view : frames_of z ≡ now) (first count free pages : ℕ) (free_is : free ≡ count_from (set.contains z.free.members) first count) (pages_are : pages ≡ count_from (source_at now.states now.movable) first count) where
-  -- neither of them is greater than the run
-  pub counts_fit : (free ≤ count) × (pages ≤ count)
-  counts_fit = (omega (arith, free_is, count_from_most (set.contains z.free.members) first count), omega (arith, pages_are, count_from_most (source_at now.states now.movable) first count))
-
+module _ (now : Frames) (first count free pages : ℕ) (free_is : free ≡ count_from (free_at now.states) first count) (pages_are : pages ≡ count_from (source_at now.states now.movable) first count) where
   open_counted : free + pages ≡ count_from (is_open_at now) first count
   open_counted =
       (λ i. free_is i + pages_are i)
-      ∙ (λ i. count_from (λ n. sound.free n i) first count + count_from (source_at now.states now.movable) first count)
-      ∙ ap (λ (frames : Frames). count_from (free_at frames.states) first count + count_from (source_at now.states now.movable) first count) view
       ∙ either_from (free_at now.states) (source_at now.states now.movable) first count (λ n. free_not_source (slice_get now.states n) (true_at now.movable n))
+
+  -- together they aren't greater than the run
+  pub counts_fit : free + pages ≤ count
+  counts_fit = omega (arith, open_counted, count_from_most (is_open_at now) first count)
 
   pub all_open : free + pages ≡ count → true ≡ all_from (is_open_at now) first count
   all_open all = sym (eq-eqb (count_from (is_open_at now) first count) count (sym open_counted ∙ all))

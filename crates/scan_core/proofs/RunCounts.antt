@@ -1,10 +1,11 @@
 -- Counts after the numbers of a run began to pass, or no longer do.
-use Rattle.std.proofs.Common.{◌≡◌, ◌≢◌, ℕ, zero, suc, ◌+◌, ◌-◌, ◌*◌, ◌/◌, ◌%◌, ◌<◌, ◌≤◌, Bool, true, false, List, length, inl, inr, refl, sym, ap, ◌∙◌, slice_index, length-set, eq-eqb, arith}
+use Rattle.std.proofs.Common.{◌≡◌, ◌≢◌, ℕ, zero, suc, ◌+◌, ◌-◌, ◌*◌, ◌/◌, ◌%◌, ◌^◌, ◌<◌, ◌≤◌, Bool, true, false, List, length, inl, inr, refl, sym, ap, ◌∙◌, slice_index, length-set, eq-eqb, arith}
 use Rattle.std.specs.Prelude.{Some, nat_eq, slice_set, ◌||◌, if◌then◌else◌}
 use Rattle.std.proofs.lemmas.Bool.{eqb-true, ne_eqb, or_right}
 use Rattle.std.proofs.lemmas.Bool.Decides.{eqb_tells, nat_tests}
 use Rattle.std.proofs.lemmas.Option.{get_or_from_slice_get}
 use Rattle.frame_core.specs.Below.{count_below, count_from}
+use Rattle.frame_core.specs.Order.{is_aligned}
 use Rattle.frame_core.proofs.Lists.{slice_get_set_same, slice_get_set_other}
 use Rattle.frame_core.proofs.Searches.{count_more, count_same, count_some, count_from_same, count_from_most}
 use Rattle.frame_core.proofs.Bounds.{count_most, count_from_short}
@@ -39,6 +40,13 @@ count_run p r first m n most adds = count_same r (λ k. in_run first m k || p k)
 -- the number that a list has for a pageblock is the count of its frames that pass
 pub counted : (counts : List ℕ) (p : ℕ → Bool) (block : ℕ) → CountsEach counts p → block < length counts → slice_index counts block ≡ count_in_block p block
 counted counts p block each within = get_or_from_slice_get counts block _ 0 (each block within)
+
+-- where a block is a pageblock, this number is the count of its frames that pass
+pub pageblock_counted : (counts : List ℕ) (p : ℕ → Bool) (first order : ℕ) → CountsEach counts p → order ≡ 9 → is_aligned order first ≡ true → first / 512 < length counts → slice_index counts (first / 512) ≡ count_from p first (2 ^ order)
+pageblock_counted counts p first order each nine aligned within =
+    let at : first / 512 * 512 ≡ first = eqb-true (first / 512 * 512) first (sym (ap (λ o. is_aligned o first) nine) ∙ aligned) in
+    let from : 512 * (first / 512) ≡ first = omega (arith, at) in
+    counted counts p (first / 512) each within ∙ (λ i. count_from p (from i) (2 ^ sym nine i))
 
 -- a frame that doesn't pass leaves room for one more, and a frame that passes is counted
 pub counted_less : (counts : List ℕ) (p : ℕ → Bool) (frame : ℕ) → CountsEach counts p → frame / 512 < length counts → p frame ≡ false → slice_index counts (frame / 512) < 512

@@ -118,5 +118,8 @@ module _ (z : Inside) (sound : IsSound z) where
   pub movable_found_in : (from end : ℕ) → lowest (λ frame. nat_le from frame && set.contains z.candidates.sources.members frame) end ≡ lowest (λ frame. nat_le from frame && source_at (seen z.held.members z.kept.items) z.movable.items frame) end
   movable_found_in from end = λ i. lowest (λ frame. nat_le from frame && sound.sources frame i) end
 
+  pub free_counted_in : (first count : ℕ) → count_from (set.contains z.free.members) first count ≡ count_from (free_at (seen z.held.members z.kept.items)) first count
+  free_counted_in first count = λ i. count_from (free_is i) first count
+
   pub movable_counted : (first count : ℕ) → count_from (set.contains z.candidates.sources.members) first count ≡ count_from (source_at (seen z.held.members z.kept.items) z.movable.items) first count
   movable_counted first count = λ i. count_from (λ n. sound.sources n i) first count

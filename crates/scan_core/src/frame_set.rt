@@ -146,13 +146,16 @@ impl FrameSet {
         self.blocks.count_unmarked(marks)
     }
 
-    /// How many frames of a block of this order are members.
+    /// How many frames of a block of this order are members. Of a pageblock there is a count of them.
     #[inline(always)]
     pub(crate) fn count_run(&self, first: FrameNo, order: Order) -> u32
         requires aligned { is_aligned order first ≡ true }
         requires within { first + 2 ^ order ≤ self.now.bound }
         ensures { result ≡ count_from (set.contains self.now.members) first (2 ^ order) }
     {
+        if order.get() == 9 {
+            return self.blocks.get(first.get() / 512);
+        }
         self.numbers.count_run(first.get(), order.get())
     }
 

@@ -286,6 +286,15 @@ impl Frames {
         self.free.first_run(order)
     }
 
+    /// How many frames of a block are free. Of a pageblock there is a count, and else it looks at a word for each 64 frames.
+    #[inline(always)]
+    pub fn free_in_run(&self, first: FrameNo, order: Order) -> u32
+        requires { has_block self.now.states order first ≡ true }
+        ensures { result ≡ count_from (free_at self.now.states) first (2 ^ order) }
+    {
+        self.free.count_run(first, order)
+    }
+
     /// How many pages of a block may be taken from their frames.
     #[inline(always)]
     pub fn movable_in_run(&self, first: FrameNo, order: Order) -> u32
@@ -303,9 +312,9 @@ impl Frames {
         ensures pages { IfSome result (λ pages. pages ≡ count_from (holds_at self.now.states) first (2 ^ order)) }
         ensures order { order ≤ 9 }
     {
-        let free = self.free.count_run(first, order);
+        let free = self.free_in_run(first, order);
         let pages = self.movable_in_run(first, order);
-        if free + pages != order.frames() {
+        if order.frames() != free + pages {
             return None;
         }
         Some(pages)

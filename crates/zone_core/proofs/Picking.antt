@@ -1,6 +1,6 @@
 -- A walk over the runs of a zone finds the open one that is next in rank.
-use Rattle.std.proofs.Common.{◌≡◌, ◌≢◌, ℕ, zero, suc, ◌+◌, ◌-◌, ◌*◌, ◌/◌, ◌^◌, ◌<◌, ◌≤◌, Bool, true, false, ◌&&◌, ◌||◌, List, length, inl, inr, refl, sym, ap, subst, ◌∙◌, arith}
-use Rattle.std.specs.Prelude.{Option, Some, None, is_some, IfSome, nat_eq, nat_le, nat_lt, slice_index, slice_set}
+use Rattle.std.proofs.Common.{◌≡◌, ◌≢◌, ℕ, zero, suc, ◌+◌, ◌-◌, ◌*◌, ◌/◌, ◌^◌, ◌<◌, ◌≤◌, Bool, true, false, not, ◌&&◌, ◌||◌, List, [], ◌∷◌, length, inl, inr, refl, sym, ap, subst, ◌∙◌, arith}
+use Rattle.std.specs.Prelude.{Option, Some, None, is_some, if◌then◌else◌, IfSome, nat_eq, nat_le, nat_lt, slice_index, slice_set}
 use Rattle.std.proofs.lemmas.Bool.{and_from, both_ways, cases_Bool, eq-eqb, false_from_ne_true, le-leb, leb-true, lt-ltb, ltb-true}
 use Rattle.std.proofs.lemmas.Bool.Decides.{eqb_tells}
 use Rattle.frame_core.proofs.Searches.{count_from_most, count_most}
@@ -8,11 +8,13 @@ use Rattle.frame_core.specs.Below.{count_below}
 use Rattle.std.proofs.lemmas.List.{get_or-set_other, get_or-set_same}
 use Rattle.std.proofs.lemmas.Nat.{pow_pos}
 use Rattle.frame_core.specs.Order.{is_aligned}
+use Rattle.state_core.specs.declared.error.ZoneError.TheVariants.{Range, NoBlock}
 use Rattle.state_core.specs.HandingOut.{has_block}
 use Rattle.state_core.proofs.Runs.{quotient}
 use Rattle.state_core.specs.ZoneState.{ZoneState, frame_count, is_used}
+use Rattle.fewest_core.specs.Claims.{claim_refusal}
 use Rattle.fewest_core.specs.FewestMoves.{cost, costs, is_open, least, run_count}
-use Rattle.fewest_core.specs.Reservation.{goes_before, rank}
+use Rattle.fewest_core.specs.Reservation.{goes_before, rank, ArePicked}
 use Rattle.fewest_core.proofs.Costs.{costs_counted}
 use Rattle.fewest_core.proofs.Ranks.{after_is, all_picked, before_trans, least_more, next_rank as first_has_rank, not_after, not_itself, of_rank, picks, picks_parts, rank_within}
 use Rattle.zone_core.specs.declared.bare.reserving.OpenRun.{OpenRun}
@@ -208,6 +210,23 @@ module _ (z : ZoneState) (order : ℕ) (firsts : List ℕ) (n : ℕ) (is : IsPic
     opened = by_place (λ place k. is_open z (2 ^ order) (k / 2 ^ order) ≡ true) (ap (is_open z (2 ^ order)) number_is ∙ run.opened) is.opened;
     ranked = by_place (λ place k. rank z (2 ^ order) (k / 2 ^ order) ≡ place) (ap (rank z (2 ^ order)) number_is ∙ next) is.ranked;
   }
+
+-- an open run before which no other goes, by its first frame
+module _ (z : ZoneState) (order : ℕ) (r : OpenRun) (run : IsOpenRun z (2 ^ order) r) (ranked : rank z (2 ^ order) r.number ≡ 0) (first : ℕ) (at : first ≡ 2 ^ order * r.number) where
+  pub first_picked : ArePicked z order (first ∷ [])
+  first_picked =
+      let none : IsPickedUpto z order (first ∷ []) 0 = record { block = λ place h. absurd (omega (arith, h)); opened = λ place h. absurd (omega (arith, h)); ranked = λ place h. absurd (omega (arith, h)) } in
+      let picked = picks_more z order (first ∷ []) 0 none (omega arith) r run first at ranked in
+      record { block = picked.block; opened = picked.opened; ranked = picked.ranked }
+
+  pub first_cost : r.pages ≡ cost z (2 ^ order) (first / 2 ^ order)
+  first_cost = run.pages ∙ ap (cost z (2 ^ order)) (sym (ap (λ (k : ℕ). k / 2 ^ order) at ∙ start_number z order r.number run.within))
+
+  pub first_least : r.pages ≡ least 1 z (2 ^ order)
+  first_least = omega (arith, least_next z (2 ^ order) r 0 run ranked)
+
+  pub first_claimed : claim_refusal z first order ≡ None
+  first_claimed = λ i. if not (first_picked.block 0 (omega arith) i) then Some Range else if not (first_picked.opened 0 (omega arith) i) then Some NoBlock else None
 
 -- the pages of the cheapest runs are no more than their frames
 pub pages_fit : (z : ZoneState) (size pages n : ℕ) (r : OpenRun) → IsOpenRun z size r → pages ≤ size * n → nat_lt n (length (costs z size)) ≡ true → (pages + r.pages ≤ size * (n + 1)) × (pages + r.pages ≤ frame_count z)

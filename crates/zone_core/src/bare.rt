@@ -25,6 +25,7 @@ mod words;
 
 use frame_core::{Address, BlockNo, Journal, ZoneNo};
 pub use one_thread::Slice;
+pub use reserving::CheapestRun;
 use state_core::{Info, Look, ZoneError, ZoneSize};
 use std::alloc::Global;
 use std::marker::Model;

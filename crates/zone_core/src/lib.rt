@@ -34,7 +34,7 @@ mod tables;
 mod zone;
 
 pub use agreement::{calls_agree, contents_agree, looks_agree, moves_agree, rounds_agree};
-pub use bare::{BareZone, Slice};
+pub use bare::{BareZone, CheapestRun, Slice};
 pub use frame_core::{
     Address, BlockNo, Cause, ClientNo, Copied, CopiedOf, FrameNo, Isolated, IsolatedOf, Journal,
     Order, PageFlags, PageNo, Record, Serial, SpaceNo, VPage, WordNo, WordOf, ZoneNo,

@@ -1,10 +1,11 @@
 //! Reservations: the cheapest open runs are emptied and handed out.
 
-ghost use Rattle.std.specs.Prelude.{◌≡◌, ◌+◌, ◌*◌, ◌^◌, ◌<◌, ◌≤◌, ℕ, Some, true, false, is_some, length, nat_le, nat_lt, slice_index, IfOk, IfSome, OnOk, OnErr};
+ghost use Rattle.std.specs.Prelude.{◌≡◌, ◌+◌, ◌*◌, ◌/◌, ◌^◌, ◌<◌, ◌≤◌, ℕ, None, Some, true, false, [], ◌∷◌, is_some, length, nat_le, nat_lt, slice_index, IfOk, IfSome, OnOk, OnErr};
 ghost use Rattle.std.specs.FinMap as map;
 ghost use Rattle.std.specs.Result.{result_err};
+ghost use Rattle.fewest_core.specs.Claims.{claim_refusal};
 ghost use Rattle.fewest_core.specs.Evacuation.{is_beside, is_in_run, IsCarriedFrom};
-ghost use Rattle.fewest_core.specs.FewestMoves.{costs, is_shut, least};
+ghost use Rattle.fewest_core.specs.FewestMoves.{cost, costs, is_shut, least};
 ghost use Rattle.fewest_core.specs.Reservation.{blocks_taken, cleared, is_in_runs, rank, reserve_refusal, reserved, ArePicked};
 ghost use Rattle.frame_core.specs.Below.{highest};
 ghost use Rattle.frame_core.specs.Moves.{moved, out};
@@ -19,6 +20,15 @@ use crate::bare::BareZone;
 use crate::bare::evacuating::is_in_run;
 use frame_core::{FrameNo, Order};
 use state_core::ZoneError;
+
+/// The open run of an order with the fewest pages.
+#[derive(Clone, Copy, Debug, PartialEq, Eq)]
+pub struct CheapestRun {
+    /// Its first frame.
+    pub first: FrameNo,
+    /// How many pages it has.
+    pub pages: u32,
+}
 
 /// An open run by its number among the runs of its size, and how many pages it has.
 #[derive(Clone, Copy)]
@@ -84,6 +94,24 @@ impl<const W: usize> BareZone<W> {
         self.clear(order, firsts);
         self.hand_out_each(order, firsts);
         Ok(pages)
+    }
+
+    /// The open run of an order with the fewest pages, the lowest of equals, if a run is open. A run is open where no frame of it is in a
+    /// marked pageblock, handed out, claimed, or of a page that is moving, pinned or unmovable.
+    pub fn cheapest_run(&self, order: Order) -> Option<CheapestRun>
+        ensures there { is_some result ≡ nat_lt 0 (length (costs self.now (2 ^ order))) }
+        ensures picked { IfSome result (λ run. ArePicked self.now order (run.first ∷ [])) }
+        ensures pages { IfSome result (λ run. run.pages ≡ cost self.now (2 ^ order) (run.first / 2 ^ order)) }
+        // No other open run has fewer.
+        ensures least { IfSome result (λ run. run.pages ≡ least 1 self.now (2 ^ order)) }
+        ensures claim { IfSome result (λ run. claim_refusal self.now run.first order ≡ None) }
+    {
+        let run = self.next_open(order, None)?;
+        let first = run_start(order, run.number);
+        Some(CheapestRun {
+            first,
+            pages: run.pages,
+        })
     }
 
     /// How many pages move for so many blocks, or why their reservation is refused.
