@@ -7,6 +7,7 @@ mod contents;
 mod counts;
 mod draws;
 mod emptying;
+mod keeping;
 mod lists;
 mod many_addresses;
 mod many_pageblocks;

@@ -11,7 +11,7 @@ ghost use Rattle.state_core.specs.Claiming.{is_claimed, run_claimed, run_dropped
 ghost use Rattle.state_core.specs.HandingOut.{has_block};
 ghost use Rattle.state_core.specs.Valid.{IsValidZone};
 ghost use Rattle.state_core.specs.ZoneState.{is_free};
-ghost use Rattle.zone_core.specs.Stepping.{IsStepping};
+ghost use Rattle.zone_core.specs.Stepping.{is_unfinished, IsStepping};
 ghost use Rattle.zone_core.specs.ZoneIdentity.{HasIdentity};
 
 use crate::bare::BareZone;
@@ -83,6 +83,18 @@ impl<const W: usize> BareZone<W> {
         }
         self.claim_free(first, order);
         Ok(self.move_out(first, order, pages))
+    }
+
+    /// Whether a step of `empty_some` would do something for a run: a frame of it is free, or a page of it may go and there is a frame for
+    /// it. Where it wouldn't, pages that are pinned, moving or unmovable are all that is left in the run, or nothing is, or all frames of
+    /// unmarked pageblocks are taken. False where no block of this order can begin at the frame.
+    pub fn is_unfinished(&self, first: FrameNo, order: Order) -> bool
+        ensures { result ≡ is_unfinished self.now first order }
+    {
+        self.tables.has_block(first, order)
+            && (self.tables.occupied_in_run(first, order) < order.frames()
+                || self.tables.pages_to_go(first, order) > 0
+                    && self.tables.highest_vacant().is_some())
     }
 
     /// How many frames of a run are claimed, or none where no block of this order can begin at the frame.
