@@ -1,19 +1,19 @@
 -- Which frames are shut, which are used, and which runs are open, by the states of the frames.
-use Rattle.std.proofs.Common.{◌≡◌, ℕ, ◌+◌, ◌-◌, ◌*◌, ◌/◌, ◌^◌, ◌<◌, ◌≤◌, Bool, true, false, not, ◌&&◌, ◌||◌, inl, inr, refl, sym, ap, ◌∙◌, arith}
+use Rattle.std.proofs.Common.{◌≡◌, ℕ, zero, suc, ◌+◌, ◌-◌, ◌*◌, ◌/◌, ◌^◌, ◌<◌, ◌≤◌, Bool, true, false, not, ◌&&◌, ◌||◌, inl, inr, refl, sym, ap, ◌∙◌, arith}
 use Rattle.std.specs.Prelude.{Option, Some, nat_eq, slice_get, unwrap_or}
 use Rattle.std.specs.FinSet as set
-use Rattle.std.proofs.lemmas.Bool.{and_parts, both_ways, eq-eqb, eqb-true, not-false, not-true, or_left}
+use Rattle.std.proofs.lemmas.Bool.{and_parts, both_ways, eq-eqb, eqb-true, not-false, not-true, or_left, or_parts}
 use Rattle.std.proofs.lemmas.Nat.{pow_pos, pow-add}
 use Rattle.std.proofs.lemmas.Option.{slice_get-get_or}
 use Rattle.frame_core.proofs.Searches.{count_from_all, count_from_full, count_from_same}
-use Rattle.frame_core.specs.Below.{count_from}
+use Rattle.frame_core.specs.Below.{count_from, one_if}
 use Rattle.frame_core.specs.Order.{is_aligned}
 use Rattle.frame_core.specs.declared.state.FrameState.{FrameState}
 use Rattle.frame_core.specs.declared.state.FrameState.TheVariants.{Free, Holds, Huge, Source, Target}
-use Rattle.scan_core.specs.Frames.{is_free_state, is_holding_state, holds_at, is_open_at, true_at}
+use Rattle.scan_core.specs.Frames.{free_at, is_free_state, is_holding_state, holds_at, is_open_at, true_at}
 use Rattle.state_core.specs.declared.placement.Placement.TheVariants.{At}
 use Rattle.state_core.specs.Pairs.{can_move, is_marked}
-use Rattle.state_core.specs.ZoneState.{ZoneState, frame_count, is_held, is_used}
+use Rattle.state_core.specs.ZoneState.{ZoneState, frame_count, is_free, is_held, is_used}
 use Rattle.scan_core.proofs.Spanning.{same_by}
 use Rattle.scan_core.specs.NumberSet.{all_from}
 use Rattle.state_core.specs.HandingOut.{has_block}
@@ -85,9 +85,34 @@ all_unless p q first n fails = same_by _ _
     (λ e. eq-eqb _ 0 (count_from_none q first n (λ k h. fails (first + k) (omega arith) (omega (arith, h)) ∙ ap not (count_from_full p first n (first + k) (eqb-true _ n e) (omega arith) (omega (arith, h))))))
     (λ e. eq-eqb _ n (count_from_all p first n (λ k low high. not-false _ (sym (fails k low high) ∙ none_counted q first n k (eqb-true _ 0 e) low high))))
 
+one_of_two : (a b : Bool) → b ≡ not a → one_if a + one_if b ≡ 1
+one_of_two a true is = grind (arith, is)
+one_of_two a false is = grind (arith, is)
+
+-- two counts of a run, each number of which passes just one of the tests
+counts_of_two : (p q : ℕ → Bool) (first n : ℕ) → ((k : ℕ) → first ≤ k → k < first + n → q k ≡ not (p k)) → count_from p first n + count_from q first n ≡ n
+unfolding count_from
+counts_of_two p q first zero other = refl
+counts_of_two p q first (suc n) other = omega (arith, one_of_two (p (first + n)) (q (first + n)) (other (first + n) (omega arith) (omega arith)), counts_of_two p q first n (λ k low top. other k low (omega (arith, top))))
+
+-- where a run is open, each frame of it that isn't free has a page
+pub open_occupied : (v : ZoneState) (first order : ℕ) → has_block v order first ≡ true → is_open v (2 ^ order) (first / 2 ^ order) ≡ true → count_from (is_free v) first (2 ^ order) + cost v (2 ^ order) (first / 2 ^ order) ≡ 2 ^ order
+open_occupied v first order has is =
+    let none = eqb-true _ 0 (sym (open_is v first order has) ∙ is) in
+    let unheld = λ (k : ℕ) (low : first ≤ k) (top : k < first + 2 ^ order). (or_parts (is_held v k) _ (or_parts (is_marked v k) _ (none_counted (is_shut v) first (2 ^ order) k none low top)).1).0 in
+    omega (arith, cost_is v first order has, counts_of_two (is_free v) (is_used v) first (2 ^ order) (λ k low top. unused (is_used v k) (is_held v k) (unheld k low top))) where
+      unused : (used held : Bool) → held ≡ false → used ≡ not (not used && not held)
+      unused true held is = refl
+      unused false held is = sym (ap (λ b. not (not b)) is)
+
 -- where the pageblock of a run is marked, the run is shut
 pub marked_shut : (v : ZoneState) (first order : ℕ) → has_block v order first ≡ true → set.contains v.marked (first / 512) ≡ true → is_open v (2 ^ order) (first / 2 ^ order) ≡ false
 marked_shut v first order has marked = open_is v first order has ∙ shut_closes v first (2 ^ order) first (omega arith) (omega (arith, pow_pos order)) (or_left _ _ marked)
+
+-- as many frames of a run are free as the states say
+pub free_counted : {W : ℕ} (z : Inside W) (v : ZoneState) → IsSound z v → (first order : ℕ) → has_block v order first ≡ true → count_from (free_at z.frames.states) first (2 ^ order) ≡ count_from (is_free v) first (2 ^ order)
+free_counted z v sound first order has =
+    count_from_same (free_at z.frames.states) (is_free v) first (2 ^ order) (λ k low top. free_seen z.frames.states v sound.frames k (omega (arith, top, block_within v first order has)))
 
 module _ {W : ℕ} (z : Inside W) (v : ZoneState) (sound : IsSound z v) (first order : ℕ) (has : has_block v order first ≡ true) (high : order ≤ 9) where
   module _ (unmarked : set.contains v.marked (first / 512) ≡ false) where

@@ -7,7 +7,7 @@ use Rattle.frame_core.proofs.Searches.{count_from_same, count_same, lowest_same,
 use Rattle.frame_core.specs.Below.{count_below, count_from, highest, lowest, some_below}
 use Rattle.frame_core.specs.declared.state.FrameState.{FrameState}
 use Rattle.frame_core.specs.declared.state.FrameState.TheVariants.{Free, Holds, Source, Target, Huge}
-use Rattle.fewest_core.specs.Claims.{highest_vacant, may_go, next_to_go, pages_to_go}
+use Rattle.fewest_core.specs.Claims.{may_go, next_to_go, pages_to_go}
 use Rattle.fewest_core.specs.Evacuation.{is_in_run}
 use Rattle.frame_core.proofs.Bounds.{lowest_past}
 use Rattle.std.proofs.lemmas.Bool.{and_left, and_right, le-ltb, lt-ltb}
@@ -115,10 +115,14 @@ module _ {W : ℕ} {z : Inside W} {v : ZoneState} (view : state_of z ≡ v) (inv
       count_same (scan.is_target states z.marks) (is_free_unmarked v) (length states) (λ frame h. target_seen frame (omega (arith, h, fit.count)))
       ∙ ap (count_below (is_free_unmarked v)) fit.count
 
-  pub highest_vacant_seen : highest (scan.is_target states z.marks) (length states) ≡ highest_vacant v
-  highest_vacant_seen =
-      highest_same (scan.is_target states z.marks) (is_free_unmarked v) (length states) (λ frame h. target_seen frame (omega (arith, h, fit.count)))
-      ∙ ap (highest (is_free_unmarked v)) fit.count
+  pub last_vacant_seen : (end : ℕ) → end ≤ frame_count v → highest (scan.is_target states z.marks) end ≡ highest (is_free_unmarked v) end
+  last_vacant_seen end within = highest_same (scan.is_target states z.marks) (is_free_unmarked v) end (λ frame h. target_seen frame (omega (arith, h, within)))
+
+  pub end_seen : (end : ℕ) → end ≤ frame_count v → end ≤ length states
+  end_seen end within = omega (arith, within, fit.count)
+
+  pub frames_seen : length states ≡ frame_count v
+  frames_seen = fit.count
 
   go_seen : (frame : ℕ) → frame < frame_count v → source_at states movable frame ≡ may_go v frame
   go_seen frame h = by_state frame h (slice_get states frame) refl

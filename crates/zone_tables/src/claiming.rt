@@ -91,6 +91,6 @@ impl<const W: usize> ZoneTables<W> {
     pub fn highest_vacant(&self) -> Option<FrameNo>
         ensures { result ≡ highest_vacant self.now }
     {
-        self.frames.last_vacant(&self.marks, self.frames.len())
+        self.last_vacant(self.frames.len())
     }
 }

@@ -1,15 +1,16 @@
 //! Moving pages outside of a round: what an evacuation asks of frames and of the journal, and the move of one page.
 
-ghost use Rattle.std.specs.Prelude.{◌≡◌, ◌/◌, ◌^◌, ◌<◌, None, IfSome, IsTrue, is_some};
+ghost use Rattle.std.specs.Prelude.{◌≡◌, ◌+◌, ◌/◌, ◌^◌, ◌≤◌, true, None, IfSome, IsTrue, is_some};
 ghost use Rattle.fewest_core.specs.Evacuation.{has_room_for_moves, moved_away};
 ghost use Rattle.fewest_core.specs.FewestMoves.{IsMove, cost, is_open};
 ghost use Rattle.fewest_core.specs.Reservation.{has_room_to_reserve};
+ghost use Rattle.frame_core.specs.Below.{count_from, highest};
 ghost use Rattle.state_core.specs.HandingOut.{has_block};
 ghost use Rattle.state_core.specs.Isolating.{isolate_refusal};
 ghost use Rattle.state_core.specs.Packed.{unmarked_free};
 ghost use Rattle.state_core.specs.Pairs.{is_free_unmarked};
 ghost use Rattle.state_core.specs.Valid.{IsValidZone};
-ghost use Rattle.state_core.specs.ZoneState.{frame_count};
+ghost use Rattle.state_core.specs.ZoneState.{frame_count, is_free};
 
 use crate::zone::ZoneTables;
 use frame_core::{FrameNo, Order, PageNo, Record, block_of};
@@ -28,12 +29,22 @@ impl<const W: usize> ZoneTables<W> {
         self.frames.pages_of_run(first, order)
     }
 
-    /// Whether a frame is free, in an unmarked pageblock.
-    pub fn is_vacant(&self, frame: FrameNo) -> bool
-        requires { frame < frame_count self.now }
-        ensures { result ≡ is_free_unmarked self.now frame }
+    /// How many frames of a run aren't free: as many as it has pages, where it is open. Of a pageblock there is a count.
+    #[inline(always)]
+    pub fn occupied_in_run(&self, first: FrameNo, order: Order) -> u32
+        requires { IsTrue (has_block self.now order first) }
+        ensures count { result + count_from (is_free self.now) first (2 ^ order) ≡ 2 ^ order }
+        ensures pages { is_open self.now (2 ^ order) (first / 2 ^ order) ≡ true → result ≡ cost self.now (2 ^ order) (first / 2 ^ order) }
     {
-        !self.is_marked(block_of(frame)) && self.is_free(frame)
+        order.frames() - self.frames.free_in_run(first, order)
+    }
+
+    /// The highest free frame of an unmarked pageblock below `end`, if there is one.
+    pub fn last_vacant(&self, end: u32) -> Option<FrameNo>
+        requires { end ≤ frame_count self.now }
+        ensures { result ≡ highest (is_free_unmarked self.now) end }
+    {
+        self.frames.last_vacant(&self.marks, end)
     }
 
     /// How many frames of unmarked pageblocks are free. It looks at a count of each pageblock.
