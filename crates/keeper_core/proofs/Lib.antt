@@ -1,1 +1,1 @@
-pub mod Claims
+pub mod Searches

@@ -72,9 +72,7 @@ impl Keeper {
         ensures { IfOk result (λ k. k ≡ record { order = order; ready = ready; claims = firsts.now }) }
     {
         let mut claims = Vec::with_capacity(alloc, ready)?;
-        for first in firsts.iter() {
-            claims.push_reserved(*first);
-        }
+        claims.extend_from_slice(firsts)?;
         Ok(Keeper {
             order,
             ready,
@@ -97,9 +95,8 @@ impl Keeper {
     }
 
     /// Makes one step. It goes on with the first claim that isn't finished, and moves at most `most` pages out of that run. Where all are
-    /// finished and the keeper has fewer claims than it wants, it claims the cheapest open run. So a step moves at most `most` pages or
-    /// looks at the runs of the zone once. After steps that aren't `Rested`, each with a `most` above 0, one comes that is: none of them
-    /// undoes what another did.
+    /// finished and the keeper has fewer claims than it wants, it claims the cheapest open run. So a step moves at most `most` pages, or
+    /// looks at the runs of the zone once. Call it until it rests, and again after a block was taken.
     ///
     /// Refused as JournalFull, as `BareZone::empty_some` is. A refusal changes nothing.
     pub fn step<const W: usize>(
