@@ -57,7 +57,7 @@ free_at states frame = is_free_state (slice_get states frame)
 abbrev pub holds_at : List (FrameState ℕ) → ℕ → Bool
 holds_at states frame = is_holding_state (slice_get states frame)
 
--- whether a frame in the list is of a block that is handed out
+-- whether a frame in the list is held: of a block that is handed out, or alone
 abbrev pub huge_at : List (FrameState ℕ) → ℕ → Bool
 huge_at states frame = is_huge_state (slice_get states frame)
 

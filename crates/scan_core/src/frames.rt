@@ -239,6 +239,7 @@ impl Frames {
     }
 
     /// The highest free frame, if there is one.
+    #[inline(never)]
     pub fn highest_free(&self) -> Option<FrameNo>
         ensures highest { result ≡ highest (free_at self.now.states) (length self.now.states) }
         ensures free { IfSome result (λ frame. free_at self.now.states frame ≡ true) }

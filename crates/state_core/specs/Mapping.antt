@@ -10,7 +10,7 @@ use Rattle.std.specs.FinMap as map
 use Rattle.std.specs.FinSet as set
 use Rattle.frame_core.specs.declared.record.Record.TheVariants.{Map}
 
--- why a map at the lowest free frame is refused, if it is
+-- why a map at a frame that the zone chooses is refused, if it is
 abbrev pub map_refusal : ZoneState → Address → Option ZoneError
 map_refusal z address =
     if not (has_address z address) then Some Range

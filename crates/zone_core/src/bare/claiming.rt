@@ -57,7 +57,8 @@ impl<const W: usize> BareZone<W> {
     /// A step of an evacuation: claims the free frames of a run, and moves at most so many pages out of it, the lowest page first. Each goes
     /// to the highest free frame of an unmarked pageblock, and the frame that it leaves is claimed. Answers how many pages were moved: fewer
     /// than `most` where no page is left in the run that can move, or no frame that one could go to. A page that is pinned, moving or
-    /// unmovable stays, and a later step may move it. No step's work is undone, since no page comes to a claimed frame.
+    /// unmovable stays, and a later step may move it. No step's work is undone, since no page comes to a claimed frame. A mark on the run's
+    /// pageblock, made after its claim, keeps no step from it.
     ///
     /// Refused as Range where no block of this order can begin at the frame. Else refused as JournalFull unless the journal has two places
     /// for each page that the step might move, besides one for each page that is moving.
