@@ -4,7 +4,7 @@ use Rattle.std.specs.FinMap as map
 use Rattle.std.specs.List.{find, before_first, after_first}
 use Rattle.frame_core.specs.Moves.{moved}
 use Rattle.fewest_core.specs.Claims.{claimed_frames, claimed_taken, step_refusal, stepped}
-use Rattle.fewest_core.specs.Evacuation.{is_in_run, IsCarriedFrom, IsCarriedOut}
+use Rattle.fewest_core.specs.Evacuation.{IsCarriedOut}
 use Rattle.fewest_core.specs.FewestMoves.{cost, costs, least}
 use Rattle.fewest_core.specs.Reservation.{reserve_refusal, reserved, ArePicked}
 use Rattle.keeper_core.specs.declared.keeper.Step.{Step}
@@ -51,7 +51,7 @@ pub record IsEmptied (k : Keeper) (z : ZoneState) (most first pages : ℕ) (k_ne
   pub keeper : k_new ≡ k
   pub zone : z_new ≡ stepped first (2 ^ k.order) z most
   pub moved : moved z_new.records ≡ moved z.records + pages
-  pub most : pages ≤ most
+  pub at_most : pages ≤ most
   -- the pages are as they were, but for the frames of those that went
   pub carried : IsCarriedOut first (2 ^ k.order) z z_new
 
@@ -60,7 +60,7 @@ pub record IsClaimed (k : Keeper) (z : ZoneState) (first pages : ℕ) (k_new : K
   pub finished : next_unfinished k z ≡ None
   pub lacks : length k.claims < k.ready
   pub picked : ArePicked z k.order (first ∷ [])
-  pub pages : pages ≡ cost z (2 ^ k.order) (first / 2 ^ k.order)
+  pub cost : pages ≡ cost z (2 ^ k.order) (first / 2 ^ k.order)
   pub keeper : k_new ≡ record k { claims = k.claims ++ first ∷ [] }
   pub zone : z_new ≡ run_claimed first (2 ^ k.order) z
 

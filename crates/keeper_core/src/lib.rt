@@ -8,7 +8,5 @@
 #![tactic(auto)]
 
 mod keeper;
-#[cfg(test)]
-mod tests;
 
 pub use keeper::{Keeper, Step, Taken};
