@@ -10,6 +10,7 @@ mod Evacuated
 mod Evacuating
 mod HandingOut
 mod InTurn
+mod LowestFree
 mod MadeAs
 mod MaximalRuns
 pub mod Moves

@@ -1,8 +1,8 @@
 -- A walk over the runs of a zone finds the open one that is next in rank.
 use Rattle.std.proofs.Common.{◌≡◌, ◌≢◌, ℕ, zero, suc, ◌+◌, ◌-◌, ◌*◌, ◌/◌, ◌^◌, ◌<◌, ◌≤◌, Bool, true, false, not, ◌&&◌, ◌||◌, List, [], ◌∷◌, length, inl, inr, refl, sym, ap, subst, ◌∙◌, arith}
 use Rattle.std.specs.Prelude.{Option, Some, None, is_some, if◌then◌else◌, IfSome, nat_eq, nat_le, nat_lt, slice_index, slice_set}
-use Rattle.std.proofs.lemmas.Bool.{and_from, both_ways, cases_Bool, eq-eqb, false_from_ne_true, le-leb, leb-true, lt-ltb, ltb-true}
-use Rattle.std.proofs.lemmas.Bool.Decides.{eqb_tells}
+use Rattle.std.proofs.lemmas.Bool.{and_from, both_ways, cases_Bool, eq-eqb, eqb-true, false_from_ne_true, le-leb, leb-true, lt-ltb, ltb-true}
+use Rattle.std.proofs.lemmas.Bool.Decides.{eqb_tells, leb_tells}
 use Rattle.frame_core.proofs.Searches.{count_from_most, count_most}
 use Rattle.frame_core.specs.Below.{count_below}
 use Rattle.std.proofs.lemmas.List.{get_or-set_other, get_or-set_same}
@@ -16,9 +16,9 @@ use Rattle.fewest_core.specs.Claims.{claim_refusal}
 use Rattle.fewest_core.specs.FewestMoves.{cost, costs, is_open, least, run_count}
 use Rattle.fewest_core.specs.Reservation.{goes_before, rank, ArePicked}
 use Rattle.fewest_core.proofs.Costs.{costs_counted}
-use Rattle.fewest_core.proofs.Ranks.{after_is, all_picked, before_trans, least_more, next_rank as first_has_rank, not_after, not_itself, of_rank, picks, picks_parts, rank_within}
+use Rattle.fewest_core.proofs.Ranks.{after_is, all_picked, before_trans, cheaper_first, least_more, lower_first, no_dearer, next_rank as first_has_rank, not_after, not_itself, of_rank, picks, picks_parts, rank_within}
 use Rattle.zone_core.specs.declared.bare.reserving.OpenRun.{OpenRun}
-use Rattle.zone_core.specs.Reserving.{is_after, is_ahead, is_before, next_rank, IsOpenRun}
+use Rattle.zone_core.specs.Reserving.{is_after, is_ahead, is_before, is_level, next_rank, IsOpenRun}
 
 module _ (z : ZoneState) (size : ℕ) where
   abbrev pub opened : ℕ → Bool
@@ -104,6 +104,35 @@ module _ (z : ZoneState) (size : ℕ) where
     ];
   }
 
+  -- it is shut, or isn't both
+  pub walk_passes : (last next : Option OpenRun) (k : ℕ) (r : OpenRun) → IfSome last (IsOpenRun z size) → IsNext last k next → (opened k ≡ true → IsOpenRun z size r) → r.number ≡ k → (opened k ≡ true → (is_after r last && is_ahead r next) ≡ false) → IsNext last (k + 1) next
+  walk_passes last next k r ok is run at not_both = elim (cases_Bool (opened k)) [
+    | inl here ↦ walk_keeps last next k r ok is (run here) at (not_both here)
+    | inr shut ↦ walk_shut last next k is shut
+  ]
+
+  no_cheaper : (last : Option OpenRun) (r : OpenRun) → IfSome last (IsOpenRun z size) → IsOpenRun z size r → is_level r last ≡ true → (j : ℕ) → after last j ≡ true → cost z size r.number ≤ cost z size j
+  no_cheaper None r ok run level j later = omega (arith, run.pages, eqb-true r.pages 0 level)
+  no_cheaper (Some l) r ok run level j later = omega (arith, run.pages, ok.pages, eqb-true r.pages l.pages level, no_dearer (cost z size) l.number j later)
+
+  higher_later : (a b : ℕ) → cost z size a ≤ cost z size b → a < b → before b a ≡ false
+  higher_later a b dear high = false_from_ne_true _ (λ e. both_ways _ (not_itself (cost z size) b) (before_trans (cost z size) b a b e (elim (leb_tells (cost z size b) (cost z size a)) [
+    | inl level ↦ lower_first (cost z size) a b (omega (arith, dear, level.1)) high
+    | inr cheaper ↦ cheaper_first (cost z size) a b cheaper.1
+  ])))
+
+  -- a run that was taken and is as cheap as the last goes before each higher one that is after the last
+  pub walk_ends : (last : Option OpenRun) (k n : ℕ) (r : OpenRun) → IfSome last (IsOpenRun z size) → IsNext last (k + 1) (Some r) → is_level r last ≡ true → k < n → IsNext last n (Some r)
+  walk_ends last k n r ok is level within = record {
+    run = is.run;
+    below = omega (arith, is.below, within);
+    later = is.later;
+    first = λ j h o later. elim (leb_tells j k) [
+      | inl low ↦ is.first j (omega (arith, low.1)) o later
+      | inr high ↦ higher_later r.number j (no_cheaper last r ok is.run level j later) (omega (arith, is.below, high.1))
+    ];
+  }
+
   -- among all runs, what is found is next in rank
   abbrev pub runs : ℕ
   runs = run_count z size
@@ -151,11 +180,16 @@ module _ (z : ZoneState) (size : ℕ) where
   found_all last ok None is = tt
   found_all last ok (Some r) is = found_ranked last ok r is
 
+  -- where there is no last run, one before which no other goes is next
+  pub start_there : (last : Option OpenRun) → is_some last ≡ false → (r : OpenRun) → IsOpenRun z size r → rank z size r.number ≡ 0 → true ≡ nat_lt (next_rank z size last) (length (costs z size))
+  start_there None none r run first = sym (lt-ltb 0 _ (omega (arith, first, rank_fits (Some r) run)))
+  start_there (Some l) none r run first = cc
+
   -- one run more costs what it has pages
   pub least_next : (r : OpenRun) (n : ℕ) → IsOpenRun z size r → rank z size r.number ≡ n → least (n + 1) z size ≡ least n z size + r.pages
   least_next r n is at = least_more opened (cost z size) runs n r.number is.within is.opened at ∙ ap (λ (k : ℕ). least n z size + k) (sym is.pages)
 
-run_fits : (size frames number : ℕ) → number < frames / size → size * number + size ≤ frames
+pub run_fits : (size frames number : ℕ) → number < frames / size → size * number + size ≤ frames
 run_fits size frames number h =
     let more = frames / size - (number + 1) in
     let all : size * (frames / size) ≤ frames = omega arith in
@@ -166,6 +200,10 @@ run_fits size frames number h =
 
       spread : (size a b : ℕ) → size * (a + 1 + b) ≡ size * a + size + size * b
       spread size a b = omega arith
+
+-- the walk goes over as many runs as the zone has
+pub walked : (z : ZoneState) (order blocks frames : ℕ) → blocks ≡ z.blocks → frames ≡ 2 ^ order → 512 * blocks / frames ≡ run_count z (2 ^ order)
+walked z order blocks frames as_blocks as_frames = λ i. 512 * as_blocks i / as_frames i
 
 -- a run of a zone, by its first frame
 module _ (z : ZoneState) (order number : ℕ) (within : number < run_count z (2 ^ order)) where
@@ -180,6 +218,20 @@ module _ (z : ZoneState) (order number : ℕ) (within : number < run_count z (2 
       (eq-eqb _ _ (ap (λ (k : ℕ). k * 2 ^ order) start_number ∙ swapped (2 ^ order) number)) (le-leb _ _ start_within) where
         swapped : (a b : ℕ) → b * a ≡ a * b
         swapped a b = omega arith
+
+  -- what is told of a run by its first frame, of this zone as it stands elsewhere
+  module _ (u : ZoneState) (here : u ≡ z) (first : ℕ) (start : first ≡ 2 ^ order * number) where
+    at : first / 2 ^ order ≡ number
+    at = ap (λ (k : ℕ). k / 2 ^ order) start ∙ start_number
+
+    pub told_block : has_block u order first ≡ true
+    told_block = (λ i. has_block (here i) order (start i)) ∙ start_block
+
+    pub told_open : is_open u (2 ^ order) (first / 2 ^ order) ≡ is_open z (2 ^ order) number
+    told_open = λ i. is_open (here i) (2 ^ order) (at i)
+
+    pub told_run : (pages : ℕ) → (is_open u (2 ^ order) (first / 2 ^ order) ≡ true → pages ≡ cost u (2 ^ order) (first / 2 ^ order)) → is_open z (2 ^ order) number ≡ true → IsOpenRun z (2 ^ order) (record { number = number; pages = pages })
+    told_run pages told is = record { within = within; opened = is; pages = told (told_open ∙ is) ∙ (λ i. cost (here i) (2 ^ order) (at i)) }
 
 -- the first n of these frames are those of the runs of the ranks below n
 pub record IsPickedUpto (z : ZoneState) (order : ℕ) (firsts : List ℕ) (n : ℕ) : Type 0 where

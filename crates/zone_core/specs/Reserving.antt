@@ -30,6 +30,11 @@ abbrev pub is_ahead : OpenRun → Option OpenRun → Bool
 is_ahead run None = true
 is_ahead run (Some next) = is_before run next
 
+-- whether it has as few pages as a run, or none where there is no such run
+abbrev pub is_level : OpenRun → Option OpenRun → Bool
+is_level run None = nat_eq run.pages 0
+is_level run (Some last) = nat_eq run.pages last.pages
+
 -- the lowest frame from one on that passes
 pub record IsNextIn (is_in : ℕ → Bool) (from frame : ℕ) : Type 0 where
   pub passes : is_in frame ≡ true

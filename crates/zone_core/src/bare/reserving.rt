@@ -13,7 +13,7 @@ ghost use Rattle.state_core.specs.HandingOut.{is_run};
 ghost use Rattle.state_core.specs.Valid.{IsValidZone};
 ghost use Rattle.state_core.specs.ZoneState.{frame_count};
 ghost use Rattle.zone_core.specs.Emptying.{HasEnough, IsEmptying};
-ghost use Rattle.zone_core.specs.Reserving.{is_after, is_ahead, is_before, lower, next_rank, IsNext, IsOpenRun};
+ghost use Rattle.zone_core.specs.Reserving.{is_after, is_ahead, is_before, is_level, lower, next_rank, IsNext, IsOpenRun};
 ghost use Rattle.zone_core.specs.ZoneIdentity.{HasIdentity};
 
 use crate::bare::BareZone;
@@ -62,6 +62,17 @@ impl OpenRun {
         match next {
             Some(next) => self.is_before(next),
             None => true,
+        }
+    }
+
+    /// Whether it has as few pages as a run, or none where there is no such run. Then it goes before each higher run that goes after that
+    /// one.
+    fn is_level(self, last: Option<OpenRun>) -> bool
+        ensures { result ≡ is_level self last }
+    {
+        match last {
+            Some(last) => self.pages == last.pages,
+            None => self.pages == 0,
         }
     }
 }
@@ -142,18 +153,40 @@ impl<const W: usize> BareZone<W> {
         ensures ranked { IfSome result (λ run. rank self.now (2 ^ order) run.number ≡ next_rank self.now (2 ^ order) last) }
         ensures valid { IsValidZone self.now }
     {
+        if last.is_none() {
+            if let Some(run) = self.free_run(order) {
+                return Some(run);
+            }
+        }
         let mut next = None;
         for number in 0..512 * self.blocks() / order.frames() {
             let first = run_start(order, number);
-            let Some(pages) = self.tables.pages_of(first, order) else {
-                continue;
-            };
+            // An open run has a page in each frame that isn't free. So few runs are asked whether they are open.
+            let pages = self.tables.occupied_in_run(first, order);
             let run = OpenRun { number, pages };
-            if run.is_after(last) && run.is_ahead(next) {
+            if run.is_after(last)
+                && run.is_ahead(next)
+                && self.tables.pages_of(first, order).is_some()
+            {
+                if run.is_level(last) {
+                    return Some(run);
+                }
                 next = Some(run);
             }
         }
         next
+    }
+
+    /// The lowest free run, unless its pageblock is marked. No open run goes before it.
+    fn free_run(&self, order: Order) -> Option<OpenRun>
+        ensures next { IfSome result (λ run. IsOpenRun self.now (2 ^ order) run) }
+        ensures ranked { IfSome result (λ run. rank self.now (2 ^ order) run.number ≡ 0) }
+        ensures valid { IsValidZone self.now }
+    {
+        let first = self.tables.find_run(order)?;
+        let pages = self.tables.pages_of(first, order)?;
+        let number = first.get() / order.frames();
+        Some(OpenRun { number, pages })
     }
 
     /// How many pages the cheapest open runs have together, as many runs as are asked for, or none where fewer are open.
@@ -212,27 +245,20 @@ impl<const W: usize> BareZone<W> {
         }
     }
 
-    /// The highest frame below `top` that may take a page of these runs, if there is one.
+    /// The highest frame below `top` that may take a page of these runs, if there is one: it is in none of them, and free, in an unmarked
+    /// pageblock.
     fn highest_beside(&self, order: Order, firsts: &[FrameNo], top: u32) -> Option<FrameNo>
-        requires within { top ≤ frame_count self.now }
-        requires few { frame_count self.now ≤ 16777216 }
+        requires { top ≤ frame_count self.now }
         ensures { result ≡ highest (is_beside (is_in_runs firsts.now (2 ^ order)) self.now) top }
     {
-        for above in 0..top {
-            let frame = frame_no(top - 1 - above);
-            if self.is_beside(order, firsts, frame) {
+        let mut end = top;
+        while let Some(frame) = self.tables.last_vacant(end) {
+            if !is_in_runs(firsts, order, frame) {
                 return Some(frame);
             }
+            end = frame.get();
         }
         None
-    }
-
-    /// Whether a frame may take a page of these runs: it is in none of them, and free, in an unmarked pageblock.
-    fn is_beside(&self, order: Order, firsts: &[FrameNo], frame: FrameNo) -> bool
-        requires { frame < frame_count self.now }
-        ensures { result ≡ is_beside (is_in_runs firsts.now (2 ^ order)) self.now frame }
-    {
-        self.tables.is_vacant(frame) && !is_in_runs(firsts, order, frame)
     }
 
     /// Hands out free blocks with these first frames, no two of which share a frame.

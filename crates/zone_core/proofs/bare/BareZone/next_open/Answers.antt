@@ -1,65 +1,95 @@
-use Rattle.std.proofs.Common.{◌≡◌, ◌∙◌, ◌*◌, ◌/◌, ◌^◌, ◌+◌, ◌<◌, ℕ, false, ◌&&◌, ap, refl, subst, sym, arith}
-use Rattle.std.specs.Prelude.{is_some}
-use Rattle.std.proofs.lemmas.Bool.{and_left, and_right}
-use Rattle.fewest_core.specs.FewestMoves.{cost, is_open, run_count}
-use Rattle.state_core.specs.HandingOut.{has_block}
+use Rattle.std.proofs.Common.{◌≡◌, ◌∙◌, ◌^◌, ◌+◌, ◌<◌, ℕ, refl, subst, sym, arith}
+use Rattle.std.specs.Prelude.{Some}
+use Rattle.std.proofs.lemmas.Bool.{and_left, and_right, both_ways}
+use Rattle.fewest_core.specs.FewestMoves.{is_open, run_count}
 use Rattle.zone_core.specs.declared.bare.reserving.OpenRun.{OpenRun}
-use Rattle.zone_core.specs.Reserving.{is_after, is_ahead, IsOpenRun}
-use Rattle.zone_core.proofs.Picking.{found_all, found_there, start_block, start_number, walk_keeps, walk_shut, walk_takes, IsNext}
+use Rattle.zone_core.specs.Reserving.{is_after}
+use Rattle.zone_core.proofs.Picking.{found_all, found_there, start_there, told_block, told_open, told_run, walk_ends, walk_passes, walk_takes, walked, IsNext}
 use Rattle.zone_core.proofs.bare.BareZone.next_open.Goals as goal
-use Rattle.zone_core.proofs.bare.BareZone.next_open.Goals.{then-is_after+then-is_ahead, else-is_after, else-is_after-via-then-is_after+else-is_ahead, else-is_after-via-else-is_after}
+use Rattle.zone_core.proofs.bare.BareZone.next_open.Goals.{then-is_after+then-is_ahead+then-is_some+else-is_level, else-is_after, else-is_after-via-then-is_after+then-is_ahead+else-is_some, else-is_after-via-then-is_after+else-is_ahead, else-is_after-via-else-is_after}
+
+pub returns-in-Some-clause-there : goal.returns-in-Some-clause-there
+returns-in-Some-clause-there g c = start_there c.args.self.now (2 ^ c.args.order) c.args.last c.if-is_none.ensures c.in-Some.run' c.in-Some.ensures.next c.in-Some.ensures.ranked
+
+pub occupied_in_run-pages-requires : goal.occupied_in_run-pages-requires
+occupied_in_run-pages-requires g c =
+    let z = c.args.self.now in
+    let all = walked z c.args.order c.blocks-2.result c.frames.result c.blocks-2.ensures.blocks c.frames.ensures.value in
+    let within : c.loop-number.number < run_count z (2 ^ c.args.order) = omega (arith, c.loop-number-test.true, all) in
+    (omega arith, told_block z c.args.order c.loop-number.number within c.deref.result.now (c.deref.ensures ∙ c.self.view_is) c.run_start-first.result c.run_start-first.ensures)
 
 pub pages_of-requires : goal.pages_of-requires
 pages_of-requires g c =
     let z = c.args.self.now in
-    let all : 512 * c.blocks-2.result / c.frames.result ≡ run_count z (2 ^ c.args.order) = λ i. 512 * c.blocks-2.ensures.blocks i / c.frames.ensures.value i in
+    let all = walked z c.args.order c.blocks-2.result c.frames.result c.blocks-2.ensures.blocks c.frames.ensures.value in
     let within : c.loop-number.number < run_count z (2 ^ c.args.order) = omega (arith, c.loop-number-test.true, all) in
-    let here = c.deref.ensures ∙ c.self.view_is in
-    (omega arith, (λ i. has_block (here i) c.args.order (c.run_start-first.ensures i)) ∙ start_block z c.args.order c.loop-number.number within)
+    (omega arith, told_block z c.args.order c.loop-number.number within c.deref-then-is_ahead.result.now (c.deref-then-is_ahead.ensures ∙ c.self.view_is) c.run_start-first.result c.run_start-first.ensures)
 
-pub loop-number-preserved-in_default : goal.loop-number-preserved-in_default
-loop-number-preserved-in_default g c =
+pub returns-then-is_level-clause-there : goal.returns-then-is_level-clause-there
+returns-then-is_level-clause-there g c =
     let z = c.args.self.now in
     let size = 2 ^ c.args.order in
-    let all : 512 * c.blocks-2.result / c.frames.result ≡ run_count z (2 ^ c.args.order) = λ i. 512 * c.blocks-2.ensures.blocks i / c.frames.ensures.value i in
+    let all = walked z c.args.order c.blocks-2.result c.frames.result c.blocks-2.ensures.blocks c.frames.ensures.value in
     let within : c.loop-number.number < run_count z (2 ^ c.args.order) = omega (arith, c.loop-number-test.true, all) in
-    let at : c.run_start-first.result / 2 ^ c.args.order ≡ c.loop-number.number = ap (λ (k : ℕ). k / 2 ^ c.args.order) c.run_start-first.ensures ∙ start_number z c.args.order c.loop-number.number within in
-    let here = c.deref.ensures ∙ c.self.view_is in
-    let shut : is_open z (2 ^ c.args.order) c.loop-number.number ≡ false = sym (λ i. is_open (here i) (2 ^ c.args.order) (at i)) ∙ sym c.pages_of.ensures.open ∙ ap is_some c.in_default.is in
-    walk_shut z size c.args.last c.loop-number.next c.loop-number.number c.loop-number.invariant shut
+    let r : OpenRun = record { number = c.loop-number.number; pages = c.occupied_in_run-pages.result } in
+    let is_run = told_run z c.args.order c.loop-number.number within c.deref.result.now (c.deref.ensures ∙ c.self.view_is) c.run_start-first.result c.run_start-first.ensures c.occupied_in_run-pages.result c.occupied_in_run-pages.ensures.pages in
+    let is = sym (told_open z c.args.order c.loop-number.number within c.deref-then-is_ahead.result.now (c.deref-then-is_ahead.ensures ∙ c.self.view_is) c.run_start-first.result c.run_start-first.ensures) ∙ sym c.pages_of.ensures.open ∙ sym c.is_some.ensures ∙ c.if-is_some.true in
+    let taken = walk_takes z size c.args.last c.loop-number.next c.loop-number.number r c.requires c.loop-number.invariant (is_run is) refl (sym c.is_after.ensures ∙ c.if-is_after.true) (sym c.is_ahead.ensures ∙ c.if-is_ahead.true) in
+    let found = walk_ends z size c.args.last c.loop-number.number (run_count z (2 ^ c.args.order)) r c.requires taken (sym c.is_level.ensures ∙ c.if-is_level.true) within in
+    found_there z size c.args.last c.requires (Some r) found
+
+pub returns-then-is_level-clause-next : goal.returns-then-is_level-clause-next
+returns-then-is_level-clause-next g c =
+    let z = c.args.self.now in
+    let all = walked z c.args.order c.blocks-2.result c.frames.result c.blocks-2.ensures.blocks c.frames.ensures.value in
+    let within : c.loop-number.number < run_count z (2 ^ c.args.order) = omega (arith, c.loop-number-test.true, all) in
+    let is_run = told_run z c.args.order c.loop-number.number within c.deref.result.now (c.deref.ensures ∙ c.self.view_is) c.run_start-first.result c.run_start-first.ensures c.occupied_in_run-pages.result c.occupied_in_run-pages.ensures.pages in
+    let is = sym (told_open z c.args.order c.loop-number.number within c.deref-then-is_ahead.result.now (c.deref-then-is_ahead.ensures ∙ c.self.view_is) c.run_start-first.result c.run_start-first.ensures) ∙ sym c.pages_of.ensures.open ∙ sym c.is_some.ensures ∙ c.if-is_some.true in
+    is_run is
+
+pub returns-then-is_level-clause-ranked : goal.returns-then-is_level-clause-ranked
+returns-then-is_level-clause-ranked g c =
+    let z = c.args.self.now in
+    let size = 2 ^ c.args.order in
+    let all = walked z c.args.order c.blocks-2.result c.frames.result c.blocks-2.ensures.blocks c.frames.ensures.value in
+    let within : c.loop-number.number < run_count z (2 ^ c.args.order) = omega (arith, c.loop-number-test.true, all) in
+    let r : OpenRun = record { number = c.loop-number.number; pages = c.occupied_in_run-pages.result } in
+    let is_run = told_run z c.args.order c.loop-number.number within c.deref.result.now (c.deref.ensures ∙ c.self.view_is) c.run_start-first.result c.run_start-first.ensures c.occupied_in_run-pages.result c.occupied_in_run-pages.ensures.pages in
+    let is = sym (told_open z c.args.order c.loop-number.number within c.deref-then-is_ahead.result.now (c.deref-then-is_ahead.ensures ∙ c.self.view_is) c.run_start-first.result c.run_start-first.ensures) ∙ sym c.pages_of.ensures.open ∙ sym c.is_some.ensures ∙ c.if-is_some.true in
+    let taken = walk_takes z size c.args.last c.loop-number.next c.loop-number.number r c.requires c.loop-number.invariant (is_run is) refl (sym c.is_after.ensures ∙ c.if-is_after.true) (sym c.is_ahead.ensures ∙ c.if-is_ahead.true) in
+    let found = walk_ends z size c.args.last c.loop-number.number (run_count z (2 ^ c.args.order)) r c.requires taken (sym c.is_level.ensures ∙ c.if-is_level.true) within in
+    found_all z size c.args.last c.requires (Some r) found
 
 pub loop-number-preserved : goal.loop-number-preserved
 loop-number-preserved g c =
     let z = c.args.self.now in
     let size = 2 ^ c.args.order in
-    let all : 512 * c.blocks-2.result / c.frames.result ≡ run_count z (2 ^ c.args.order) = λ i. 512 * c.blocks-2.ensures.blocks i / c.frames.ensures.value i in
+    let all = walked z c.args.order c.blocks-2.result c.frames.result c.blocks-2.ensures.blocks c.frames.ensures.value in
     let within : c.loop-number.number < run_count z (2 ^ c.args.order) = omega (arith, c.loop-number-test.true, all) in
-    let at : c.run_start-first.result / 2 ^ c.args.order ≡ c.loop-number.number = ap (λ (k : ℕ). k / 2 ^ c.args.order) c.run_start-first.ensures ∙ start_number z c.args.order c.loop-number.number within in
-    let r : OpenRun = record { number = c.loop-number.number; pages = c.in-Some.pages } in
-    let here = c.deref.ensures ∙ c.self.view_is in
-    let run : IsOpenRun z (2 ^ c.args.order) (record { number = c.loop-number.number; pages = c.in-Some.pages }) = record {
-      within = within;
-      opened = sym (λ i. is_open (here i) (2 ^ c.args.order) (at i)) ∙ sym c.in-Some.ensures.open;
-      pages = c.in-Some.ensures.pages ∙ (λ i. cost (here i) (2 ^ c.args.order) (at i));
-    } in
+    let r : OpenRun = record { number = c.loop-number.number; pages = c.occupied_in_run-pages.result } in
+    let is_run = told_run z c.args.order c.loop-number.number within c.deref.result.now (c.deref.ensures ∙ c.self.view_is) c.run_start-first.result c.run_start-first.ensures c.occupied_in_run-pages.result c.occupied_in_run-pages.ensures.pages in
+    let passes = walk_passes z size c.args.last c.loop-number.next c.loop-number.number r c.requires c.loop-number.invariant is_run refl in
     elim c.if-is_after.branch [
-      | then-is_after+then-is_ahead w ↦
+      | then-is_after+then-is_ahead+then-is_some+else-is_level w ↦
+          (let is = sym (told_open z c.args.order c.loop-number.number within w.deref-then-is_ahead.result.now (w.deref-then-is_ahead.ensures ∙ c.self.view_is) c.run_start-first.result c.run_start-first.ensures) ∙ sym w.pages_of.ensures.open ∙ sym w.is_some.ensures ∙ w.if-is_some.true in
           subst (IsNext z size c.args.last (c.loop-number.number + 1)) (sym w.next-is)
-          (walk_takes z size c.args.last c.loop-number.next c.loop-number.number r c.requires c.loop-number.invariant run refl (sym c.is_after.ensures ∙ w.if-is_after.true) (sym w.is_ahead.ensures ∙ w.if-is_ahead.true))
+          (walk_takes z size c.args.last c.loop-number.next c.loop-number.number r c.requires c.loop-number.invariant (is_run is) refl (sym c.is_after.ensures ∙ w.if-is_after.true) (sym w.is_ahead.ensures ∙ w.if-is_ahead.true)))
       | else-is_after w ↦
-          (let not_both : (is_after r c.args.last && is_ahead r c.loop-number.next) ≡ false = elim w.else-is_after.branch [
+          subst (IsNext z size c.args.last (c.loop-number.number + 1)) (sym w.next-is)
+          (passes (λ there. elim w.else-is_after.branch [
+            | else-is_after-via-then-is_after+then-is_ahead+else-is_some x ↦
+                (let shut = sym (told_open z c.args.order c.loop-number.number within x.deref-then-is_ahead.result.now (x.deref-then-is_ahead.ensures ∙ c.self.view_is) c.run_start-first.result c.run_start-first.ensures) ∙ sym x.pages_of.ensures.open ∙ sym x.is_some.ensures ∙ x.if-is_some.false in
+                absurd (both_ways (is_open z (2 ^ c.args.order) c.loop-number.number) shut there))
             | else-is_after-via-then-is_after+else-is_ahead x ↦ and_right (is_after r c.args.last) _ (sym x.is_ahead.ensures ∙ x.if-is_ahead.false)
             | else-is_after-via-else-is_after x ↦ and_left (is_after r c.args.last) _ (sym c.is_after.ensures ∙ x.if-is_after.false)
-          ] in
-          subst (IsNext z size c.args.last (c.loop-number.number + 1)) (sym w.next-is)
-          (walk_keeps z size c.args.last c.loop-number.next c.loop-number.number r c.requires c.loop-number.invariant run refl not_both))
+          ]))
     ]
 
 pub returns-clause-there : goal.returns-clause-there
 returns-clause-there g c =
     let z = c.args.self.now in
     let size = 2 ^ c.args.order in
-    let all : 512 * c.blocks-2.result / c.frames.result ≡ run_count z (2 ^ c.args.order) = λ i. 512 * c.blocks-2.ensures.blocks i / c.frames.ensures.value i in
+    let all = walked z c.args.order c.blocks-2.result c.frames.result c.blocks-2.ensures.blocks c.frames.ensures.value in
     let end : c.loop-number.number ≡ run_count z (2 ^ c.args.order) = omega (arith, c.loop-number-test.false, c.loop-number.auto.number-end, all) in
     found_there z size c.args.last c.requires c.loop-number.next (subst (λ (k : ℕ). IsNext z (2 ^ c.args.order) c.args.last k c.loop-number.next) end c.loop-number.invariant)
 
@@ -67,6 +97,6 @@ pub returns-clause-ranked : goal.returns-clause-ranked
 returns-clause-ranked g c =
     let z = c.args.self.now in
     let size = 2 ^ c.args.order in
-    let all : 512 * c.blocks-2.result / c.frames.result ≡ run_count z (2 ^ c.args.order) = λ i. 512 * c.blocks-2.ensures.blocks i / c.frames.ensures.value i in
+    let all = walked z c.args.order c.blocks-2.result c.frames.result c.blocks-2.ensures.blocks c.frames.ensures.value in
     let end : c.loop-number.number ≡ run_count z (2 ^ c.args.order) = omega (arith, c.loop-number-test.false, c.loop-number.auto.number-end, all) in
     found_all z size c.args.last c.requires c.loop-number.next (subst (λ (k : ℕ). IsNext z (2 ^ c.args.order) c.args.last k c.loop-number.next) end c.loop-number.invariant)
