@@ -1,18 +1,18 @@
 -- The maximal runs of an order are its free runs, but for the halves of the free runs of the next order.
 use Rattle.std.proofs.Common.{◌≡◌, ℕ, zero, suc, ◌+◌, ◌-◌, ◌*◌, ◌/◌, ◌^◌, ◌<◌, ◌≤◌, Bool, true, false, not, ◌&&◌, add-one, refl, sym, ap, ◌∙◌, arith}
-use Rattle.std.specs.Prelude.{nat_le}
+use Rattle.std.specs.Prelude.{nat_eq, nat_le}
 use Rattle.std.proofs.Math.Nat.{mul_assoc, div-div-eq-div-mul, mul-div_cancel, mul-le-mul_right}
 use Rattle.std.proofs.lemmas.Bool.{eq-eqb, le-leb, lt-ltb}
 use Rattle.std.proofs.lemmas.Nat.{pow-add, pow_pos}
 use Rattle.frame_core.proofs.Searches.{count_same}
-use Rattle.frame_core.specs.Below.{count_below, one_if, sum_below}
+use Rattle.frame_core.specs.Below.{count_below, count_from, one_if, sum_below}
 use Rattle.frame_core.specs.Order.{is_aligned}
 use Rattle.scan_core.specs.NumberSet.{all_from}
 use Rattle.scan_core.proofs.CountedRuns.{count_aligned, passes_aligned}
 use Rattle.scan_core.proofs.WholeRuns.{halves}
 use Rattle.state_core.specs.HandingOut.{is_run}
 use Rattle.state_core.specs.ZoneState.{ZoneState, frame_count, is_free}
-use Rattle.zone_core.specs.FreeRuns.{is_in_run, is_maximal_run, maximal_runs}
+use Rattle.zone_core.specs.FreeRuns.{free_frames, is_in_run, is_maximal_run, maximal_runs}
 
 regroup : (a b c : Bool) → ((a && b) && c) ≡ (a && (b && c))
 regroup true b c = refl
@@ -32,6 +32,14 @@ one_by_one true true = refl
 one_by_one true false = refl
 one_by_one false true = refl
 one_by_one false false = refl
+
+is_one : (b : Bool) → nat_eq (one_if b + 0) 1 ≡ b
+is_one true = refl
+is_one false = refl
+
+one_frame : (p : ℕ → Bool) (frame : ℕ) → all_from p frame 1 ≡ p frame
+unfolding count_from
+one_frame p frame = let first : frame + 0 ≡ frame = omega arith in is_one (p (frame + 0)) ∙ ap p first
 
 module _ (z : ZoneState) where
   -- whether all frames of a run are free, which has this number among the runs of its order
@@ -146,6 +154,15 @@ module _ (z : ZoneState) where
       runs_upto_next =
           let sum : sum_below (maximal_runs z) (order + 1) ≡ maximal_runs z order + sum_below (maximal_runs z) order = rw add-one refl in
           omega (arith, runs_are, next_are, runs_by_parents, sum)
+
+  -- a run of one frame is free where the frame is
+  alone : (frame : ℕ) → frame < frame_count z → is_run z 0 frame ≡ is_free z frame
+  alone frame within =
+      let aligned : frame / 2 ^ 0 * 2 ^ 0 ≡ frame = omega arith in
+      λ i. (eq-eqb _ _ aligned i && le-leb (frame + 2 ^ 0) (frame_count z) (omega (arith, within)) i) && one_frame (is_free z) frame i
+
+  pub frames_are_runs : free_frames z ≡ count_below (is_run z 0) (frame_count z)
+  frames_are_runs = sym (count_same (is_run z 0) (is_free z) (frame_count z) alone)
 
   -- a free run of a whole pageblock lies in no larger one
   pub whole_runs_maximal : count_below (is_run z 9) (frame_count z) ≡ maximal_runs z 9

@@ -51,7 +51,7 @@ impl<const W: usize> BareZone<W> {
     fn count_all_runs(&self) -> u32
         ensures runs { result ≡ all_runs self.now }
     {
-        let mut runs = self.tables.count_runs(0);
+        let mut runs = self.free_frames();
         for order in 0..9 {
             runs -= self.tables.count_runs(order + 1);
         }
