@@ -12,7 +12,7 @@ use Rattle.number_set.proofs.Masking.{has_bit_and}
 use Rattle.number_set.proofs.Running.{Parts}
 
 -- a run that lies after another one
-count_joined : (p : ℕ → Bool) (first m n : ℕ) → count_in_run p first (m + n) ≡ count_in_run p first m + count_in_run p (first + m) n
+pub count_joined : (p : ℕ → Bool) (first m n : ℕ) → count_in_run p first (m + n) ≡ count_in_run p first m + count_in_run p (first + m) n
 count_joined p first m zero = let none : m + zero ≡ m = omega arith in ap (count_in_run p first) none ∙ omega arith
 count_joined p first m (suc n) =
     let more : m + suc n ≡ suc (m + n) = omega arith in
@@ -20,7 +20,7 @@ count_joined p first m (suc n) =
     ap (count_in_run p first) more ∙ (λ i. (if p (place i) then 1 else 0) + count_joined p first m n i) ∙ omega arith
 
 -- two runs whose numbers pass alike
-count_alike : (p q : ℕ → Bool) (first other n : ℕ) → ((k : ℕ) → k < n → p (first + k) ≡ q (other + k)) → count_in_run p first n ≡ count_in_run q other n
+pub count_alike : (p q : ℕ → Bool) (first other n : ℕ) → ((k : ℕ) → k < n → p (first + k) ≡ q (other + k)) → count_in_run p first n ≡ count_in_run q other n
 count_alike p q first other zero same = refl
 count_alike p q first other (suc n) same = λ i. (if same n (omega arith) i then 1 else 0) + count_alike p q first other n (λ k h. same k (omega arith)) i
 
@@ -28,7 +28,7 @@ count_none : (p : ℕ → Bool) (first n : ℕ) → ((k : ℕ) → k < n → p (
 count_none p first zero fails = refl
 count_none p first (suc n) fails = λ i. (if fails n (omega arith) i then 1 else 0) + count_none p first n (λ k h. fails k (omega arith)) i
 
-count_most : (p : ℕ → Bool) (first n : ℕ) → count_in_run p first n ≤ n
+pub count_most : (p : ℕ → Bool) (first n : ℕ) → count_in_run p first n ≤ n
 count_most p first zero = omega arith
 count_most p first (suc n) = omega (arith, one (p (first + n)), count_most p first n) where
   one : (b : Bool) → (if b then 1 else 0) ≤ 1
@@ -72,11 +72,11 @@ low_ones word (suc k) =
     ap (λ (i : ℕ). ones (word % 2 ^ i)) one_more ∙ ap ones split ∙ ones_cat k (word / 2 ^ k % 2) (word % 2 ^ k) (mod_below word (2 ^ k) (pow_pos k)) ∙ (λ i. top i + low_ones word k i)
 
 -- the ones of a word
-ones_are : (word : ℕ) → word < 2 ^ 64 → ones word ≡ count_in_run (has_bit word) 0 64
+pub ones_are : (word : ℕ) → word < 2 ^ 64 → ones word ≡ count_in_run (has_bit word) 0 64
 ones_are word fits = ap ones (sym (mod-eq_of_lt fits)) ∙ low_ones word 64
 
 -- the numbers of a run in one word
-bits_of_run : (words : List ℕ) (first n : ℕ) → first % 64 + n ≤ 64 → count_in_run (has_bit (slice_index words (first / 64))) (first % 64) n ≡ count_in_run (has_number words) first n
+pub bits_of_run : (words : List ℕ) (first n : ℕ) → first % 64 + n ≤ 64 → count_in_run (has_bit (slice_index words (first / 64))) (first % 64) n ≡ count_in_run (has_number words) first n
 bits_of_run words first n low = count_alike (has_bit (slice_index words (first / 64))) (has_number words) (first % 64) first n (λ k h.
     let here : (first + k) / 64 ≡ first / 64 = omega (arith, low, h) in
     let rest : (first + k) % 64 ≡ first % 64 + k = omega (arith, low, h) in
@@ -114,3 +114,14 @@ pub whole_count : (words : List ℕ) (first order : ℕ) → Parts first order �
 whole_count words first order p more =
     let start : 64 * (first / 64) ≡ first = omega (arith, p.start more) in
     λ i. count_in_run (has_number words) (start i) (sym (p.count more) i)
+
+-- the numbers of a run, by whole words and by the parts of the words at its two ends
+pub count_by_words : (p : ℕ → Bool) (first end : ℕ) → first ≤ end → count_in_run p (64 * (first / 64)) (64 * (end / 64 - first / 64)) + count_in_run p (64 * (end / 64)) (end % 64) ≡ count_in_run p (64 * (first / 64)) (first % 64) + count_in_run p first (end - first)
+count_by_words p first end most =
+    let start = 64 * (first / 64) in
+    let whole = 64 * (end / 64 - first / 64) in
+    let last : start + whole ≡ 64 * (end / 64) = omega (arith, most) in
+    let from : start + first % 64 ≡ first = omega arith in
+    let long : whole + end % 64 ≡ first % 64 + (end - first) = omega (arith, most) in
+    (λ i. count_in_run p start whole + count_in_run p (sym last i) (end % 64)) ∙ sym (count_joined p start whole (end % 64)) ∙ ap (count_in_run p start) long
+    ∙ count_joined p start (first % 64) (end - first) ∙ (λ i. count_in_run p start (first % 64) + count_in_run p (from i) (end - first))

@@ -5,4 +5,5 @@ pub mod Masking
 pub mod Numbering
 pub mod OneAbove
 pub mod Running
+pub mod RunStarts
 pub mod Starting

@@ -42,7 +42,7 @@ ones_left count some fits =
     let parts : 18446744073709551615 ≡ (2 ^ count - 1) * 2 ^ rest + (2 ^ rest - 1) = omega (arith, less, whole, most, pow_pos rest) in
     ap (λ n. n / 2 ^ rest) parts ∙ div-mul-add (2 ^ count - 1) (2 ^ rest) (2 ^ rest - 1) (omega (arith, pow_pos rest))
 
-from_zero : (bound n : ℕ) → in_run 0 bound n ≡ nat_lt n bound
+pub from_zero : (bound n : ℕ) → in_run 0 bound n ≡ nat_lt n bound
 from_zero bound n = grind (arith, nat_tests)
 
 -- the lowest bits of a word, as the code makes them

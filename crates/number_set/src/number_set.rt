@@ -4,7 +4,7 @@ ghost use Rattle.std.specs.Prelude.{◌≡◌, ◌↔◌, ℕ, ◌+◌, ◌%◌,
 ghost use Rattle.std.specs.FinSet as set;
 ghost use Rattle.number_set.specs.Finds.{IsFirst, IsFrom, IsLast, IsNext, IsPrevious, NoneAbove, NoneAtAll, NoneBelow, NoneFrom};
 ghost use Rattle.number_set.specs.Numbers.{room_for};
-ghost use Rattle.number_set.specs.Runs.{count_in_run, in_run};
+ghost use Rattle.number_set.specs.Runs.{begins_run, count_in_run, in_run};
 
 use crate::upper_levels::UpperLevels;
 use crate::words;
@@ -155,6 +155,22 @@ impl NumberSet {
         ensures { result ≡ count_in_run (set.contains self.now.members) first (2 ^ order) }
     {
         words::count_run(&self.words, first, order)
+    }
+
+    /// How many of `count` numbers from `first` upwards are members. For each 64 of them it looks at a word.
+    pub fn count_from(&self, first: u32, count: u32) -> u32
+        requires { first + count ≤ self.now.bound }
+        ensures { result ≡ count_in_run (set.contains self.now.members) first count }
+    {
+        words::count_from(&self.words, first, count)
+    }
+
+    /// How many runs of 2^order numbers are members, each from a multiple of 2^order on. Order is 2 at most. It looks at each word.
+    pub fn count_runs(&self, order: u32) -> u32
+        requires { order ≤ 2 }
+        ensures { result ≡ count_in_run (begins_run (set.contains self.now.members) order) 0 self.now.bound }
+    {
+        words::count_runs(&self.words, order)
     }
 
     /// The lowest number of the set, if it has one.

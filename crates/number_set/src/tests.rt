@@ -133,6 +133,11 @@ fn turn_and_ask(rt: &impl Abort, set: &mut NumberSet, table: &mut [bool], first:
         run.iter().filter(|member| **member).count(),
         "count {first} {order}"
     );
+    assert_eq!(rt;
+        set.count_from(first, end - first),
+        set.count_run(first, order),
+        "count from {first} {order}"
+    );
     run.fill(!had);
     if had {
         set.remove_run(first, order);
@@ -172,4 +177,21 @@ fn turns_runs(rt: HostRuntime) {
     turn_and_ask(&rt, &mut set, &mut table, 261_632, 9);
     turn_and_ask(&rt, &mut set, &mut table, 262_144, 9);
     turn_and_ask(&rt, &mut set, &mut table, 299_968, 5);
+}
+
+#[test]
+fn counts_small_runs(rt: HostRuntime) {
+    let mut set = NumberSet::filled(rt.alloc(), 4_096).expect(&rt, "memory");
+    let mut table = Vec::from_elem(rt.alloc(), true, 4_096).expect(&rt, "memory");
+    turn_word_ends(&rt, &mut set, &mut table);
+    for order in 0..3 {
+        let runs = table
+            .chunks_exact(1 << order)
+            .filter(|run| run.iter().all(|member| *member));
+        assert_eq!(rt;
+            set.count_runs(order) as usize,
+            runs.count(),
+            "runs of order {order}"
+        );
+    }
 }

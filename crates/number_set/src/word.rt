@@ -3,10 +3,16 @@
 ghost use Rattle.std.specs.Prelude.{◌≡◌, ℕ, ◌+◌, ◌^◌, ◌<◌, ◌≤◌, nat_lt, MatchOption, IfSome};
 ghost use Rattle.number_set.specs.Bits.{has_bit};
 ghost use Rattle.number_set.specs.Finds.{IsFirst, IsLast, IsNext, IsPrevious, NoneAbove, NoneBelow};
-ghost use Rattle.number_set.specs.Runs.{in_run};
+ghost use Rattle.number_set.specs.Runs.{begins_run, in_run};
 
 /// For each order, the word whose set bits are its lowest 2^order ones.
 const LOW_BITS: [u64; 7] = [0x1, 0x3, 0xf, 0xff, 0xffff, 0xffff_ffff, u64::MAX];
+
+/// The word whose set bits are the even ones.
+const EVEN_BITS: u64 = 0x5555_5555_5555_5555;
+
+/// The word whose set bits are the multiples of 4.
+const FOURTH_BITS: u64 = 0x1111_1111_1111_1111;
 
 /// The lowest bit that is set in a word that isn't empty.
 #[inline(always)]
@@ -74,4 +80,19 @@ pub(crate) fn run_bits(first: u32, order: u32) -> u64
     ensures { (bit : ℕ) → has_bit result bit ≡ in_run first (2 ^ order) bit }
 {
     LOW_BITS[order as usize] << first
+}
+
+/// The word whose set bits are those of another one at which a run of 2^order set bits begins, each at a multiple of 2^order. Order is 2
+/// at most.
+#[inline(always)]
+pub(crate) fn run_starts(word: u64, order: u32) -> u64
+    requires { order ≤ 2 }
+    ensures { (bit : ℕ) → bit < 64 → has_bit result bit ≡ begins_run (has_bit word) order bit }
+{
+    let pairs = word & word >> 1;
+    match order {
+        0 => word,
+        1 => pairs & EVEN_BITS,
+        _ => pairs & pairs >> 2 & FOURTH_BITS,
+    }
 }

@@ -4,9 +4,11 @@ ghost use Rattle.std.specs.Prelude.{◌≡◌, ◌↔◌, ℕ, ◌+◌, ◌-◌,
 ghost use Rattle.std.specs.List.{list_all, slice_range};
 ghost use Rattle.number_set.specs.Bits.{has_number, is_filled};
 ghost use Rattle.number_set.specs.Finds.{IsFirstIn, IsLastIn, IsNext, IsPrevious, NoneAboveIn, NoneBelowIn};
-ghost use Rattle.number_set.specs.Runs.{count_in_run, in_run};
+ghost use Rattle.number_set.specs.Runs.{begins_run, count_in_run, in_run};
 
-use crate::word::{highest_bit, low_bits, lowest_bit, next_bit, previous_bit, run_bits};
+use crate::word::{
+    highest_bit, low_bits, lowest_bit, next_bit, previous_bit, run_bits, run_starts,
+};
 use std::alloc::{AllocError, Global};
 
 /// This many words without a number, or an error where there is no memory for them.
@@ -123,6 +125,43 @@ pub(crate) fn count_run(words: &[u64], first: u32, order: u32) -> u32
     }
     let bits = run_bits(first % 64, order);
     (words[(first / 64) as usize] & bits).count_ones()
+}
+
+/// How many of `count` numbers from `first` upwards the level has.
+pub(crate) fn count_from(words: &[u64], first: u32, count: u32) -> u32
+    requires within { first + count ≤ 64 * length words.now }
+    requires few { 64 * length words.now < 2 ^ 32 }
+    ensures { result ≡ count_in_run (has_number words.now) first count }
+{
+    let end = first + count;
+    let in_words = count_words(words, first / 64, end / 64 - first / 64);
+    in_words + count_below(words, end) - count_below(words, first)
+}
+
+/// How many numbers below another one the word of that one has.
+#[inline(always)]
+fn count_below(words: &[u64], number: u32) -> u32
+    requires { number ≤ 64 * length words.now }
+    ensures { result ≡ count_in_run (has_number words.now) (64 * (number / 64)) (number % 64) }
+{
+    if number % 64 == 0 {
+        return 0;
+    }
+    (words[(number / 64) as usize] & low_bits(number % 64)).count_ones()
+}
+
+/// How many runs of 2^order numbers the level has, each from a multiple of 2^order on. Order is 2 at most.
+#[inline(never)]
+pub(crate) fn count_runs(words: &[u64], order: u32) -> u32
+    requires order { order ≤ 2 }
+    requires few { 64 * length words.now < 2 ^ 32 }
+    ensures { result ≡ count_in_run (begins_run (has_number words.now) order) 0 (64 * length words.now) }
+{
+    let mut sum = 0;
+    for word in 0..words.len() {
+        sum += run_starts(words[word], order).count_ones();
+    }
+    sum
 }
 
 /// Puts in all numbers below a bound.

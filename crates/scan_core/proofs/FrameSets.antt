@@ -99,7 +99,7 @@ none_within : (p : ℕ → Bool) (first n : ℕ) → ((k : ℕ) → first ≤ k 
 unfolding count_from
 none_within p first n fails = count_none (λ k. p (first + k)) n (λ k h. fails (first + k) (omega arith) (omega (arith, h)))
 
-count_split : (p : ℕ → Bool) (first n : ℕ) → count_below p (first + n) ≡ count_below p first + count_from p first n
+pub count_split : (p : ℕ → Bool) (first n : ℕ) → count_below p (first + n) ≡ count_below p first + count_from p first n
 unfolding count_from
 count_split p first zero = let same : first + 0 ≡ first = omega arith in ap (count_below p) same ∙ omega arith
 count_split p first (suc n) =

@@ -1,3 +1,4 @@
+pub mod CountedRuns
 pub mod Counting
 pub mod Found
 pub mod FrameSets

@@ -12,7 +12,7 @@ use Rattle.scan_core.specs.NumberSet.{all_from}
 use Rattle.scan_core.proofs.Steps.{free_not_source}
 
 -- the two words for the count of the numbers of a run
-counts_are : (p : ℕ → Bool) (first n : ℕ) → count_in_run p first n ≡ count_from p first n
+pub counts_are : (p : ℕ → Bool) (first n : ℕ) → count_in_run p first n ≡ count_from p first n
 unfolding count_from
 counts_are p first zero = refl
 counts_are p first (suc n) = λ i. one (p (first + n)) i + counts_are p first n i where

@@ -9,7 +9,7 @@ use Rattle.std.proofs.lemmas.Nat.{pow_pos}
 use Rattle.frame_core.specs.Below.{count_below, count_from, highest, lowest, some_below}
 use Rattle.frame_core.specs.Order.{is_aligned}
 use Rattle.frame_core.specs.declared.state.FrameState.{FrameState}
-use Rattle.frame_core.proofs.Searches.{lowest_same}
+use Rattle.frame_core.proofs.Searches.{count_same, lowest_same}
 use Rattle.scan_core.specs.FrameSet.{all_of_block, is_run_of}
 use Rattle.scan_core.specs.Frames.{Frames, blocks_of, free_at, free_frames, is_whole, source_at, stuck_at, true_at}
 use Rattle.scan_core.specs.NumberSet.{all_from}
@@ -90,6 +90,11 @@ module _ (z : Inside) (sound : IsSound z) where
 
   pub first_run_by_set : (order : ℕ) → lowest (is_run_of (set.contains z.free.members) order) z.free.bound ≡ first_run (seen z.held.members z.kept.items) order
   first_run_by_set order = (λ i. lowest (is_run_of (free_is i) order) (bound_is i)) ∙ first_run_is (seen z.held.members z.kept.items) order
+
+  pub runs_by_set : (order : ℕ) → count_below (is_run_of (set.contains z.free.members) order) z.free.bound ≡ count_below (is_run (seen z.held.members z.kept.items) order) (length (seen z.held.members z.kept.items))
+  runs_by_set order =
+      (λ i. count_below (is_run_of (free_is i) order) (bound_is i))
+      ∙ count_same (is_run_of (free_at (seen z.held.members z.kept.items)) order) (is_run (seen z.held.members z.kept.items) order) (length (seen z.held.members z.kept.items)) (λ k h. run_of_is_run (seen z.held.members z.kept.items) order k)
 
   -- there are as many counts of stuck frames as there are pageblocks
   pub stuck_frames : 512 * length z.candidates.stuck ≡ length (seen z.held.members z.kept.items)

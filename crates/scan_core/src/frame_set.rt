@@ -189,4 +189,16 @@ impl FrameSet {
     {
         FrameNo::in_any_zone(self.runs.first(order)?)
     }
+
+    /// How many blocks of an order, 0 to 9, have all of their frames in the set. It looks at a word for each 64 blocks of the order, and
+    /// where the order is below 3 at a word for each 64 frames.
+    pub(crate) fn count_runs(&self, order: u32) -> u32
+        requires { order ≤ 9 }
+        ensures { result ≡ count_below (is_run_of (set.contains self.now.members) order) self.now.bound }
+    {
+        match Order::new(order) {
+            Some(order) => self.runs.count(order),
+            None => self.numbers.count_runs(order),
+        }
+    }
 }

@@ -296,6 +296,15 @@ impl Frames {
         self.free.count_run(first, order)
     }
 
+    /// How many free blocks of an order there are, 0 to 9. It looks at a word of a set for each 64 blocks of the order, and where the order
+    /// is below 3 at a word for each 64 frames.
+    pub fn count_runs(&self, order: u32) -> u32
+        requires { order ≤ 9 }
+        ensures { result ≡ count_below (is_run self.now.states order) (length self.now.states) }
+    {
+        self.free.count_runs(order)
+    }
+
     /// How many pages of a block may be taken from their frames.
     #[inline(always)]
     pub fn movable_in_run(&self, first: FrameNo, order: Order) -> u32

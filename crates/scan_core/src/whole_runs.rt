@@ -2,7 +2,7 @@
 
 ghost use Rattle.std.specs.Prelude.{◌≡◌, ℕ, ◌+◌, ◌*◌, ◌^◌, ◌<◌, ◌≤◌, ◌&&◌, ◌||◌, Bool, true, not, nat_eq, nat_lt, IfOk};
 ghost use Rattle.std.specs.FinSet as set;
-ghost use Rattle.frame_core.specs.Below.{lowest};
+ghost use Rattle.frame_core.specs.Below.{count_below, lowest};
 ghost use Rattle.frame_core.specs.Order.{is_aligned};
 ghost use Rattle.scan_core.specs.FrameSet.{is_run_of};
 ghost use Rattle.scan_core.specs.WholeRuns.{Empties, Fills, HasWholeRuns, IsOpen};
@@ -139,5 +139,14 @@ impl WholeRuns {
             return None;
         }
         Some(run * frames)
+    }
+
+    /// How many blocks of this order there are. For each 64 blocks of the order, whole or not, it looks at a word of the numbers.
+    pub(crate) fn count(&self, order: Order) -> u32
+        requires { IsOpen self.now }
+        ensures { (p : ℕ → Bool) → HasWholeRuns self.now p → result ≡ count_below (is_run_of p order) (512 * self.now.blocks) }
+    {
+        let runs = 512 * self.blocks / order.frames();
+        self.numbers.count_from(runs, runs)
     }
 }

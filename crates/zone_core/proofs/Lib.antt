@@ -8,6 +8,7 @@ pub mod Emptying
 pub mod Ending
 mod Evacuated
 mod Evacuating
+mod HalvedRuns
 mod HandingOut
 mod InTurn
 mod LowestFree

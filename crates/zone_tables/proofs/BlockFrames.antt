@@ -8,8 +8,8 @@ use Rattle.std.proofs.lemmas.Bool.Decides.{eqb_tells}
 use Rattle.std.proofs.lemmas.List.{length-set}
 use Rattle.std.proofs.lemmas.Nat.{pow_pos}
 use Rattle.frame_core.proofs.Lists.{slice_get_set_same, slice_get_set_other}
-use Rattle.frame_core.proofs.Searches.{count_from_all, count_from_same, lowest_same}
-use Rattle.frame_core.specs.Below.{lowest, count_from}
+use Rattle.frame_core.proofs.Searches.{count_from_all, count_from_same, count_same, lowest_same}
+use Rattle.frame_core.specs.Below.{lowest, count_below, count_from}
 use Rattle.frame_core.specs.Order.{is_aligned}
 use Rattle.frame_core.specs.declared.state.FrameState.{FrameState}
 use Rattle.frame_core.specs.declared.state.FrameState.TheVariants.{Free, Huge}
@@ -82,6 +82,11 @@ module _ (states : List (FrameState ℕ)) (v : ZoneState) (fit : FramesFit state
   first_run_seen order =
       lowest_same (runs.is_run states order) (is_run v order) (length states) (λ first h. run_seen order first)
       ∙ ap (lowest (is_run v order)) fit.count
+
+  pub runs_seen : (order : ℕ) → count_below (runs.is_run states order) (length states) ≡ count_below (is_run v order) (frame_count v)
+  runs_seen order =
+      count_same (runs.is_run states order) (is_run v order) (length states) (λ first h. run_seen order first)
+      ∙ ap (count_below (is_run v order)) fit.count
 
 -- a free block is handed out
 module _ {W : ℕ} (z : Inside W) (v : ZoneState) (sound : IsSound z v) (view : state_of z ≡ v) (first order : ℕ) (run : is_run v order first ≡ true) where

@@ -1,10 +1,11 @@
 //! Handing blocks out, and taking them back.
 
-ghost use Rattle.std.specs.Prelude.{◌≡◌, IsTrue, IfSome};
+ghost use Rattle.std.specs.Prelude.{◌≡◌, ◌≤◌, IsTrue, IfSome};
 ghost use Rattle.std.specs.FinMap as map;
+ghost use Rattle.frame_core.specs.Below.{count_below};
 ghost use Rattle.state_core.specs.HandingOut.{has_block, is_order, is_run, lowest_run, block_taken, block_given};
 ghost use Rattle.state_core.specs.Valid.{IsValidZone};
-ghost use Rattle.state_core.specs.ZoneState.{has_room};
+ghost use Rattle.state_core.specs.ZoneState.{frame_count, has_room};
 
 use crate::zone::ZoneTables;
 use frame_core::{FrameNo, Order, Record};
@@ -35,6 +36,16 @@ impl<const W: usize> ZoneTables<W> {
         ensures run { IfSome result (λ first. IsTrue (is_run self.now order first)) }
     {
         self.frames.first_run(order)
+    }
+
+    /// How many free blocks of an order there are, 0 to 9. It looks at a word of a set for each 64 blocks of the order, and where the order
+    /// is below 3 at a word for each 64 frames.
+    pub fn count_runs(&self, order: u32) -> u32
+        requires { order ≤ 9 }
+        ensures count { result ≡ count_below (is_run self.now order) (frame_count self.now) }
+        ensures few { result ≤ 16777216 }
+    {
+        self.frames.count_runs(order)
     }
 
     /// Hands out a free block.

@@ -1,7 +1,8 @@
 //! The pages that are moving, by the frames that they leave.
 
-ghost use Rattle.std.specs.Prelude.{◌≡◌, ◌<◌, Some, None, IfSome};
+ghost use Rattle.std.specs.Prelude.{◌≡◌, ℕ, ◌<◌, false, length, nat_lt, Some, None, IfSome};
 ghost use Rattle.std.specs.FinMap as map;
+ghost use Rattle.frame_core.specs.Moves.{out};
 ghost use Rattle.state_core.specs.ZoneState.{frame_count};
 ghost use Rattle.state_core.specs.declared.placement.Placement.TheVariants.{Moving};
 ghost use Rattle.zone_tables.specs.MovingPages.{IsMovingFrom, IsLeftByNone, IsLowestName, Leaves};
@@ -24,6 +25,14 @@ pub struct MovingPage {
 }
 
 impl<const W: usize> ZoneTables<W> {
+    /// Whether some page is moving.
+    pub fn is_any_moving(&self) -> bool
+        ensures any { result ≡ nat_lt 0 (length (out self.now.records)) }
+        ensures none { result ≡ false → (frame : ℕ) → IsLeftByNone self.now frame }
+    {
+        self.moves.out() > 0
+    }
+
     /// The page that is moving out of a frame, if one is.
     pub fn moving_from(&self, source: FrameNo) -> Option<MovingPage>
         requires { source < frame_count self.now }

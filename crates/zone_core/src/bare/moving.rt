@@ -9,11 +9,15 @@ use zone_tables::MovingPage;
 
 impl<const W: usize> BareZone<W> {
     /// The moving page that leaves the lowest frame, of those that leave a frame from `from` on, if there is one. All moving pages come by
-    /// asking from frame 0 on, and then from the frame after the last source.
+    /// asking from frame 0 on, and then from the frame after the last source. Where no page is moving the answer comes at once; else each
+    /// frame from `from` on is looked at, up to the one that the page leaves.
     pub fn next_moving(&self, from: FrameNo) -> Option<MovingPage>
         ensures some { IfSome result (IsNextMoving self.now from) }
         ensures none { result ≡ None → IsNoneMoving self.now from }
     {
+        if !self.tables.is_any_moving() {
+            return None;
+        }
         for frame in from.get()..512 * self.blocks() {
             let Some(source) = FrameNo::in_any_zone(frame) else {
                 unreachable!();
