@@ -366,7 +366,7 @@ uint32_t compactd_describe(compactd_pool *pool, compactd_geometry *geometry) COM
 
 /* Gets how many free runs of 2^order frames there are, as /proc/buddyinfo counts them: runs that are aligned to their size and lie in no
  * larger free run of the orders up to 9. Frames of marked pageblocks count too. The sum of runs * 2^order over all orders is the number
- * of free frames. The call looks at each frame of the pool, as the next one does.
+ * of free frames. For each 64 frames of the pool the call looks at a few words, as the next one does.
  * Refused: CLOSED; RANGE where the order is above 9. */
 uint32_t compactd_free_runs(compactd_pool *pool, uint32_t order, uint32_t *runs) COMPACTD_CALL;
 
