@@ -29,14 +29,15 @@ impl<const W: usize> ZoneTables<W> {
         self.frames.pages_of_run(first, order)
     }
 
-    /// How many frames of a run aren't free: as many as it has pages, where it is open. Of a pageblock there is a count.
+    /// How many frames of a run are free. Where the run is open, each other one has a page. Of a pageblock there is a count.
     #[inline(always)]
-    pub fn occupied_in_run(&self, first: FrameNo, order: Order) -> u32
+    pub fn free_in_run(&self, first: FrameNo, order: Order) -> u32
         requires { IsTrue (has_block self.now order first) }
-        ensures count { result + count_from (is_free self.now) first (2 ^ order) ≡ 2 ^ order }
-        ensures pages { is_open self.now (2 ^ order) (first / 2 ^ order) ≡ true → result ≡ cost self.now (2 ^ order) (first / 2 ^ order) }
+        ensures count { result ≡ count_from (is_free self.now) first (2 ^ order) }
+        ensures most { result ≤ 2 ^ order }
+        ensures pages { is_open self.now (2 ^ order) (first / 2 ^ order) ≡ true → result + cost self.now (2 ^ order) (first / 2 ^ order) ≡ 2 ^ order }
     {
-        order.frames() - self.frames.free_in_run(first, order)
+        self.frames.free_in_run(first, order)
     }
 
     /// The highest free frame of an unmarked pageblock below `end`, if there is one.

@@ -158,11 +158,12 @@ impl<const W: usize> BareZone<W> {
                 return Some(run);
             }
         }
+        let frames = order.frames();
         let mut next = None;
-        for number in 0..512 * self.blocks() / order.frames() {
-            let first = run_start(order, number);
+        for number in 0..512 * self.blocks() / frames {
+            let first = frame_no(frames * number);
             // An open run has a page in each frame that isn't free. So few runs are asked whether they are open.
-            let pages = self.tables.occupied_in_run(first, order);
+            let pages = frames - self.tables.free_in_run(first, order);
             let run = OpenRun { number, pages };
             if run.is_after(last)
                 && run.is_ahead(next)
