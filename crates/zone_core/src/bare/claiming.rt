@@ -93,7 +93,7 @@ impl<const W: usize> BareZone<W> {
         ensures { result ≡ is_unfinished self.now first order }
     {
         self.tables.has_block(first, order)
-            && (self.tables.occupied_in_run(first, order) < order.frames()
+            && (self.tables.free_in_run(first, order) > 0
                 || self.tables.pages_to_go(first, order) > 0
                     && self.tables.highest_vacant().is_some())
     }
