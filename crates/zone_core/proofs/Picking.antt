@@ -18,7 +18,7 @@ use Rattle.fewest_core.specs.Reservation.{goes_before, rank, ArePicked}
 use Rattle.fewest_core.proofs.Costs.{costs_counted}
 use Rattle.fewest_core.proofs.Ranks.{after_is, all_picked, before_trans, cheaper_first, least_more, lower_first, no_dearer, next_rank as first_has_rank, not_after, not_itself, of_rank, picks, picks_parts, rank_within}
 use Rattle.zone_core.specs.declared.bare.reserving.OpenRun.{OpenRun}
-use Rattle.zone_core.specs.Reserving.{is_after, is_ahead, is_before, is_level, next_rank, IsOpenRun}
+use Rattle.zone_core.specs.Reserving.{is_after, is_before, is_cheaper, is_level, next_rank, IsOpenRun}
 
 module _ (z : ZoneState) (size : ℕ) where
   abbrev pub opened : ℕ → Bool
@@ -26,6 +26,12 @@ module _ (z : ZoneState) (size : ℕ) where
 
   abbrev pub before : ℕ → ℕ → Bool
   before = goes_before (cost z size)
+
+  higher_later : (a b : ℕ) → cost z size a ≤ cost z size b → a < b → before b a ≡ false
+  higher_later a b dear high = false_from_ne_true _ (λ e. both_ways _ (not_itself (cost z size) b) (before_trans (cost z size) b a b e (elim (leb_tells (cost z size b) (cost z size a)) [
+    | inl level ↦ lower_first (cost z size) a b (omega (arith, dear, level.1)) high
+    | inr cheaper ↦ cheaper_first (cost z size) a b cheaper.1
+  ])))
 
   -- by the pages of two open runs, as by their costs
   before_same : (a b : OpenRun) → IsOpenRun z size a → IsOpenRun z size b → is_before a b ≡ before a.number b.number
@@ -70,23 +76,30 @@ module _ (z : ZoneState) (size : ℕ) where
     ];
   }
 
-  -- the run at hand is after the last and ahead of what was found
-  pub walk_takes : (last next : Option OpenRun) (k : ℕ) (r : OpenRun) → IfSome last (IsOpenRun z size) → IsNext last k next → IsOpenRun z size r → r.number ≡ k → is_after r last ≡ true → is_ahead r next ≡ true → IsNext last (k + 1) (Some r)
-  walk_takes last next k r ok is run at later ahead = record {
+  -- the run at hand is after the last and has fewer pages than what was found
+  pub walk_takes : (last next : Option OpenRun) (k : ℕ) (r : OpenRun) → IfSome last (IsOpenRun z size) → IsNext last k next → IsOpenRun z size r → r.number ≡ k → is_after r last ≡ true → is_cheaper r next ≡ true → IsNext last (k + 1) (Some r)
+  walk_takes last next k r ok is run at later fewer = record {
     run = run;
     below = omega (arith, at);
     later = sym (after_same r last ok run) ∙ later;
     first = λ j h o a. elim (eqb_tells j k) [
       | inl here ↦ ap (λ (m : ℕ). before m r.number) (here.1 ∙ sym at) ∙ not_itself (cost z size) r.number
-      | inr other ↦ by_next next is ahead j (omega (arith, h, other.1)) o a
+      | inr other ↦ by_next next is fewer j (omega (arith, h, other.1)) o a
     ];
   } where
-    by_next : (next : Option OpenRun) → IsNext last k next → is_ahead r next ≡ true → (j : ℕ) → j < k → opened j ≡ true → after last j ≡ true → before j r.number ≡ false
-    by_next None is ahead j h o a = absurd (both_ways _ (is j h o) a)
-    by_next (Some n) is ahead j h o a = false_from_ne_true _ (λ e. both_ways _ (is.first j h o a) (before_trans (cost z size) j r.number n.number e (sym (before_same r n run is.run) ∙ ahead)))
+    by_next : (next : Option OpenRun) → IsNext last k next → is_cheaper r next ≡ true → (j : ℕ) → j < k → opened j ≡ true → after last j ≡ true → before j r.number ≡ false
+    by_next None is fewer j h o a = absurd (both_ways _ (is j h o) a)
+    by_next (Some n) is fewer j h o a = false_from_ne_true _ (λ e. both_ways _ (is.first j h o a) (before_trans (cost z size) j r.number n.number e (cheaper_first (cost z size) r.number n.number (omega (arith, ltb-true r.pages n.pages fewer, run.pages, is.run.pages)))))
+
+  -- of two runs, the higher one goes first only where it has fewer pages
+  fewer_if : (r n : OpenRun) → IsOpenRun z size r → IsOpenRun z size n → n.number < r.number → before r.number n.number ≡ true → nat_lt r.pages n.pages ≡ true
+  fewer_if r n run other low first = elim (leb_tells (cost z size n.number) (cost z size r.number)) [
+    | inl dear ↦ absurd (both_ways _ (higher_later n.number r.number dear.1 low) first)
+    | inr cheap ↦ lt-ltb r.pages n.pages (omega (arith, cheap.1, run.pages, other.pages))
+  ]
 
   -- it isn't both
-  pub walk_keeps : (last next : Option OpenRun) (k : ℕ) (r : OpenRun) → IfSome last (IsOpenRun z size) → IsNext last k next → IsOpenRun z size r → r.number ≡ k → (is_after r last && is_ahead r next) ≡ false → IsNext last (k + 1) next
+  pub walk_keeps : (last next : Option OpenRun) (k : ℕ) (r : OpenRun) → IfSome last (IsOpenRun z size) → IsNext last k next → IsOpenRun z size r → r.number ≡ k → (is_after r last && is_cheaper r next) ≡ false → IsNext last (k + 1) next
   walk_keeps last None k r ok is run at not_both = λ j h o. elim (eqb_tells j k) [
     | inl here ↦ ap (after last) (here.1 ∙ sym at) ∙ sym (after_same r last ok run) ∙ false_from_ne_true _ (λ e. both_ways _ not_both (and_from _ _ e refl))
     | inr other ↦ is j (omega (arith, h, other.1)) o
@@ -98,14 +111,14 @@ module _ (z : ZoneState) (size : ℕ) where
     first = λ j h o a. elim (eqb_tells j k) [
       | inl here ↦ false_from_ne_true _ (λ e.
           let later = after_same r last ok run ∙ ap (after last) (at ∙ sym here.1) ∙ a in
-          let ahead = before_same r n run is.run ∙ ap (λ (m : ℕ). before m n.number) (at ∙ sym here.1) ∙ e in
-          both_ways _ not_both (and_from _ _ later ahead))
+          let first = ap (λ (m : ℕ). before m n.number) (at ∙ sym here.1) ∙ e in
+          both_ways _ not_both (and_from _ _ later (fewer_if r n run is.run (omega (arith, is.below, at)) first)))
       | inr other ↦ is.first j (omega (arith, h, other.1)) o a
     ];
   }
 
   -- it is shut, or isn't both
-  pub walk_passes : (last next : Option OpenRun) (k : ℕ) (r : OpenRun) → IfSome last (IsOpenRun z size) → IsNext last k next → (opened k ≡ true → IsOpenRun z size r) → r.number ≡ k → (opened k ≡ true → (is_after r last && is_ahead r next) ≡ false) → IsNext last (k + 1) next
+  pub walk_passes : (last next : Option OpenRun) (k : ℕ) (r : OpenRun) → IfSome last (IsOpenRun z size) → IsNext last k next → (opened k ≡ true → IsOpenRun z size r) → r.number ≡ k → (opened k ≡ true → (is_after r last && is_cheaper r next) ≡ false) → IsNext last (k + 1) next
   walk_passes last next k r ok is run at not_both = elim (cases_Bool (opened k)) [
     | inl here ↦ walk_keeps last next k r ok is (run here) at (not_both here)
     | inr shut ↦ walk_shut last next k is shut
@@ -114,12 +127,6 @@ module _ (z : ZoneState) (size : ℕ) where
   no_cheaper : (last : Option OpenRun) (r : OpenRun) → IfSome last (IsOpenRun z size) → IsOpenRun z size r → is_level r last ≡ true → (j : ℕ) → after last j ≡ true → cost z size r.number ≤ cost z size j
   no_cheaper None r ok run level j later = omega (arith, run.pages, eqb-true r.pages 0 level)
   no_cheaper (Some l) r ok run level j later = omega (arith, run.pages, ok.pages, eqb-true r.pages l.pages level, no_dearer (cost z size) l.number j later)
-
-  higher_later : (a b : ℕ) → cost z size a ≤ cost z size b → a < b → before b a ≡ false
-  higher_later a b dear high = false_from_ne_true _ (λ e. both_ways _ (not_itself (cost z size) b) (before_trans (cost z size) b a b e (elim (leb_tells (cost z size b) (cost z size a)) [
-    | inl level ↦ lower_first (cost z size) a b (omega (arith, dear, level.1)) high
-    | inr cheaper ↦ cheaper_first (cost z size) a b cheaper.1
-  ])))
 
   -- a run that was taken and is as cheap as the last goes before each higher one that is after the last
   pub walk_ends : (last : Option OpenRun) (k n : ℕ) (r : OpenRun) → IfSome last (IsOpenRun z size) → IsNext last (k + 1) (Some r) → is_level r last ≡ true → k < n → IsNext last n (Some r)

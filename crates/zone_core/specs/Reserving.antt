@@ -25,10 +25,10 @@ abbrev pub is_after : OpenRun → Option OpenRun → Bool
 is_after run None = true
 is_after run (Some last) = is_before last run
 
--- whether it goes before a run, if there is one
-abbrev pub is_ahead : OpenRun → Option OpenRun → Bool
-is_ahead run None = true
-is_ahead run (Some next) = is_before run next
+-- whether it has fewer pages than a run, if there is one
+abbrev pub is_cheaper : OpenRun → Option OpenRun → Bool
+is_cheaper run None = true
+is_cheaper run (Some next) = nat_lt run.pages next.pages
 
 -- whether it has as few pages as a run, or none where there is no such run
 abbrev pub is_level : OpenRun → Option OpenRun → Bool

@@ -13,7 +13,7 @@ ghost use Rattle.state_core.specs.HandingOut.{is_run};
 ghost use Rattle.state_core.specs.Valid.{IsValidZone};
 ghost use Rattle.state_core.specs.ZoneState.{frame_count};
 ghost use Rattle.zone_core.specs.Emptying.{HasEnough, IsEmptying};
-ghost use Rattle.zone_core.specs.Reserving.{is_after, is_ahead, is_before, is_level, lower, next_rank, IsNext, IsOpenRun};
+ghost use Rattle.zone_core.specs.Reserving.{is_after, is_before, is_cheaper, is_level, lower, next_rank, IsNext, IsOpenRun};
 ghost use Rattle.zone_core.specs.ZoneIdentity.{HasIdentity};
 
 use crate::bare::BareZone;
@@ -55,12 +55,12 @@ impl OpenRun {
         }
     }
 
-    /// Whether it goes before a run, if there is one.
-    fn is_ahead(self, next: Option<OpenRun>) -> bool
-        ensures { result ≡ is_ahead self next }
+    /// Whether it has fewer pages than a run, if there is one.
+    fn is_cheaper(self, next: Option<OpenRun>) -> bool
+        ensures { result ≡ is_cheaper self next }
     {
         match next {
-            Some(next) => self.is_before(next),
+            Some(next) => self.pages < next.pages,
             None => true,
         }
     }
@@ -162,11 +162,12 @@ impl<const W: usize> BareZone<W> {
         let mut next = None;
         for number in 0..512 * self.blocks() / frames {
             let first = frame_no(frames * number);
-            // An open run has a page in each frame that isn't free. So few runs are asked whether they are open.
+            // An open run has a page in each frame that isn't free. So few runs are asked whether they are open. Of equals the
+            // lowest comes first.
             let pages = frames - self.tables.free_in_run(first, order);
             let run = OpenRun { number, pages };
             if run.is_after(last)
-                && run.is_ahead(next)
+                && run.is_cheaper(next)
                 && self.tables.pages_of(first, order).is_some()
             {
                 if run.is_level(last) {

@@ -80,6 +80,14 @@ const RESERVATIONS: [(&'static [u32], Row); 4] = [
     ),
 ];
 
+/// The first frame of the cheapest run of an order, and how many pages it has.
+const CHEAPEST_RUNS: [(u32, Option<(u32, u32)>); 4] = [
+    (3, Some((8, 0))),
+    (7, Some((256, 1))),
+    (8, Some((256, 3))),
+    (9, None),
+];
+
 fn opened(rt: &(impl Abort + AllocGlobal), places: u32) -> BareZone<1> {
     let number = ZoneNo::new(3).expect(rt, "a zone");
     BareZone::<1>::open(rt.alloc(), number, 1, places).expect(rt, "a zone")
@@ -106,6 +114,15 @@ fn an_evacuation_empties_a_run(rt: HostRuntime) {
         let mut zone = four_runs(&rt, row.places);
         let answer = zone.evacuate(frame(&rt, 384), order(&rt, 7));
         assert_emptied(&rt, &zone, row, answer);
+    }
+}
+
+#[test]
+fn the_cheapest_run_has_the_fewest_pages(rt: HostRuntime) {
+    let zone = four_runs(&rt, 64);
+    for (number, want) in CHEAPEST_RUNS.iter() {
+        let run = zone.cheapest_run(order(&rt, *number));
+        assert!(rt; run.map(|run| (run.first.get(), run.pages)) == *want);
     }
 }
 

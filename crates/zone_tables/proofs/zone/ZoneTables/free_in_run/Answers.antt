@@ -1,4 +1,4 @@
-use Rattle.std.proofs.Common.{◌≡◌, ◌∙◌, ◌+◌, ◌^◌, ◌≤◌, ◌&&◌, ℕ, ap, arith}
+use Rattle.std.proofs.Common.{◌≡◌, ◌∙◌, ◌+◌, ◌^◌, ◌&&◌, ℕ, ap, arith}
 use Rattle.std.specs.Prelude.{nat_le}
 use Rattle.frame_core.specs.Order.{is_aligned}
 use Rattle.frame_core.specs.Below.{count_from}
