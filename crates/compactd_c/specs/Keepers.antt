@@ -1,11 +1,10 @@
--- Keepers as C has them, and what became of a step and of a block that was taken.
+-- Keepers as C has them, and what became of a step.
 use Rattle.std.specs.Prelude.{◌≡◌, ℕ, Bool, true, false, ◌&&◌, nat_lt, nat_le, ◌^◌, if◌then◌else◌, List, length, take, Option, Some, None}
 use Rattle.std.specs.List.{list_all}
 use Rattle.fewest_core.specs.FewestMoves.{costs}
-use Rattle.keeper_core.specs.Keeping.{Keeper, IsKept, IsTaken}
+use Rattle.keeper_core.specs.Keeping.{Keeper, IsKept}
 use Rattle.keeper_core.specs.declared.keeper.Step.{Step}
 use Rattle.keeper_core.specs.declared.keeper.Step.TheVariants.{Emptied, Claimed, Rested}
-use Rattle.keeper_core.specs.declared.keeper.Taken.{Taken}
 use Rattle.state_core.specs.ZoneState.{ZoneState}
 use Rattle.state_core.specs.declared.error.ZoneError.{ZoneError}
 use Rattle.state_core.specs.declared.error.ZoneError.TheVariants.{NoBlock}
@@ -39,17 +38,9 @@ has_more (Emptied first pages) = true
 has_more (Claimed first pages) = true
 has_more Rested = false
 
--- a step of the keeper left this keeper and this pool, moved so many pages, and there may be more to do
-pub record IsStep (k : Keeper) (z : ZoneState) (most : ℕ) (k_new : Keeper) (pool_new : Option ZoneState) (moved : ℕ) (more : Bool) : Type 0 where
+-- a step of the keeper left this keeper and this zone, moved so many pages, and did anything or not
+pub record IsStep (k : Keeper) (z : ZoneState) (most : ℕ) (k_new : Keeper) (z_new : ZoneState) (moved : ℕ) (more : Bool) : Type 0 where
   pub step : Step
-  pub zone : ZoneState
-  pub kept : IsKept k z most step k_new zone
-  pub left : pool_new ≡ Some zone
+  pub kept : IsKept k z most step k_new z_new
   pub pages : moved ≡ moved_by step
   pub goes_on : more ≡ has_more step
-
--- the keeper handed out a block, for which so many pages were moved, and this keeper and this pool are left
-pub record IsHandedOut (k : Keeper) (z : ZoneState) (first pages : ℕ) (k_new : Keeper) (pool_new : Option ZoneState) : Type 0 where
-  pub zone : ZoneState
-  pub taken : IsTaken k z (record { first = first; pages = pages }) k_new zone
-  pub left : pool_new ≡ Some zone

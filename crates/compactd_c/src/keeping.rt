@@ -5,7 +5,7 @@ ghost use Rattle.std.specs.Prelude.{◌≡◌, ◌/◌, ◌^◌, ◌≤◌, ◌�
 ghost use Rattle.std.specs.Result.{result_err};
 ghost use Rattle.compactd_c.specs.Answers.{answer};
 ghost use Rattle.compactd_c.specs.Asked.{is_order, ranged};
-ghost use Rattle.compactd_c.specs.Keepers.{are_frames, cheapest_refusal, has_more, is_keeper, keeper_of, moved_by, IsHandedOut, IsStep};
+ghost use Rattle.compactd_c.specs.Keepers.{are_frames, cheapest_refusal, has_more, is_keeper, keeper_of, moved_by, IsStep};
 ghost use Rattle.fewest_core.specs.Claims.{claim_refusal};
 ghost use Rattle.fewest_core.specs.FewestMoves.{cost, least};
 ghost use Rattle.fewest_core.specs.Reservation.{ArePicked};
@@ -73,7 +73,8 @@ pub extern "C" fn compactd_keep(
 ) -> u32
     ensures answer { ¬ (result ≡ 14) → result ≡ answer pool.old.zone (λ z. ranged (is_keeper order firsts.old count.old) (keep_refusal (keeper_of order firsts.old count.old) z most)) }
     ensures memory { result ≡ 14 → ¬ (pool.old.zone ≡ None) × IsTrue (is_keeper order firsts.old count.old) }
-    ensures step { (z : ZoneState) → pool.old.zone ≡ Some z → result ≡ 0 → IsStep (keeper_of order firsts.old count.old) z most (keeper_of order firsts.new count.new) pool.new.zone moved.new more.new }
+    ensures step { (old new : ZoneState) → pool.old.zone ≡ Some old → pool.new.zone ≡ Some new → result ≡ 0 → IsStep (keeper_of order firsts.old count.old) old most (keeper_of order firsts.new count.new) new moved.new more.new }
+    ensures open { result ≡ 0 → ¬ (pool.new.zone ≡ None) }
     ensures count { result ≡ 0 → count.new ≤ length firsts.new }
     ensures places { length firsts.new ≡ length firsts.old }
     ensures kept { ¬ (result ≡ 0) → (pool.new.zone ≡ pool.old.zone) × (firsts.new ≡ firsts.old) × (count.new ≡ count.old) × (moved.new ≡ moved.old) × (more.new ≡ more.old) }
@@ -108,7 +109,8 @@ pub extern "C" fn compactd_take_kept(
 ) -> u32
     ensures answer { ¬ (result ≡ 14) → result ≡ answer pool.old.zone (λ z. ranged (is_keeper order firsts.old count.old) (take_refusal (keeper_of order firsts.old count.old) z)) }
     ensures memory { result ≡ 14 → ¬ (pool.old.zone ≡ None) × IsTrue (is_keeper order firsts.old count.old) }
-    ensures taken { (z : ZoneState) → pool.old.zone ≡ Some z → result ≡ 0 → IsHandedOut (keeper_of order firsts.old count.old) z first.new moved.new (keeper_of order firsts.new count.new) pool.new.zone }
+    ensures taken { (old new : ZoneState) → pool.old.zone ≡ Some old → pool.new.zone ≡ Some new → result ≡ 0 → IsTaken (keeper_of order firsts.old count.old) old (record { first = first.new; pages = moved.new }) (keeper_of order firsts.new count.new) new }
+    ensures open { result ≡ 0 → ¬ (pool.new.zone ≡ None) }
     ensures count { result ≡ 0 → count.new ≤ length firsts.new }
     ensures places { length firsts.new ≡ length firsts.old }
     ensures kept { ¬ (result ≡ 0) → (pool.new.zone ≡ pool.old.zone) × (firsts.new ≡ firsts.old) × (count.new ≡ count.old) × (first.new ≡ first.old) × (moved.new ≡ moved.old) }
