@@ -172,12 +172,7 @@ fn take_kept(
 }
 
 /// A keeper that claimed the first `count` of these runs.
-fn keeper_of(
-    alloc: Global,
-    order: u32,
-    firsts: &[u32],
-    count: usize,
-) -> Result<Keeper, ZoneError>
+fn keeper_of(alloc: Global, order: u32, firsts: &[u32], count: usize) -> Result<Keeper, ZoneError>
     ensures refused { ¬ (result ≡ Err ZoneError.Memory) → result_err result ≡ ranged (is_keeper order firsts.now count) None }
     ensures memory { result ≡ Err ZoneError.Memory → IsTrue (is_keeper order firsts.now count) }
     ensures keeper { IfOk result (λ keeper. keeper ≡ keeper_of order firsts.now count) }
