@@ -2,17 +2,13 @@
 //! wanted. Then a thread keeps two blocks ready: it moves 32 pages at most each time that it has the lock, and sleeps while there is no
 //! more to do. The pages keep their words. How long a request takes goes to standard error. `c/examples/keeper.cpp` does the same in C++.
 
+use compactd::{Address, Error, Huge, Keeper, PageSize, Pool};
 use std::sync::{Condvar, Mutex};
 use std::time::Instant;
 
-use compactd::{Address, Error, Huge, Keeper, PageSize, Pool};
-
-const BLOCKS: u32 = 64;
 const ADDRESSES: usize = 8 * 4096;
 const PAGES: usize = ADDRESSES / 5 * 3;
-const MOST_HELD: usize = 4;
 const REQUESTS: usize = 200;
-const TURNS: usize = 200;
 
 struct Service {
     pool: Pool,
@@ -26,7 +22,7 @@ struct Service {
 
 impl Service {
     fn open(kept: usize) -> Result<Service, Error> {
-        let (pool, keeper, addresses) = (Pool::open(PageSize::Bytes4096, BLOCKS)?, Keeper::new(9, kept), (0..).take(ADDRESSES).collect());
+        let (pool, keeper, addresses) = (Pool::open(PageSize::Bytes4096, 64)?, Keeper::new(9, kept), (0..).take(ADDRESSES).collect());
         let mut service = Service { pool, keeper, addresses, held: vec![], random: 1, is_over: false, is_well: true };
         (0..ADDRESSES).try_for_each(|place| service.map(place))?;
         for place in (PAGES..ADDRESSES).rev() {
@@ -36,15 +32,13 @@ impl Service {
         Ok(service)
     }
 
-    /// A random number.
     fn below(&mut self, limit: usize) -> usize {
         self.random = self.random.wrapping_mul(6_364_136_223_846_793_005).wrapping_add(1);
         (self.random >> 33) as usize % limit
     }
 
     fn at(&self, place: usize) -> (Address, u64) {
-        let number = self.addresses[place];
-        (Address::new(number % 8, number / 8), u64::from(number) + 1)
+        (Address::new(self.addresses[place] % 8, self.addresses[place] / 8), u64::from(self.addresses[place]) + 1)
     }
 
     fn map(&mut self, place: usize) -> Result<(), Error> {
@@ -67,10 +61,10 @@ impl Service {
         self.map(place)
     }
 
-    /// Gets a block. The oldest block goes back where there are too many.
+    /// Gets a block. The oldest of more than four goes back.
     fn ask(&mut self) -> Result<(), Error> {
         self.held.push(self.keeper.take(&mut self.pool)?.block);
-        let oldest = (self.held.len() > MOST_HELD).then(|| self.held.remove(0));
+        let oldest = (self.held.len() > 4).then(|| self.held.remove(0));
         Ok(oldest.map_or(Ok(()), |block| self.pool.give(block))?)
     }
 
@@ -79,7 +73,7 @@ impl Service {
         self.keeper.close(&mut self.pool)?;
         self.held.drain(..).try_for_each(|block| self.pool.give(block))?;
         (0..PAGES).try_for_each(|place| self.unmap(place, place))?;
-        let told = if self.is_well && self.pool.info().whole == BLOCKS { "and each word as it was" } else { "not well" };
+        let told = if self.is_well && self.pool.info().whole == 64 { "and each word as it was" } else { "not well" };
         println!("{how}: {} blocks, {told}", times.len());
         times.sort_by(f64::total_cmp);
         eprintln!("{how}: median {:.0} us, 99th percentile {:.0} us", times[REQUESTS / 2], times[REQUESTS / 100 * 99]);
@@ -101,9 +95,9 @@ fn keep(service: &Mutex<Service>, changed: &Condvar) -> Result<(), Error> {
     Ok(())
 }
 
-/// Some turns and a request, and how many microseconds that took.
+/// 200 turns and a request, and how many microseconds that took.
 fn serve(service: &Mutex<Service>, changed: &Condvar) -> Result<f64, Error> {
-    (0..TURNS).try_for_each(|_| service.lock().unwrap().turn())?;
+    (0..200).try_for_each(|_| service.lock().unwrap().turn())?;
     let begun = Instant::now();
     service.lock().unwrap().ask()?;
     changed.notify_one();

@@ -28,7 +28,7 @@ ghost use Rattle.zone_core.specs.Counted.{IsCounted};
 ghost use Rattle.zone_core.specs.FreeRuns.{fragmentation, maximal_runs};
 ghost use Rattle.zone_core.specs.NextMoving.{IsNextMoving, IsNoneMoving};
 ghost use Rattle.zone_core.specs.OneThread.{last_of_slice, moved_at_most, all_moved};
-ghost use Rattle.compactd_c.specs.Asked.{address_of, is_address, is_client, is_block, ranged, refusal_for, answer_for, after_asked};
+ghost use Rattle.compactd_c.specs.Asked.{address_of, is_address, is_client, is_block, is_order, ranged, refusal_for, answer_for, after_asked};
 ghost use Rattle.compactd_c.specs.Keepers.{cheapest_refusal};
 ghost use Rattle.compactd_c.specs.Kinds.{IsPageSize};
 ghost use Rattle.compactd_c.specs.Looks.{look_refusal, audit_refusal};
