@@ -521,15 +521,15 @@ uint32_t compactd_cheapest_run(compactd_pool *pool, uint32_t order, uint32_t *fi
  *
  * A keeper is an array of the caller's and a count: `firsts` has a place for each of the `ready` blocks that are to be ready, and its first
  * `count` words are the first frames of the runs that are claimed for them, the one that was claimed first in front. At first the count is 0.
- * Each of these calls gets them and writes them anew. Where the caller has no use for a run any more, compactd_drop_claim gives it up.
- * A keeper has one order. A pool may have several keepers. */
+ * Each of these calls gets them and writes them anew. Where the caller has no use for a run any more, it takes it out of the array and gives
+ * it up by compactd_drop_claim. A keeper has one order. A pool may have several keepers. */
 
 /* Makes one step of a keeper. It goes on with the first of its runs that isn't finished, as compactd_empty_some does: claims its free frames,
  * and moves at most `most` pages out of it. A run is finished where all its frames are claimed, and for now also where each page left in it
  * is moving, pinned or unmovable, or no frame is free for it. Where all runs are finished and there is a place for another one, the step
  * claims the run of compactd_cheapest_run, if one is open. Gets how many pages were moved, and whether the step did anything; else there is
- * no more to do now. A caller makes steps until `more` is 0, and again after other calls. With `most` 0 no page is moved, and a step that
- * comes to one may get `more` forever.
+ * no more to do now. A caller makes steps until `more` is 0, and again after other calls. With `most` 0 it only claims, and `more` stays 1
+ * while a page could go.
  * Refused: CLOSED; RANGE, also where a first frame is above 16777215 or the count is above `ready`; MEMORY where there isn't enough for
  * a list of the runs; JOURNAL_FULL, as compactd_empty_some is. */
 uint32_t compactd_keep(compactd_pool *pool, uint32_t order, uint32_t most, uint32_t *firsts, size_t ready, size_t *count, uint32_t *moved,
