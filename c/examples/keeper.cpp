@@ -12,8 +12,8 @@
 #include <thread>
 #include <vector>
 
-const std::uint32_t blocks = 64, vpages = 4096, addresses = 8 * vpages, pages = addresses / 5 * 3, slice = 32, word = 511;
-const std::size_t ready = 2, most_held = 4, requests = 200, turns = 200;
+const std::uint32_t blocks = 64, vpages = 4096, addresses = 8 * vpages, pages = addresses / 5 * 4, slice = 32, word = 511;
+const std::size_t ready = 2, most_held = 8, requests = 200, turns = 200;
 
 class Service {
 public:

@@ -7,7 +7,7 @@ use std::sync::{Condvar, Mutex};
 use std::time::Instant;
 
 const ADDRESSES: usize = 8 * 4096;
-const PAGES: usize = ADDRESSES / 5 * 3;
+const PAGES: usize = ADDRESSES / 5 * 4;
 const REQUESTS: usize = 200;
 
 struct Service {
@@ -61,10 +61,10 @@ impl Service {
         self.map(place)
     }
 
-    /// Gets a block. The oldest of more than four goes back.
+    /// Gets a block. The oldest of more than eight goes back.
     fn ask(&mut self) -> Result<(), Error> {
         self.held.push(self.keeper.take(&mut self.pool)?.block);
-        let oldest = (self.held.len() > 4).then(|| self.held.remove(0));
+        let oldest = (self.held.len() > 8).then(|| self.held.remove(0));
         Ok(oldest.map_or(Ok(()), |block| self.pool.give(block))?)
     }
 
