@@ -118,7 +118,7 @@ def picture(found, words):
         panel(found, "Pages moved a block", PAGES, pages_row),
         panel(found, "Microseconds a request", TIMES, times_row),
     ]
-    told = "logarithmic scales; in brackets, the requests that got a block; times: median, 99th percentile; apart: the unmovable pages"
+    told = "logarithmic scales; in brackets: requests that got a block; times: median, 99th percentile; apart: unmovable pages apart"
     return c_reserve.sheet(HEIGHT, "Huge blocks in a pool that lives, by what is done where none is free", pool, DRAWN, panels, told)
 
 

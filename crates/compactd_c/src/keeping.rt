@@ -1,7 +1,7 @@
 //! What C calls to have blocks of an order ready before they are asked for. C keeps the first frames of the runs that are claimed for
 //! them, and passes them to each call.
 
-ghost use Rattle.std.specs.Prelude.{◌≡◌, ◌/◌, ◌^◌, ◌≤◌, ◌∷◌, [], length, take, IsTrue, None, Some, IfOk, OnErr};
+ghost use Rattle.std.specs.Prelude.{◌≡◌, ◌/◌, ◌^◌, ◌≤◌, ◌∷◌, [], length, IsTrue, None, Some, IfOk, OnErr};
 ghost use Rattle.std.specs.Result.{result_err};
 ghost use Rattle.compactd_c.specs.Answers.{answer};
 ghost use Rattle.compactd_c.specs.Asked.{is_order, ranged};
