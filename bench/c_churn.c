@@ -6,7 +6,10 @@
  * - a round that stops: compactd_move_pages in slices of 32 pages until there is a block. It goes on where the one before stopped; where
  *   its scanners meet, one more is begun;
  * - a reservation: compactd_reserve, of one block;
- * - a reservation, unmovable pages apart: the same in a pool where compactd_set_apart was called when it was opened.
+ * - a reservation, unmovable pages apart: the same in a pool where compactd_set_apart was called when it was opened;
+ * - blocks kept ready, unmovable pages apart: in such a pool a block of order 9 is had by compactd_take_kept, and of the others by a
+ *   reservation. After each request the caller calls compactd_keep for two blocks, 32 pages a step, until there is no more to do. These
+ *   steps aren't timed, and their pages are counted with those of the request.
  *
  * The pool has 2^18 frames, twice as many addresses, and at first a page in each frame. There are two waves. In each, pages are unmapped at
  * random until 70 % of the frames hold one. Then 120 blocks are asked for, seven of ten of order 9, the others of orders 3 to 5. Before
@@ -38,6 +41,7 @@
 #define REQUESTS 120
 #define STEPS 2048
 #define SLICE 32
+#define READY 2
 #define TRIES 8
 
 struct block {
@@ -47,6 +51,7 @@ struct block {
 struct policy {
     const char *name;
     int (*find)(struct block *block); /* where no block is free */
+    void (*prepare)(void); /* after a request */
     compactd_bool apart; /* whether unmovable pages are mapped apart */
 };
 
@@ -60,6 +65,8 @@ static struct block blocks[REQUESTS]; /* that were handed out in this wave */
 static uint32_t oldest, newest; /* those from the oldest to below the newest are held */
 static uint32_t held; /* the frames of these */
 static uint32_t moved; /* pages since the pool was opened */
+static uint32_t ready[READY]; /* the first frames of the runs that are claimed for blocks to come */
+static size_t claimed; /* how many these are */
 static uint64_t random_state;
 static int is_well = 1;
 
@@ -223,6 +230,33 @@ static int reserve(struct block *block)
     return is_done;
 }
 
+static int take_kept(struct block *block)
+{
+    uint32_t count = 0;
+    int is_done;
+
+    if (block->order != ORDER)
+        return reserve(block);
+    is_done = compactd_take_kept(&pool, ORDER, ready, READY, &claimed, &block->first, &count) == COMPACTD_OK;
+    moved += count;
+    return is_done;
+}
+
+static void prepare_nothing(void)
+{
+}
+
+static void keep_ready(void)
+{
+    uint32_t count = 0;
+    compactd_bool more = 1;
+
+    while (more) {
+        need(compactd_keep(&pool, ORDER, SLICE, ready, READY, &claimed, &count, &more) == COMPACTD_OK);
+        moved += count;
+    }
+}
+
 /* How they are measured. */
 
 static void give_oldest(void)
@@ -248,6 +282,7 @@ static void ask(const struct policy *policy)
         blocks[newest++] = block;
         held += 1u << block.order;
     }
+    policy->prepare();
     printf("%s\t%u\t%d\t%u\t%.3f\n", policy->name, (unsigned)block.order, is_got, (unsigned)(moved - moved_before), seconds * 1e6);
 }
 
@@ -278,6 +313,7 @@ static void open_pool(compactd_bool apart)
     for (address = 0; address < ADDRESSES; address++)
         addresses[address] = places[address] = address;
     pages = moved = 0;
+    claimed = 0;
 }
 
 static void measure(const struct policy *policy, uint64_t seed)
@@ -296,11 +332,12 @@ static void measure(const struct policy *policy, uint64_t seed)
 int main(int count, char **arguments)
 {
     static const struct policy policies[] = {
-        {"nothing", do_nothing, 0},
-        {"full round", make_full_round, 0},
-        {"round that stops", make_round_that_stops, 0},
-        {"reservation", reserve, 0},
-        {"reservation, unmovable pages apart", reserve, 1},
+        {"nothing", do_nothing, prepare_nothing, 0},
+        {"full round", make_full_round, prepare_nothing, 0},
+        {"round that stops", make_round_that_stops, prepare_nothing, 0},
+        {"reservation", reserve, prepare_nothing, 0},
+        {"reservation, unmovable pages apart", reserve, prepare_nothing, 1},
+        {"blocks kept ready, unmovable pages apart", take_kept, keep_ready, 1},
     };
     size_t at;
 

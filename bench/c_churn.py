@@ -1,4 +1,4 @@
-"""How often there is a huge block in a pool that lives, how many pages are moved for it, and how long a request takes, by five policies.
+"""How often there is a huge block in a pool that lives, how many pages are moved for it, and how long a request takes, by six policies.
 
     python3 bench/c_churn.py [--words WORDS] [--svg FILE] [RUNS]
 
@@ -6,9 +6,9 @@ The policies and the load are those that `bench/c_churn.c` describes. A run asks
 tables tell of these. Of the pages 0, 1 or 5 of a hundred are unmovable. The first table is of pages of 8 words. The second is of pages of
 512 words, which are 1 GiB, unless less than 2 GiB are available. `--words` chooses one of them. Each run has its own random numbers, the
 same in every call of this script; there is one run if no number is given. A table has the percentage of the requests that got a block; the
-pages moved for all requests, those of lower orders and those in vain included, by the blocks of order 9; and the median and the 99th
-percentile of the time of a request, whether it got a block or not. `--svg` draws the last table. The load of the machine is told before and
-after. The library is that of `bench/c_calls.py`. It needs gcc."""
+pages moved for all requests, those of lower orders, those in vain and those beforehand included, by the blocks of order 9; and the median
+and the 99th percentile of the time of a request, whether it got a block or not. `--svg` draws the last table. The load of the machine is
+told before and after. The library is that of `bench/c_calls.py`. It needs gcc."""
 
 import argparse
 import collections
@@ -32,11 +32,12 @@ DRAWN = {
     "full round": (COLORS["full round"], "full round", 98),
     "round that stops": (COLORS["round that stops"], "round that stops", 182),
     "reservation": (COLORS["reservation"], "reservation", 302),
-    "reservation, unmovable pages apart": ("#009e73", "reservation, unmovable pages apart", 398),
+    "reservation, unmovable pages apart": ("#009e73", "reservation, apart", 398),
+    "blocks kept ready, unmovable pages apart": ("#cc79a7", "blocks kept ready, apart", 528),
 }
 PAGES = {10: "10", 100: "100", 1_000: "1,000", 10_000: "10,000", 100_000: ""}
 TIMES = {1: "1 µs", 1_000: "1 ms", 1_000_000: "1 s"}
-HEIGHT, GROUP = 477, 107
+HEIGHT, GROUP = 534, 126
 
 
 def requests(program, words, unmovable, runs):
@@ -117,7 +118,7 @@ def picture(found, words):
         panel(found, "Pages moved a block", PAGES, pages_row),
         panel(found, "Microseconds a request", TIMES, times_row),
     ]
-    told = "on logarithmic scales; in brackets, the requests that got a block; times: median and 99th percentile"
+    told = "logarithmic scales; in brackets: requests that got a block; times: median, 99th percentile; apart: unmovable pages apart"
     return c_reserve.sheet(HEIGHT, "Huge blocks in a pool that lives, by what is done where none is free", pool, DRAWN, panels, told)
 
 

@@ -1,14 +1,15 @@
 """Random calls of the library for C are answered as by the machine of `checks/machine.py`.
 
 A million calls are made through `libcompactd.so` and beside them on the machine, with pages of both sizes, with a journal and without one,
-among them rounds, slices of rounds, pages that are moved by hand, runs that are emptied at once or claimed and emptied in steps, and up to 4
-blocks that are reserved. Most are made on pools of 1 to 8 pageblocks, and 100,000 on pools of 9 to 513, of which some are filled with blocks
-but for a few pageblocks at the top. Half of the pools have random numbers of spaces and of virtual pages, and their first and last addresses
-are among those of the calls. 100,000 more calls are made on one pool of 262,144 frames and 16,777,216 addresses: nine in ten are about a few
-of them, the others about any. After each call the number of its refusal is compared, and what it tells; where it is refused, what it would
-have told has to be untouched. The reserved words of a structure have to be 0 once a call has filled it, and are random in those that a call
-is given. Numbers are also out of their ranges. All refusals come up but those of a pool that is closed, open already or can't have its
-memory, which `checks/c_exports.py` tries. At the end the records of each pool are compared too."""
+among them rounds, slices of rounds, pages that are moved by hand, runs that are emptied at once or claimed and emptied in steps, up to 4
+blocks that are reserved, and steps of keepers of each order. Most are made on pools of 1 to 8 pageblocks, and 100,000 on pools of 9 to 513,
+of which some are filled with blocks but for a few pageblocks at the top. Half of the pools have random numbers of spaces and of virtual
+pages, and their first and last addresses are among those of the calls. 100,000 more calls are made on one pool of 262,144 frames and
+16,777,216 addresses: nine in ten are about a few of them, the others about any. After each call the number of its refusal is compared, and
+what it tells; where it is refused, what it would have told has to be untouched. The reserved words of a structure have to be 0 once a call
+has filled it, and are random in those that a call is given. Numbers are also out of their ranges. All refusals come up but those of a pool
+that is closed, open already or can't have its memory, which `checks/c_exports.py` tries. At the end the records of each pool are compared
+too."""
 
 import collections
 import ctypes
@@ -134,6 +135,9 @@ ARGUMENTS = {
     "take_claimed": [u32, u32],
     "drop_claim": [u32, u32],
     "reserve": [u32, told(u32), size, told(u32)],
+    "cheapest_run": [u32, told(u32), told(u32)],
+    "keep": [u32, u32, told(u32), size, told(size), told(u32), told(byte)],
+    "take_kept": [u32, told(u32), size, told(size), told(u32), told(u32)],
     "isolate": [told(MovingPage), told(u64), size],
     "commit": [told(MovingPage), told(u64), size, told(byte)],
     "put_back": [told(MovingPage)],
@@ -234,6 +238,20 @@ class Chooser:
     def reserve(self):
         return self.order(), self.chance.randrange(5)
 
+    def cheapest_run(self):
+        return (self.order(),)
+
+    def keep(self):
+        order, firsts, places = self.take_kept()
+        return order, self.chance.choice([1, 2, 8, 64, self.number(600)]), firsts, places
+
+    def take_kept(self):
+        """A keeper of an order, with its runs: now and then with any other one too, also where it has no place for that."""
+        order = self.order()
+        firsts = self.zone.keepers.get(order, [])
+        others = [self.give_order()[0]] if self.chance.random() < 0.03 else []
+        return order, [*firsts, *others], max(MOST_KEPT, len(firsts))
+
     def mark(self):
         return (self.number(self.blocks, MOST_BLOCKS),)
 
@@ -318,12 +336,16 @@ OFTEN = {
     **dict.fromkeys(["isolate", "commit"], 20),
     **dict.fromkeys(["next_moving", "claim", "empty_some"], 10),
     **dict.fromkeys(["put_back", "move_pages", "take_claimed", "drop_claim"], 5),
-    **dict.fromkeys(["begin_round", "reserve", "set_apart"], 2),
+    **dict.fromkeys(["begin_round", "reserve", "set_apart", "cheapest_run"], 2),
+    "keep": 20,
+    "take_kept": 3,
     "compact": 1,
 }
 # The calls that end the quiet of a round where they are accepted.
 LOUD = {"map", "map_at", "share", "unmap", "pin", "unpin", "take_order", "give_order", "mark", "unmark"} | {"claim", "empty_some", "drop_claim"}
 BY_HAND = {"isolate", "commit", "put_back"}
+BY_KEEPER = {"keep", "take_kept"}
+MOST_KEPT = 2  # blocks that a keeper has ready
 
 
 class Beside:
@@ -353,6 +375,11 @@ class Beside:
             order, count = arguments
             moved, firsts = fresh(u32), fresh(u32 * (count + 1))
             return self.call(name, order, firsts, count, moved), [moved, firsts]
+        if name in BY_KEEPER:
+            *numbers, firsts, count = arguments
+            places = keeper_places(name, firsts, count)
+            *told, claimed, runs_claimed = places
+            return self.call(name, *numbers, runs_claimed, count, claimed, *told), places
         places = [fresh(kind._type_) for kind in ARGUMENTS[name] if hasattr(kind, "contents")]
         return self.call(name, *arguments, *places), places
 
@@ -370,7 +397,8 @@ class Beside:
         """Makes a call on both, and returns the number that both answer."""
         number, said = self.wanted(name, arguments)
         answer, places = self.answers(name, arguments)
-        found, untouched = values_of(places), values_of(map(fresh, map(type, places)))
+        before = keeper_places(name, *arguments[-2:]) if name in BY_KEEPER else map(fresh, map(type, places))
+        found, untouched = values_of(places), values_of(before)
         if said is None:
             said = untouched
         elif not isinstance(said, tuple):
@@ -444,6 +472,14 @@ class Beside:
     def forget(self, serial, answer):
         if answer == 0:
             del self.carried[serial]
+
+
+def keeper_places(name, firsts, count):
+    """Where a call of a keeper tells two numbers, and where its runs stand: how many they are, and so many places for their first frames,
+    and one more."""
+    runs_claimed = fresh(u32 * (max(count, len(firsts)) + 1))
+    runs_claimed[: len(firsts)] = firsts
+    return [fresh(u32), fresh(byte if name == "keep" else u32), size(len(firsts)), runs_claimed]
 
 
 def opening_of(page_words, blocks, addresses, places):

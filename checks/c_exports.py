@@ -7,8 +7,8 @@ archive. Besides these it names malloc, realloc, free, memcpy, memmove and memse
 process. The headers compile from C89 and C++98 on, `compactd.hpp` from C++11, without a warning. A program calls each function and gets
 each refusal, on pools that are closed, open, closed again and closed twice, with pages of both sizes. The texts of refusals are the
 same in the header's comments, in its function and in the crate for Rust. Each request for memory that an opening makes is refused in
-turn: the answer is 14, the pool is closed, and nothing is lost. The one that a reservation makes is refused too: the answer is 14, and
-nothing is written. No other call asks for memory, accepted or refused."""
+turn: the answer is 14, the pool is closed, and nothing is lost. Those that a reservation and a keeper make are refused too: the answer is
+14, and nothing is written. No other call asks for memory, accepted or refused."""
 
 import pathlib
 import re

@@ -23,6 +23,7 @@ class Zone(machine.Zone):
         self.moved = self.back = 0
         self.contents = {}  # by a block's first frame: its words that aren't 0, by their places
         self.records = []
+        self.keepers = {}  # by their orders: the first frames of the runs that one claimed
 
     def note(self, kind, client=0, address=(0, 0), number=0, other=0, value=0):
         self.records.append((kind, client, *address, number, other, value))
@@ -122,6 +123,11 @@ def need_place(client, space, page):
 def need_order(order):
     if not 3 <= order <= 9:
         raise Refused(1)
+
+
+def need_keeper(order, firsts, places):
+    need_order(order)
+    need((len(firsts), places + 1), *((first, machine.MOST_FRAMES) for first in firsts))
 
 
 class ByMachine:
@@ -293,6 +299,25 @@ class ByMachine:
         need_order(order)
         firsts, moved = self.zone.take_cheapest(order, count)
         return moved, *firsts
+
+    def cheapest_run(self, order):
+        need_order(order)
+        return self.zone.cheapest_run(order)[::-1]
+
+    def keep(self, order, most, firsts, places):
+        """How many pages were moved, whether anything was done, how many runs are claimed, and which."""
+        need_keeper(order, firsts, places)
+        moved, is_done, firsts = self.zone.keep(order, most, firsts, places)
+        self.zone.is_quiet &= not is_done
+        self.zone.keepers[order] = firsts
+        return moved, int(is_done), len(firsts), *firsts
+
+    def take_kept(self, order, firsts, places):
+        """The first frame of the block, how many pages were moved for it, how many runs are claimed, and which."""
+        need_keeper(order, firsts, places)
+        first, moved, firsts = self.zone.take_kept(order, firsts)
+        self.zone.keepers[order] = firsts
+        return first, moved, len(firsts), *firsts
 
     def isolate(self, count):
         """The serial of the next page, its flags and its words."""

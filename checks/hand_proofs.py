@@ -55,6 +55,14 @@ HAND_PROOFS = {
         "the names that these proofs share",
         "a9856284147c2addd44e413009cb2c68d609e26a8d344441628e38f144f46fb9",
     ),
+    "crates/compactd_c/proofs/keeping/compactd_keep/Answers.antt": (
+        "it says which step the function made, and proves no function by hand",
+        "336aef64d1ec28f25a613f6fed850e4b67ebbd8b8f3512c9752536933056bccb",
+    ),
+    "crates/compactd_c/proofs/keeping/frames_of/Invariants.antt": (
+        "it says how many of the numbers are frames of the list, and proves no function by hand",
+        "74f0363102ebdbd9002facaab18944d07e5ee9ff786f6424cc99ca554ccc4c80",
+    ),
     "crates/compactd_c/proofs/pool/Pool/TheSendSync/Send.antt": (
         "the prover finds no pointer fit to go to another thread",
         "71f51c12493482d3a4862b42e32285477135070016713df46b2b9ad096128f0c",

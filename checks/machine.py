@@ -446,14 +446,18 @@ class Zone:
         """Empties so many open runs with the fewest pages, the lowest first of equals, and hands them out. Their first frames, and how many
         pages went out of them."""
         size = 2**order
-        costs = [(self.cost(first, size), first) for first in range(0, self.size, size)]
-        firsts = [first for _, first in sorted(cost for cost in costs if cost[0] is not None)[:count]]
+        firsts = [first for _, first in sorted(self.open_runs(size))[:count]]
         if len(firsts) < count:
             raise Refused(11)
         moved = self.clear(firsts, size, count)
         for first in firsts:
             self.hand_out_at(first, order)
         return firsts, moved
+
+    def open_runs(self, size):
+        """The runs of so many frames that are open: how many pages each has, and its first frame."""
+        costs = ((self.cost(first, size), first) for first in range(0, self.size, size))
+        return [cost for cost in costs if cost[0] is not None]
 
     def cost(self, first, count):
         """How many pages a run of frames has, or None where it isn't open: a frame of it can't be emptied."""
@@ -524,6 +528,47 @@ class Zone:
         for frame in self.claimed.intersection(range(first, first + 2**order)):
             self.frames[frame] = None
             self.claimed.remove(frame)
+
+    # Keepers. One is told by its order, the first frames of the runs that it claimed and how many places it has for them.
+
+    def cheapest_run(self, order):
+        """The open run with the fewest pages: how many they are, and its first frame."""
+        runs = self.open_runs(2**order)
+        if not runs:
+            raise Refused(11)
+        return min(runs)
+
+    def keep(self, order, most, firsts, places):
+        """A step: how many pages it moves, whether it does anything, and the runs that are claimed then."""
+        unfinished = next((first for first in firsts if self.is_unfinished(first, order)), None)
+        if unfinished is not None:
+            return self.empty_some(unfinished, order, most)[0], True, firsts
+        if len(firsts) < places and self.open_runs(2**order):
+            _, first = self.cheapest_run(order)
+            self.claim(first, order)
+            return 0, True, [*firsts, first]
+        return 0, False, firsts
+
+    def is_unfinished(self, first, order):
+        """Whether a frame of a run can be claimed, or a page can go out of it."""
+        if not self.has_run(first, order):
+            return False
+        run = range(first, first + 2**order)
+        return any(self.frames[frame] is None for frame in run) or (
+            any(map(self.may_go, run)) and any(map(self.can_take, self.frames.downwards(0, self.size)))
+        )
+
+    def has_run(self, first, order):
+        return first % 2**order == 0 and first + 2**order <= self.size
+
+    def take_kept(self, order, firsts):
+        """The block that is handed out, how many pages are moved for it, and the runs that are claimed then."""
+        for place, first in enumerate(firsts):
+            if self.has_run(first, order) and self.claimed.issuperset(range(first, first + 2**order)):
+                self.take_claimed(first, order)
+                return first, 0, firsts[:place] + firsts[place + 1 :]
+        blocks, moved = self.take_cheapest(order, 1)
+        return blocks[0], moved, firsts
 
     def compact(self):
         if self.is_open:

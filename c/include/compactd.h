@@ -23,11 +23,12 @@
  * - A pool is all zeros before its first call. Only these calls read, write or copy its field.
  * - Each pointer leads to memory of its type, or to as many words as the count says, and to nothing else of the same call. No pointer is
  *   null, except `values` of compactd_read, compactd_write, compactd_read_block and compactd_write_block, and `firsts` of compactd_reserve,
- *   where the count is 0. A test shows that null is right there; the proof assumes a pointer that isn't null.
+ *   compactd_keep and compactd_take_kept, where the number of words is 0. A test shows that null is right there; the proof assumes a pointer
+ *   that isn't null.
  * - Calls on one pool don't overlap, unless all of them are questions: compactd_info, _describe, _free_runs, _fragmentation, _look, _marked,
- *   _quiet, _audit, _journal, _record_at and _next_moving. The caller's lock sees to it: a mutex, or a reader-writer lock under whose reading
- *   side only questions are asked. That questions may run side by side is tested and not proved: the proof knows one call at a time. Calls
- *   on different pools need no lock. One thread may open a pool, another use it, and a third close it.
+ *   _quiet, _audit, _journal, _record_at, _next_moving and _cheapest_run. The caller's lock sees to it: a mutex, or a reader-writer lock
+ *   under whose reading side only questions are asked. That questions may run side by side is tested and not proved: the proof knows one
+ *   call at a time. Calls on different pools need no lock. One thread may open a pool, another use it, and a third close it.
  * - An open pool is closed in the end; otherwise its memory is lost.
  *
  * Two caps of a pool's life. The way out of each is to close the pool and open another.
@@ -36,8 +37,8 @@
  * - A journal that is kept has the places that it was opened with. It can't be emptied.
  *
  * As long as the caller does what it owes, no call prints, waits, starts a thread or ends the process. Only compactd_open,
- * compactd_open_journal, compactd_open_sized and compactd_reserve ask for memory, as a test counts; the last gives it back before it
- * answers. A signal handler that may interrupt a call on a pool doesn't use that pool. */
+ * compactd_open_journal, compactd_open_sized, compactd_reserve, compactd_keep and compactd_take_kept ask for memory, as a test counts; the
+ * last three give it back before they answer. A signal handler that may interrupt a call on a pool doesn't use that pool. */
 #ifndef COMPACTD_H
 #define COMPACTD_H
 
@@ -507,6 +508,39 @@ uint32_t compactd_drop_claim(compactd_pool *pool, uint32_t first, uint32_t order
  * of unmarked pageblocks are free than the blocks have; JOURNAL_FULL where there aren't two places for each page and one for each block, or
  * fewer isolations are left than pages. */
 uint32_t compactd_reserve(compactd_pool *pool, uint32_t order, uint32_t *firsts, size_t count, uint32_t *moved) COMPACTD_CALL_WITH_WORDS;
+
+/* Gets the run that compactd_reserve would pick for one block: its first frame, and how many pages are in it. So a caller knows what a block
+ * costs before it asks for one. The call changes nothing, and is unrecorded.
+ * Refused: CLOSED; RANGE; NO_BLOCK where no run is open. */
+uint32_t compactd_cheapest_run(compactd_pool *pool, uint32_t order, uint32_t *first, uint32_t *pages) COMPACTD_CALL;
+
+/* Blocks that are kept ready. A block is there at once where its pages were moved beforehand: Linux has the thread kcompactd for that, which
+ * compacts in the background. Here the caller is that thread. It makes small steps under its lock, while other calls go on between them: a
+ * step claims the cheapest run, or moves some pages out of a run that is claimed. A step undoes none of another, since no page comes to a
+ * claimed frame.
+ *
+ * A keeper is an array of the caller's and a count: `firsts` has a place for each of the `ready` blocks that are to be ready, and its first
+ * `count` words are the first frames of the runs that are claimed for them, the one that was claimed first in front. At first the count is 0.
+ * Each of these calls gets them and writes them anew. Where the caller has no use for a run any more, it takes it out of the array and gives
+ * it up by compactd_drop_claim. A keeper has one order. A pool may have several keepers. */
+
+/* Makes one step of a keeper. It goes on with the first of its runs that isn't finished, as compactd_empty_some does: claims its free frames,
+ * and moves at most `most` pages out of it. A run is finished where all its frames are claimed, and for now also where each page left in it
+ * is moving, pinned or unmovable, or no frame is free for it. Where all runs are finished and there is a place for another one, the step
+ * claims the run of compactd_cheapest_run, if one is open. Gets how many pages were moved, and whether the step did anything; else there is
+ * no more to do now. A caller makes steps until `more` is 0, and again after other calls. With `most` 0 it only claims, and `more` stays 1
+ * while a page could go.
+ * Refused: CLOSED; RANGE, also where a first frame is above 16777215 or the count is above `ready`; MEMORY where there isn't enough for
+ * a list of the runs; JOURNAL_FULL, as compactd_empty_some is. */
+uint32_t compactd_keep(compactd_pool *pool, uint32_t order, uint32_t most, uint32_t *firsts, size_t ready, size_t *count, uint32_t *moved,
+                       compactd_bool *more) COMPACTD_CALL_WITH_WORDS;
+
+/* Hands out a block of a keeper: the first of its runs whose frames are all claimed, as by compactd_take_claimed. No page is moved then, and
+ * the keeper has one run less. Where none is so, the block is handed out as by compactd_reserve, and `moved` gets how many pages were moved
+ * for it. Gets the first frame of the block, which is given back by compactd_give_order.
+ * Refused: CLOSED; RANGE and MEMORY, as compactd_keep is; NO_BLOCK and JOURNAL_FULL, as compactd_take_claimed or compactd_reserve is. */
+uint32_t compactd_take_kept(compactd_pool *pool, uint32_t order, uint32_t *firsts, size_t ready, size_t *count, uint32_t *first,
+                            uint32_t *moved) COMPACTD_CALL_WITH_WORDS;
 
 #ifdef __cplusplus
 }

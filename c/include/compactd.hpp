@@ -121,6 +121,7 @@ public:
     }
 
 private:
+    friend class Keeper;
     friend class Pool;
 
     Huge(std::shared_ptr<detail::Handle> handle, std::uint32_t first, std::uint32_t order)
@@ -237,6 +238,24 @@ struct Step {
 // What Pool::reserve did: the blocks that it handed out, and how many pages it moved for them.
 struct Reserved {
     std::vector<Huge> blocks;
+    std::uint32_t moved;
+};
+
+// The run that Pool::reserve would pick for one block: its first frame, and how many pages are in it.
+struct CheapestRun {
+    std::uint32_t first;
+    std::uint32_t pages;
+};
+
+// What Keeper::step did: how many pages it moved, and whether it did anything, so that there may be more to do.
+struct KeeperStep {
+    std::uint32_t moved;
+    bool more;
+};
+
+// What Keeper::take got: a block, and how many pages were moved for it now, none where it was ready.
+struct Taken {
+    Huge block;
     std::uint32_t moved;
 };
 
@@ -379,6 +398,13 @@ public:
         compactd_page_info info = compactd_page_info();
         detail::done(compactd_look(raw(), at.space, at.vpage, &info));
         return info;
+    }
+
+    CheapestRun cheapest_run(std::uint32_t order = 9) const
+    {
+        CheapestRun run = CheapestRun();
+        detail::done(compactd_cheapest_run(raw(), order, &run.first, &run.pages));
+        return run;
     }
 
     compactd_round_counts audit() const
@@ -524,6 +550,8 @@ public:
     }
 
 private:
+    friend class Keeper;
+
     // Whether a call was done; where it was refused as `none`, there is nothing to get.
     static bool is_there(std::uint32_t answer, std::uint32_t none)
     {
@@ -533,6 +561,49 @@ private:
     }
 
     std::shared_ptr<detail::Handle> handle_;
+};
+
+// Keeps blocks of one order ready in a pool: it claims the cheapest runs and empties them, so many pages in a step, while other calls go on.
+// Each of its calls is one on that pool, and gets the same pool. Where it is destroyed and wasn't closed, its runs stay claimed.
+class Keeper {
+public:
+    // A keeper of so many blocks, which has claimed no run yet.
+    Keeper(std::uint32_t order, std::size_t ready) : order_(order), firsts_(ready), claimed_(0) {}
+
+    Keeper(const Keeper &) = delete;
+    Keeper &operator=(const Keeper &) = delete;
+
+    // How many runs it has claimed.
+    std::size_t claimed() const noexcept { return claimed_; }
+
+    // Goes on with a run that isn't finished, and moves at most `most` pages out of it; or claims another run, where it lacks one. Steps are
+    // made until one has no more to do, and again after other calls.
+    KeeperStep step(Pool &pool, std::uint32_t most)
+    {
+        KeeperStep step = KeeperStep();
+        detail::done(compactd_keep(pool.raw(), order_, most, firsts_.data(), firsts_.size(), &claimed_, &step.moved, &step.more));
+        return step;
+    }
+
+    // Hands out a block that is ready, or else one as Pool::reserve does.
+    Taken take(Pool &pool)
+    {
+        std::uint32_t first = 0, moved = 0;
+        detail::done(compactd_take_kept(pool.raw(), order_, firsts_.data(), firsts_.size(), &claimed_, &first, &moved));
+        return Taken{Huge(pool.handle_, first, order_), moved};
+    }
+
+    // Drops the claims of its runs, whose frames are free then.
+    void close(Pool &pool)
+    {
+        for (; claimed_ > 0; claimed_--)
+            pool.drop_claim(firsts_[claimed_ - 1], order_);
+    }
+
+private:
+    std::uint32_t order_;
+    std::vector<std::uint32_t> firsts_; // of its runs, and places for more
+    std::size_t claimed_;
 };
 
 } // namespace compactd

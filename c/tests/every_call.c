@@ -37,6 +37,7 @@ static int32_t fragmentation;
 static uint32_t moved, stopped;
 static uint32_t in_run, unclaimed;
 static uint32_t firsts[4];
+static size_t claimed;
 
 /* Each call on a pool that is closed: from the beginning, or by compactd_close. */
 static void closed(compactd_pool *pool)
@@ -84,6 +85,11 @@ static void closed(compactd_pool *pool)
     HOLDS(in_run == 7 && moved == 7 && unclaimed == 7);
     IS(CLOSED, compactd_take_claimed(pool, 0, 9));
     IS(CLOSED, compactd_drop_claim(pool, 0, 9));
+    IS(CLOSED, compactd_cheapest_run(pool, 9, &frame, &in_run));
+    claimed = 1;
+    IS(CLOSED, compactd_keep(pool, 9, 1, firsts, 2, &claimed, &moved, &is_so));
+    IS(CLOSED, compactd_take_kept(pool, 9, firsts, 2, &claimed, &frame, &moved));
+    HOLDS(in_run == 7 && moved == 7 && claimed == 1 && firsts[0] == 7);
     IS(CLOSED, compactd_isolate(pool, &page, words, 8));
     IS(CLOSED, compactd_commit(pool, &page, words, 8, &is_so));
     IS(CLOSED, compactd_put_back(pool, &page));
@@ -113,6 +119,34 @@ static void addresses(compactd_pool *pool)
     IS(RANGE, compactd_share(pool, 0, 8, 0, 8, 0));
     IS(RANGE, compactd_map(pool, 0, most_spaces - 1, 0, 0, &frame));
     IS(RANGE, compactd_map_at(pool, 0, 0, most_vpages - 1, 0, 0));
+}
+
+/* Numbers of keepers out of their ranges. A first frame past the count may be any, and so may one that no run of the pool begins at. */
+static void ranges_of_keepers(compactd_pool *pool)
+{
+    static const struct {
+        uint32_t order, first;
+        size_t claimed;
+    } no_keepers[] = {{2, 0, 1}, {10, 0, 1}, {0xFFFFFFFFu, 0, 0}, {3, 1 << 24, 1}, {3, 0xFFFFFFFFu, 2}, {3, 0, 3}, {3, 0, (size_t)-1}};
+    size_t at;
+
+    frame = moved = in_run = firsts[0] = firsts[1] = 7;
+    for (at = 0; at < sizeof no_keepers / sizeof no_keepers[0]; at++) {
+        firsts[1] = no_keepers[at].first;
+        claimed = no_keepers[at].claimed;
+        firsts[0] = no_keepers[at].claimed == 1 ? firsts[1] : 7;
+        IS(RANGE, compactd_keep(pool, no_keepers[at].order, 1, firsts, 2, &claimed, &moved, &is_so));
+        IS(RANGE, compactd_take_kept(pool, no_keepers[at].order, firsts, 2, &claimed, &frame, &moved));
+        HOLDS(claimed == no_keepers[at].claimed && firsts[1] == no_keepers[at].first && moved == 7 && frame == 7);
+    }
+    IS(RANGE, compactd_cheapest_run(pool, 2, &frame, &in_run));
+    IS(RANGE, compactd_cheapest_run(pool, 10, &frame, &in_run));
+    HOLDS(frame == 7 && in_run == 7);
+    claimed = 2;
+    firsts[0] = 4;
+    firsts[1] = (1 << 24) - 1;
+    OK(compactd_keep(pool, 3, 1, firsts, 2, &claimed, &moved, &is_so));
+    HOLDS(claimed == 2 && firsts[0] == 4 && firsts[1] == (1 << 24) - 1 && moved == 0 && !is_so);
 }
 
 /* Arguments out of their ranges, of a pool with one pageblock. */
@@ -170,6 +204,7 @@ static void ranges(compactd_pool *pool, uint32_t page_words)
     IS(RANGE, compactd_reserve(pool, 10, firsts, 4, &moved));
     IS(RANGE, compactd_reserve(pool, far, NULL, 0, &moved));
     HOLDS(moved == 7 && firsts[0] == 7);
+    ranges_of_keepers(pool);
     IS(RANGE, compactd_isolate(pool, &page, words, page_words - 1));
     IS(RANGE, compactd_commit(pool, &page, words, 1, &is_so));
 }
@@ -851,6 +886,118 @@ static void reservations_of_a_journal(uint32_t page_words)
     OK(compactd_close(&pool));
 }
 
+/* Four pages in each run of 8 frames, and one less in the run at 40. */
+static void map_four_pages_a_run(compactd_pool *pool)
+{
+    uint32_t vpage;
+
+    for (vpage = 0; vpage < 512; vpage++)
+        map_into(pool, vpage, vpage / 4 * 8 + vpage % 4);
+    OK(compactd_unmap(pool, 0, 0, 23));
+}
+
+/* A step of a keeper with two places moves so many pages, there may be more to do or not, and it has these runs then. */
+static void keeps(compactd_pool *pool, uint32_t wanted, int more, size_t runs_then, uint32_t first, uint32_t second)
+{
+    moved = 7;
+    OK(compactd_keep(pool, 3, 2, firsts, 2, &claimed, &moved, &is_so));
+    HOLDS(moved == wanted && is_so == more && claimed == runs_then);
+    HOLDS((claimed == 0 || firsts[0] == first) && (claimed < 2 || firsts[1] == second));
+}
+
+/* The block at this frame is handed out, so many pages are moved for it, and the keeper has so many runs then. */
+static void takes_kept(compactd_pool *pool, uint32_t first, uint32_t wanted, size_t runs_then)
+{
+    frame = moved = 7;
+    OK(compactd_take_kept(pool, 3, firsts, 2, &claimed, &frame, &moved));
+    HOLDS(frame == first && moved == wanted && claimed == runs_then);
+    OK(compactd_read_block(pool, first, 3, 0, words, 1));
+    HOLDS(words[0] == 0);
+}
+
+/* A keeper has two blocks ready. A page that gets a pin in a claimed run waits there, and a later step takes it up, as it does a frame that
+ * becomes free. The run that is ready first is handed out first. Where none is, the cheapest run is emptied at once. */
+static void blocks_kept_ready(uint32_t page_words)
+{
+    compactd_pool pool = {0};
+
+    OK(compactd_open(&pool, page_words, 2));
+    map_four_pages_a_run(&pool);
+    OK(compactd_cheapest_run(&pool, 3, &frame, &in_run));
+    HOLDS(frame == 40 && in_run == 3);
+    claimed = 0;
+    keeps(&pool, 0, 1, 1, 40, 0);
+    OK(compactd_pin(&pool, 0, 0, 22));
+    keeps(&pool, 2, 1, 1, 40, 0);
+    is_in_frame(&pool, 20, 1023);
+    is_in_frame(&pool, 21, 1022);
+    is_in_frame(&pool, 22, 42);
+    keeps(&pool, 0, 1, 2, 40, 0);
+    OK(compactd_unmap(&pool, 0, 0, 1));
+    keeps(&pool, 2, 1, 2, 40, 0);
+    IS(NO_FRAME, compactd_map_at(&pool, 0, 0, 1, 0, 1));
+    is_in_frame(&pool, 0, 1021);
+    is_in_frame(&pool, 2, 1020);
+    keeps(&pool, 1, 1, 2, 40, 0);
+    is_in_frame(&pool, 3, 1015);
+    keeps(&pool, 0, 0, 2, 40, 0);
+    counts_are(&pool, 1024 - 510 - 15, 0, 15);
+    takes_kept(&pool, 0, 0, 1);
+    HOLDS(firsts[0] == 40);
+    keeps(&pool, 0, 1, 2, 40, 8);
+    OK(compactd_unpin(&pool, 0, 0, 22));
+    keeps(&pool, 1, 1, 2, 40, 8);
+    is_in_frame(&pool, 22, 1014);
+    keeps(&pool, 2, 1, 2, 40, 8);
+    keeps(&pool, 2, 1, 2, 40, 8);
+    keeps(&pool, 0, 0, 2, 40, 8);
+    is_in_frame(&pool, 4, 1013);
+    is_in_frame(&pool, 7, 1006);
+    takes_kept(&pool, 40, 0, 1);
+    HOLDS(firsts[0] == 8);
+    takes_kept(&pool, 8, 0, 0);
+    takes_kept(&pool, 16, 4, 0);
+    is_in_frame(&pool, 8, 1005);
+    is_in_frame(&pool, 11, 998);
+    counts_are(&pool, 1024 - 510 - 32, 4, 32);
+    OK(compactd_close(&pool));
+}
+
+/* A journal with places for three pages and for two moves; then a pool with no open run. A keeper with no place has nothing to do. */
+static void keepers_with_no_room(uint32_t page_words)
+{
+    compactd_pool pool = {0};
+    uint32_t at;
+
+    OK(compactd_open_journal(&pool, page_words, 1, 7));
+    for (at = 7; at < 10; at++)
+        OK(compactd_map_at(&pool, 0, 0, at, 0, at));
+    firsts[0] = 0;
+    claimed = 1;
+    moved = frame = 7;
+    IS(JOURNAL_FULL, compactd_keep(&pool, 4, 3, firsts, 1, &claimed, &moved, &is_so));
+    HOLDS(moved == 7);
+    OK(compactd_keep(&pool, 4, 2, firsts, 1, &claimed, &moved, &is_so));
+    HOLDS(moved == 2 && is_so && claimed == 1 && firsts[0] == 0);
+    IS(JOURNAL_FULL, compactd_keep(&pool, 4, 1, firsts, 1, &claimed, &moved, &is_so));
+    IS(JOURNAL_FULL, compactd_take_kept(&pool, 4, firsts, 1, &claimed, &frame, &moved));
+    HOLDS(moved == 2 && claimed == 1 && frame == 7);
+    OK(compactd_close(&pool));
+    OK(compactd_open(&pool, page_words, 1));
+    claimed = 0;
+    OK(compactd_keep(&pool, 9, 1, NULL, 0, &claimed, &moved, &is_so));
+    HOLDS(moved == 0 && !is_so && claimed == 0);
+    OK(compactd_take_kept(&pool, 9, NULL, 0, &claimed, &frame, &moved));
+    HOLDS(frame == 0 && moved == 0 && claimed == 0);
+    frame = in_run = moved = 7;
+    IS(NO_BLOCK, compactd_cheapest_run(&pool, 3, &frame, &in_run));
+    IS(NO_BLOCK, compactd_take_kept(&pool, 9, firsts, 1, &claimed, &frame, &moved));
+    HOLDS(frame == 7 && in_run == 7 && moved == 7);
+    OK(compactd_keep(&pool, 9, 1, firsts, 1, &claimed, &moved, &is_so));
+    HOLDS(moved == 0 && !is_so && claimed == 0);
+    OK(compactd_close(&pool));
+}
+
 /* Two moving pages whose serials and numbers nobody kept are found, from any frame on, and put back. */
 static void lost(compactd_pool *pool, uint32_t page_words)
 {
@@ -1156,6 +1303,8 @@ static void both_sizes(uint32_t page_words)
     unmovable_pages_apart(page_words);
     reservations(page_words);
     reservations_of_a_journal(page_words);
+    blocks_kept_ready(page_words);
+    keepers_with_no_room(page_words);
     every_number_of_blocks(page_words);
     many_pageblocks(page_words, 9);
     odd_sizes(page_words);

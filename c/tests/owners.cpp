@@ -19,6 +19,7 @@ using compactd::PoolSize;
 
 static_assert(!std::is_copy_constructible<Pool>::value && !std::is_copy_assignable<Pool>::value, "a pool isn't copied");
 static_assert(!std::is_copy_constructible<Huge>::value && !std::is_copy_assignable<Huge>::value, "a huge page isn't copied");
+static_assert(!std::is_copy_constructible<compactd::Keeper>::value && !std::is_move_assignable<compactd::Keeper>::value, "a keeper stays");
 static_assert(!std::is_copy_constructible<Moving>::value && !std::is_copy_assignable<Moving>::value, "a moving page isn't copied");
 static_assert(std::is_nothrow_move_constructible<Pool>::value && std::is_nothrow_move_assignable<Huge>::value, "both are moved");
 static_assert(std::is_nothrow_move_constructible<Moving>::value && std::is_nothrow_move_assignable<Moving>::value, "a moving page too");
@@ -286,6 +287,37 @@ void reservations()
     HOLDS(pool.info().held == 0 && pool.reserve(0).blocks.empty());
 }
 
+// A keeper has a run ready from which a page had to go, and its block is handed out. It claims the run anew, and drops it where it is closed.
+void blocks_kept_ready()
+{
+    Pool pool(PageSize::bytes64, 2);
+    for (std::uint32_t run = 0; run < 2; run++) {
+        pool.map_at(0, {0, run}, 512 * run);
+        pool.map_at(0, {1, run}, 512 * run + 9);
+    }
+    pool.unmap(0, {0, 1});
+    compactd::Keeper keeper(9, 1);
+    HOLDS(pool.cheapest_run().first == 512 && pool.cheapest_run().pages == 1);
+    HOLDS(refusal([&] { pool.cheapest_run(2); }) == COMPACTD_RANGE);
+    compactd::KeeperStep step = keeper.step(pool, 2);
+    HOLDS(step.moved == 0 && step.more && keeper.claimed() == 1 && pool.info().held == 511);
+    step = keeper.step(pool, 2);
+    HOLDS(step.moved == 1 && step.more && pool.look({1, 1}).frame == 511);
+    step = keeper.step(pool, 2);
+    HOLDS(step.moved == 0 && !step.more);
+    {
+        const compactd::Taken taken = keeper.take(pool);
+        HOLDS(taken.block.first() == 512 && taken.block.order() == 9 && taken.moved == 0 && keeper.claimed() == 0);
+        HOLDS(pool.info().huge == 1 && refusal([&] { keeper.take(pool); }) == COMPACTD_NO_BLOCK);
+    }
+    step = keeper.step(pool, 2);
+    HOLDS(step.more && keeper.claimed() == 1 && pool.info().held == 512);
+    keeper.close(pool);
+    HOLDS(keeper.claimed() == 0 && pool.info().held == 0);
+    compactd::Keeper none(3, 0), odd(2, 1);
+    HOLDS(!none.step(pool, 2).more && none.take(pool).moved == 0 && refusal([&] { odd.step(pool, 2); }) == COMPACTD_RANGE);
+}
+
 // A page whose carrier goes is put back, also by an exception, by another page that takes its place, and where another ended its move.
 void carriers_that_go()
 {
@@ -346,6 +378,7 @@ int main()
     evacuations();
     evacuations_in_steps();
     reservations();
+    blocks_kept_ready();
     carriers_that_go();
     questions();
     journals();

@@ -66,6 +66,7 @@ struct answers {
     compactd_move move;
     uint32_t runs[11];
     int32_t indexes[11];
+    uint32_t first, pages; /* of the cheapest run */
 };
 
 /* The fields of a page's structure, which has bytes between them, after the answer of the question. */
@@ -95,6 +96,7 @@ static void ask(compactd_pool *pool, struct answers *got)
     *number++ = compactd_audit(pool, &got->rounds);
     *number++ = compactd_journal(pool, &got->records, &got->room);
     *number++ = compactd_next_moving(pool, 0, &got->page, &got->move);
+    *number++ = compactd_cheapest_run(pool, 3, &got->first, &got->pages);
     for (at = 0; at < 2; at++)
         *number++ = compactd_marked(pool, at, &got->marked[at]);
     for (at = 0; at < RECORDS; at++)

@@ -1,7 +1,7 @@
 /* Refuses each request for memory that an opening makes, one in each try. The opening has to answer MEMORY, to leave the pool closed, and
- * to give back what it had. A reservation makes one request, gives back what it got, and answers MEMORY where it is refused. No other call
- * may ask for memory, whether it is accepted or refused, on a pool that is open or closed. It is linked with malloc, realloc and free
- * wrapped. Prints how many requests an opening makes. */
+ * to give back what it had. A reservation makes one request, and a call of a keeper at most two; each gives back what it got, and
+ * answers MEMORY where it is refused. No other call may ask for memory, whether it is accepted or refused, on a pool that is open or
+ * closed. It is linked with malloc, realloc and free wrapped. Prints how many requests an opening makes. */
 #include "compactd.h"
 
 #include <stdio.h>
@@ -136,7 +136,7 @@ static void ask(compactd_pool *pool)
     compactd_round_counts round_counts;
     compactd_record record;
     uint64_t records, room;
-    uint32_t runs;
+    uint32_t runs, first, pages;
     int32_t index;
 
     made(compactd_info(pool, &counts));
@@ -148,10 +148,11 @@ static void ask(compactd_pool *pool)
     made(compactd_audit(pool, &round_counts));
     made(compactd_journal(pool, &records, &room));
     made(compactd_record_at(pool, 0, &record));
+    made(compactd_cheapest_run(pool, 3, &first, &pages));
 }
 
-/* Makes each call but those that open, close and reserve. On a closed pool each one is refused, and where the journal is full many are. A second
- * time many are refused by what the first one left. */
+/* Makes each call but those that open and close, reserve, and keep blocks ready. On a closed pool each one is refused, and where the
+ * journal is full many are. A second time many are refused by what the first one left. */
 static void make_calls(compactd_pool *pool, uint32_t page_words)
 {
     int turn;
@@ -186,6 +187,37 @@ static int asks_for_a_list(compactd_pool *pool)
     return 1;
 }
 
+/* Whether calls of a keeper that has a run ask twice for memory and give it back, and do nothing where they get none. Its first step claims
+ * the run at 0 and asks once, and another one that at 8. No page is there. */
+static int asks_for_two_lists(compactd_pool *pool)
+{
+    const long opening = requests, kept = held;
+    uint32_t runs[2] = {7, 7}, first = 7, moved = 7, answer;
+    size_t count = 0;
+
+    requests = refused = 0;
+    answer = compactd_keep(pool, 3, 1, runs, 2, &count, &moved, &is_so);
+    if (answer != COMPACTD_OK || requests != 1 || count != 1 || runs[0] != 0 || moved != 0 || !is_so)
+        return 0;
+    for (refused = 1; refused <= 2; refused++) {
+        moved = 7;
+        requests = 0;
+        if (compactd_keep(pool, 3, 1, runs, 2, &count, &moved, &is_so) != COMPACTD_MEMORY || requests != refused)
+            return 0;
+        requests = 0;
+        if (compactd_take_kept(pool, 3, runs, 2, &count, &first, &moved) != COMPACTD_MEMORY || requests != refused)
+            return 0;
+        if (count != 1 || runs[0] != 0 || runs[1] != 7 || first != 7 || moved != 7 || held != kept)
+            return 0;
+    }
+    requests = refused = 0;
+    answer = compactd_keep(pool, 3, 1, runs, 2, &count, &moved, &is_so);
+    if (answer != COMPACTD_OK || requests != 2 || count != 2 || runs[1] != 8 || moved != 0 || held != kept)
+        return 0;
+    requests = opening;
+    return compactd_drop_claim(pool, 0, 4) == COMPACTD_OK;
+}
+
 /* Whether calls on an open pool, and then on the closed one, ask for no memory, and nothing is lost. */
 static int asks_no_more(compactd_pool *pool, uint32_t page_words)
 {
@@ -212,7 +244,7 @@ static int try_each(const struct opening *as)
         answer = open_pool(&pool, as);
         if (requests < refused) {
             refused = 0;
-            return answer == COMPACTD_OK && asks_for_a_list(&pool) && asks_no_more(&pool, as->page_words);
+            return answer == COMPACTD_OK && asks_for_two_lists(&pool) && asks_for_a_list(&pool) && asks_no_more(&pool, as->page_words);
         }
         if (answer != COMPACTD_MEMORY || held != 0)
             return 0;

@@ -42,6 +42,7 @@
 mod claims;
 mod error;
 mod huge;
+mod keeping;
 mod moving;
 mod pool;
 mod questions;
@@ -52,6 +53,7 @@ mod rounds;
 pub use claims::Step;
 pub use error::Error;
 pub use huge::{Huge, Kept};
+pub use keeping::{CheapestRun, Keeper, KeeperStep, Taken};
 pub use moving::{Move, Moving, MovingGuard, MovingPage};
 pub use pool::{version, Address, PageSize, Pool, PoolSize};
 pub use questions::{Look, Place};

@@ -142,6 +142,26 @@ extern "C" {
     pub fn compactd_take_claimed(pool: *mut Handle, first: u32, order: u32) -> u32;
     pub fn compactd_drop_claim(pool: *mut Handle, first: u32, order: u32) -> u32;
     pub fn compactd_reserve(pool: *mut Handle, order: u32, firsts: *mut u32, count: usize, moved: *mut u32) -> u32;
+    pub fn compactd_cheapest_run(pool: *mut Handle, order: u32, first: *mut u32, pages: *mut u32) -> u32;
+    pub fn compactd_keep(
+        pool: *mut Handle,
+        order: u32,
+        most: u32,
+        firsts: *mut u32,
+        ready: usize,
+        count: *mut usize,
+        moved: *mut u32,
+        more: *mut bool,
+    ) -> u32;
+    pub fn compactd_take_kept(
+        pool: *mut Handle,
+        order: u32,
+        firsts: *mut u32,
+        ready: usize,
+        count: *mut usize,
+        first: *mut u32,
+        moved: *mut u32,
+    ) -> u32;
     pub fn compactd_next_moving(pool: *mut Handle, from: u32, page: *mut MovingPage, at: *mut Move) -> u32;
     pub fn compactd_journal(pool: *mut Handle, records: *mut u64, room: *mut u64) -> u32;
     pub fn compactd_record_at(pool: *mut Handle, place: usize, record: *mut Record) -> u32;

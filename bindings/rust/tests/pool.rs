@@ -2,7 +2,8 @@
 
 use std::sync::Mutex;
 
-use compactd::{Address, Error, Kept, MovingGuard, PageSize, Place, Pool, PoolSize, Record, Reserved, Slice, Step, Stopped};
+use compactd::{Address, CheapestRun, Error, Keeper, KeeperStep, Kept, MovingGuard, PageSize, Place, Pool, PoolSize, Record};
+use compactd::{Reserved, Slice, Step, Stopped, Taken};
 
 fn pool() -> Pool {
     Pool::open(PageSize::Bytes64, 1).expect("a pool of one pageblock can be opened")
@@ -217,6 +218,29 @@ fn reserves_the_cheapest_runs() {
     assert_eq!((blocks.len(), blocks[0].first(), blocks[0].order(), moved), (1, 256, 8, 1));
     assert_eq!(pool.look(Address::new(0, 2)).unwrap().place, Place::At { frame: 255, unmovable: false, dirty: false });
     assert_eq!((pool.journal(), pool.info().held), ((6, 1), 256));
+}
+
+#[test]
+fn keeps_blocks_ready() {
+    let mut pool = Pool::open(PageSize::Bytes64, 2).unwrap();
+    for (page, frame) in [0, 9, 512, 513, 514].into_iter().enumerate() {
+        pool.map_at(0, Address::new(0, page as u32), false, frame).unwrap();
+    }
+    assert_eq!([pool.cheapest_run(9), pool.cheapest_run(2)], [Ok(CheapestRun { first: 0, pages: 2 }), Err(Error::Range)]);
+    let mut keeper = Keeper::new(9, 1);
+    let steps = [1, 1, 1, 1].map(|most| keeper.step(&mut pool, most).unwrap());
+    let wanted = [(0, true), (1, true), (1, true), (0, false)].map(|(moved, more)| KeeperStep { moved, more });
+    assert_eq!((steps, keeper.claimed(), pool.info().held), (wanted, &[0][..], 512));
+    let Taken { block, moved } = keeper.take(&mut pool).unwrap();
+    assert_eq!((block.first(), block.order(), moved, keeper.claimed()), (0, 9, 0, &[][..]));
+    assert_eq!(keeper.take(&mut pool), Err(Error::NoBlock));
+    pool.give(block).unwrap();
+    assert_eq!(keeper.step(&mut pool, 1), Ok(KeeperStep { moved: 0, more: true }));
+    keeper.close(&mut pool).unwrap();
+    assert_eq!((keeper.claimed(), pool.info().held), (&[][..], 0));
+    assert_eq!(keeper.take(&mut pool).map(|taken| taken.moved), Ok(0));
+    assert_eq!(Keeper::new(10, 1).step(&mut pool, 1), Err(Error::Range));
+    assert_eq!(Keeper::new(3, 0).step(&mut pool, 1), Ok(KeeperStep { moved: 0, more: false }));
 }
 
 #[test]

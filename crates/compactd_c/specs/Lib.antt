@@ -1,6 +1,7 @@
 pub mod Answers
 pub mod Asked
 pub mod Carried
+pub mod Keepers
 pub mod Kinds
 pub mod Lent
 pub mod Looks

@@ -13,6 +13,7 @@ mod claiming;
 mod evacuating;
 mod exports;
 mod free_runs;
+mod keeping;
 mod looking;
 mod moving;
 mod pool;

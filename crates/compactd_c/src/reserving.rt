@@ -78,7 +78,7 @@ fn reserve(alloc: Global, zone: &mut Zone, order: u32, firsts: &mut [u32]) -> Re
 }
 
 /// Writes the numbers of frames.
-fn write_numbers(frames: &[FrameNo], numbers: &mut [u32])
+pub(crate) fn write_numbers(frames: &[FrameNo], numbers: &mut [u32])
     requires { length frames.now ≡ length numbers.old }
     ensures { numbers.new ≡ frames.now }
 {

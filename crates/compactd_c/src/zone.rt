@@ -1,6 +1,6 @@
 //! A zone whose pages have one of two sizes.
 
-ghost use Rattle.std.specs.Prelude.{◌≡◌, ◌+◌, ◌<◌, ◌≤◌, ◌↔◌, ◌&&◌, ◌/◌, ◌^◌, nat_lt, true, ℕ, false, length, reverse, slice_get, slice_index, is_some, Some, None, IsTrue, IsOk, IfOk, IfErr, OnOk, OnErr, IfSome};
+ghost use Rattle.std.specs.Prelude.{◌≡◌, ◌+◌, ◌<◌, ◌≤◌, ◌↔◌, ◌&&◌, ◌/◌, ◌^◌, ◌∷◌, [], nat_lt, true, ℕ, false, length, reverse, slice_get, slice_index, is_some, Some, None, IsTrue, IsOk, IfOk, IfErr, OnOk, OnErr, IfSome};
 ghost use Rattle.std.specs.FinMap as map;
 ghost use Rattle.std.specs.Result.{result_err};
 ghost use Rattle.fewest_core.specs.Claims.{claim_refusal, claimed_frames, claimed_taken, drop_refusal, step_refusal, stepped, take_claimed_refusal};
@@ -9,6 +9,7 @@ ghost use Rattle.fewest_core.specs.FewestMoves.{cost, least};
 ghost use Rattle.fewest_core.specs.Reservation.{is_in_runs, reserve_refusal, reserved, ArePicked};
 ghost use Rattle.frame_core.specs.Moves.{moved, out};
 ghost use Rattle.frame_core.specs.declared.record.Cause.{Cause};
+ghost use Rattle.keeper_core.specs.Keeping.{keep_refusal, take_refusal, IsKept, IsTaken};
 ghost use Rattle.state_core.specs.Access.{access_refusal, value_at, loaded, stored};
 ghost use Rattle.state_core.specs.Bulk.{bulk_refusal, values_at, loaded_all, stored_all};
 ghost use Rattle.state_core.specs.Claiming.{is_claimed, run_claimed, run_dropped, with_apart};
@@ -27,7 +28,8 @@ ghost use Rattle.zone_core.specs.Counted.{IsCounted};
 ghost use Rattle.zone_core.specs.FreeRuns.{fragmentation, maximal_runs};
 ghost use Rattle.zone_core.specs.NextMoving.{IsNextMoving, IsNoneMoving};
 ghost use Rattle.zone_core.specs.OneThread.{last_of_slice, moved_at_most, all_moved};
-ghost use Rattle.compactd_c.specs.Asked.{address_of, is_address, is_client, is_block, ranged, refusal_for, answer_for, after_asked};
+ghost use Rattle.compactd_c.specs.Asked.{address_of, is_address, is_client, is_block, is_order, ranged, refusal_for, answer_for, after_asked};
+ghost use Rattle.compactd_c.specs.Keepers.{cheapest_refusal};
 ghost use Rattle.compactd_c.specs.Kinds.{IsPageSize};
 ghost use Rattle.compactd_c.specs.Looks.{look_refusal, audit_refusal};
 ghost use Rattle.compactd_c.specs.Records.{record_refused};
@@ -42,10 +44,11 @@ use frame_core::{
     BlockNo, ClientNo, FrameNo, IsolatedOf, Journal, Order, PageFlags, PageNo, PageOf, Record,
     ZoneNo,
 };
+use keeper_core::{Keeper, Step as KeeperStep, Taken};
 use state_core::{Audit, Ended, Info, Look, Next, ZoneAnswer, ZoneError, ZoneSize};
 use std::alloc::Global;
 use std::marker::Model;
-use zone_core::{Answered, BareZone, MovingPage as Found, Slice};
+use zone_core::{Answered, BareZone, CheapestRun, MovingPage as Found, Slice};
 
 /// What came of a step that empties a run: how many pages were moved, and how many frames of the run aren't claimed yet.
 #[derive(Clone, Copy)]
@@ -530,6 +533,46 @@ impl Zone {
         match &mut self.kind {
             Kind::Small(zone) => zone.drop_claim(first, order),
             Kind::Large(zone) => zone.drop_claim(first, order),
+        }
+    }
+
+    /// The open run of an order with the fewest pages, the lowest of equals.
+    pub(crate) fn cheapest_run(&self, order: u32) -> Result<CheapestRun, ZoneError>
+        ensures refused { result_err result ≡ ranged (is_order order) (cheapest_refusal self.now order) }
+        ensures picked { IfOk result (λ run. ArePicked self.now order (run.first ∷ [])) }
+        ensures pages { IfOk result (λ run. run.pages ≡ cost self.now (2 ^ order) (run.first / 2 ^ order)) }
+        ensures least { IfOk result (λ run. run.pages ≡ least 1 self.now (2 ^ order)) }
+        ensures claim { IfOk result (λ run. claim_refusal self.now run.first order ≡ None) }
+    {
+        let order = Order::new(order).ok_or(ZoneError::Range)?;
+        let run = match &self.kind {
+            Kind::Small(zone) => zone.cheapest_run(order),
+            Kind::Large(zone) => zone.cheapest_run(order),
+        };
+        run.ok_or(ZoneError::NoBlock)
+    }
+
+    /// Makes a step of a keeper.
+    pub(crate) fn keep(&mut self, keeper: &mut Keeper, most: u32) -> Result<KeeperStep, ZoneError>
+        ensures refused { result_err result ≡ keep_refusal keeper.old self.old most }
+        ensures err { OnErr result ((keeper.new ≡ keeper.old) × (self.new ≡ self.old)) }
+        ensures ok { IfOk result (λ step. IsKept keeper.old self.old most step keeper.new self.new) }
+    {
+        match &mut self.kind {
+            Kind::Small(zone) => keeper.step(zone, most),
+            Kind::Large(zone) => keeper.step(zone, most),
+        }
+    }
+
+    /// Takes a block from a keeper.
+    pub(crate) fn take_kept(&mut self, keeper: &mut Keeper) -> Result<Taken, ZoneError>
+        ensures refused { result_err result ≡ take_refusal keeper.old self.old }
+        ensures err { OnErr result ((keeper.new ≡ keeper.old) × (self.new ≡ self.old)) }
+        ensures ok { IfOk result (λ taken. IsTaken keeper.old self.old taken keeper.new self.new) }
+    {
+        match &mut self.kind {
+            Kind::Small(zone) => keeper.take(zone),
+            Kind::Large(zone) => keeper.take(zone),
         }
     }
 
