@@ -274,13 +274,12 @@ pub(crate) fn first_outside(
     ensures { IsFirstOutside (has_number first.now) (has_number second.now) (has_number third.now) from end result }
 {
     for word in from / 64..(end + 63) / 64 {
-        let Some(found) = outside_in_word(first, second, third, from.max(64 * word)) else {
-            continue;
-        };
-        if found >= end {
-            return None;
+        if let Some(found) = outside_in_word(first, second, third, from.max(64 * word)) {
+            if found >= end {
+                return None;
+            }
+            return Some(found);
         }
-        return Some(found);
     }
     None
 }
