@@ -1,7 +1,7 @@
 -- What C is told of a page that is moving.
 use Rattle.std.specs.Prelude.{◌≡◌, ℕ}
 use Rattle.state_core.specs.ZoneState.{ZoneState}
-use Rattle.zone_core.specs.NextMoving.{IsNextMoving}
+use Rattle.zone_tables.specs.MovingPages.{IsNextMoving}
 use Rattle.zone_tables.specs.declared.moving.MovingPage.{MovingPage as Found}
 use Rattle.compactd_c.specs.Told.{reserved}
 use Rattle.compactd_c.specs.declared.carrying.MovingPage.{MovingPage}

@@ -3,7 +3,7 @@
 ghost use Rattle.std.specs.Prelude.{◌≡◌, ◌<◌, None, Some};
 ghost use Rattle.compactd_c.specs.Moving.{IsToldOfNext, move_of, page_of};
 ghost use Rattle.state_core.specs.ZoneState.{ZoneState};
-ghost use Rattle.zone_core.specs.NextMoving.{IsNoneMoving};
+ghost use Rattle.zone_tables.specs.MovingPages.{IsNoneMoving};
 
 use crate::calls::{CLOSED, number};
 use crate::carrying::MovingPage;

@@ -26,7 +26,7 @@ ghost use Rattle.state_core.specs.Rounds.{round_begun};
 ghost use Rattle.state_core.specs.ZoneState.{is_free, is_quiet};
 ghost use Rattle.zone_core.specs.Counted.{IsCounted};
 ghost use Rattle.zone_core.specs.FreeRuns.{fragmentation, maximal_runs};
-ghost use Rattle.zone_core.specs.NextMoving.{IsNextMoving, IsNoneMoving};
+ghost use Rattle.zone_tables.specs.MovingPages.{IsNextMoving, IsNoneMoving};
 ghost use Rattle.zone_core.specs.OneThread.{last_of_slice, moved_at_most, all_moved};
 ghost use Rattle.compactd_c.specs.Asked.{address_of, is_address, is_client, is_block, is_order, ranged, refusal_for, answer_for, after_asked};
 ghost use Rattle.compactd_c.specs.Keepers.{cheapest_refusal};

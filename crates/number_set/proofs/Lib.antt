@@ -4,6 +4,7 @@ pub mod Levels
 pub mod Masking
 pub mod Numbering
 pub mod OneAbove
+pub mod Outside
 pub mod Running
 pub mod RunStarts
 pub mod Starting

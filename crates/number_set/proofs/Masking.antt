@@ -7,10 +7,10 @@ use Rattle.std.proofs.lemmas.Bool.{ne_eqb}
 use Rattle.std.proofs.lemmas.Bool.Decides.{eqb_tells, leb_tells, nat_tests}
 use Rattle.std.proofs.lemmas.Nat.{pow-add, pow_pos, leading_top, div-mul-add}
 use Rattle.std.proofs.lemmas.Nat.Bits.{bit_at-zero, bit_at_and, bit_at_or, bit_at_not, bit_at-lt, bit_at-pow_same, bit_at-pow_other, bit_at-trailing_zeros, bit_at_above, bit_at_ones, bit_at_ones_above}
-use Rattle.std.proofs.Math.Nat.{mod-eq_of_lt, div-div-eq-div-mul}
+use Rattle.std.proofs.Math.Nat.{mod-eq_of_lt, div-div-eq-div-mul, div-le_self}
 use Rattle.std.proofs.Math.Pow.{pow-lt}
 use Rattle.number_set.specs.Bits.{has_bit}
-use Rattle.number_set.specs.Finds.{IsFirst, IsLast, IsNext, IsPrevious, NoneAbove, NoneBelow}
+use Rattle.number_set.specs.Finds.{IsFirst, IsFrom, IsLast, IsNext, IsPrevious, NoneAbove, NoneBelow, NoneFrom}
 
 pub clash : {A : Type 0} (b : Bool) → b ≡ true → b ≡ false → A
 clash true e f = absurd cc
@@ -124,6 +124,36 @@ module _ (word from above : ℕ) (fits : word < 2 ^ 64) (is : above ≡ word / 2
         },
         elim (leb_tells 64 (from + 1 + place)) [
           | inl past ↦ clash (has_bit word (from + 1 + place)) passes (has_bit_past word (from + 1 + place) fits past.1)
+          | inr within ↦ within.1
+        ],
+      )
+
+-- the bits from one on
+module _ (word from : ℕ) (fits : word < 2 ^ 64) where
+  abbrev rest : ℕ
+  rest = word / 2 ^ from
+
+  rest_at : (k : ℕ) → from ≤ k → has_bit rest (k - from) ≡ has_bit word k
+  rest_at k low = let same : from + (k - from) ≡ k = omega arith in shifted word from (k - from) ∙ ap (has_bit word) same
+
+  pub no_rest : rest ≡ 0 → NoneFrom (has_bit word) from
+  no_rest none k low = sym (rest_at k low) ∙ ap (λ n. has_bit n (k - from)) none ∙ has_bit_zero (k - from)
+
+  rest_fits : rest < 2 ^ 64
+  rest_fits = let less : word / 2 ^ from ≤ word = div-le_self word (2 ^ from) in omega (arith, less, fits)
+
+  pub rest_set : 0 < rest → IsFrom (has_bit word) from (from + trailing_zeros w64 rest) × (from + trailing_zeros w64 rest < 64)
+  rest_set some =
+      let at = lowest_set rest some rest_fits in
+      let place = trailing_zeros w64 rest in
+      let passes : has_bit word (from + place) ≡ true = sym (shifted word from place) ∙ at.0.passes in (
+        record {
+          least = omega arith;
+          passes = passes;
+          between = λ k low less. sym (rest_at k low) ∙ at.0.before (k - from) (omega (arith, low, less));
+        },
+        elim (leb_tells 64 (from + place)) [
+          | inl past ↦ clash (has_bit word (from + place)) passes (has_bit_past word (from + place) fits past.1)
           | inr within ↦ within.1
         ],
       )

@@ -2,7 +2,7 @@
 
 ghost use Rattle.std.specs.Prelude.{◌≡◌, ◌↔◌, ℕ, ◌+◌, ◌%◌, ◌^◌, ◌<◌, ◌≤◌, ◌&&◌, ◌||◌, not, nat_lt, true, IsTrue, MatchOption, IfOk, IfSome};
 ghost use Rattle.std.specs.FinSet as set;
-ghost use Rattle.number_set.specs.Finds.{IsFirst, IsFrom, IsLast, IsNext, IsPrevious, NoneAbove, NoneAtAll, NoneBelow, NoneFrom};
+ghost use Rattle.number_set.specs.Finds.{IsFirst, IsFirstOutside, IsFrom, IsLast, IsNext, IsPrevious, NoneAbove, NoneAtAll, NoneBelow, NoneFrom};
 ghost use Rattle.number_set.specs.Numbers.{room_for};
 ghost use Rattle.number_set.specs.Runs.{begins_run, count_in_run, in_run};
 
@@ -240,6 +240,17 @@ impl NumberSet {
             return Some(number);
         }
         self.after(number)
+    }
+
+    /// The lowest number from one on and below an end that is a member of none of three sets, if there is one. For each 64 numbers it
+    /// looks at a word of each set.
+    pub fn first_outside(&self, second: &Self, third: &Self, from: u32, end: u32) -> Option<u32>
+        requires first { end ≤ self.now.bound }
+        requires second { end ≤ second.now.bound }
+        requires third { end ≤ third.now.bound }
+        ensures { IsFirstOutside (set.contains self.now.members) (set.contains second.now.members) (set.contains third.now.members) from end result }
+    {
+        words::first_outside(&self.words, &second.words, &third.words, from, end)
     }
 
     /// Puts in all numbers below a bound.

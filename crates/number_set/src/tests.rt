@@ -195,3 +195,25 @@ fn counts_small_runs(rt: HostRuntime) {
         );
     }
 }
+
+#[test]
+fn finds_what_three_sets_lack(rt: HostRuntime) {
+    let mut first = NumberSet::filled(rt.alloc(), 256).expect(&rt, "memory");
+    let mut second = NumberSet::open(rt.alloc(), 256).expect(&rt, "memory");
+    let mut third = NumberSet::open(rt.alloc(), 256).expect(&rt, "memory");
+    first.remove_run(64, 6);
+    first.remove_run(128, 6);
+    second.insert_run(64, 6);
+    third.insert(128);
+    third.insert(190);
+    let found = [
+        first.first_outside(&second, &third, 0, 256),
+        first.first_outside(&second, &third, 0, 129),
+        first.first_outside(&second, &third, 130, 131),
+        first.first_outside(&second, &third, 190, 256),
+        first.first_outside(&second, &third, 192, 256),
+        first.first_outside(&second, &third, 300, 256),
+    ];
+    let wanted = [Some(129), None, Some(130), Some(191), None, None];
+    assert_eq!(rt; found, wanted, "outside of three sets");
+}

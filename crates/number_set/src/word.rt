@@ -2,7 +2,7 @@
 
 ghost use Rattle.std.specs.Prelude.{◌≡◌, ℕ, ◌+◌, ◌^◌, ◌<◌, ◌≤◌, nat_lt, MatchOption, IfSome};
 ghost use Rattle.number_set.specs.Bits.{has_bit};
-ghost use Rattle.number_set.specs.Finds.{IsFirst, IsLast, IsNext, IsPrevious, NoneAbove, NoneBelow};
+ghost use Rattle.number_set.specs.Finds.{IsFirst, IsFrom, IsLast, IsNext, IsPrevious, NoneAbove, NoneBelow, NoneFrom};
 ghost use Rattle.number_set.specs.Runs.{begins_run, in_run};
 
 /// For each order, the word whose set bits are its lowest 2^order ones.
@@ -46,6 +46,20 @@ pub(crate) fn next_bit(word: u64, from: u32) -> Option<u32>
         return None;
     }
     Some(from + 1 + above.trailing_zeros())
+}
+
+/// The lowest bit from one on that is set, if there is one.
+#[inline(always)]
+pub(crate) fn bit_from(word: u64, from: u32) -> Option<u32>
+    requires { from < 64 }
+    ensures next { MatchOption result (NoneFrom (has_bit word) from) (IsFrom (has_bit word) from) }
+    ensures within { IfSome result (λ bit. bit < 64) }
+{
+    let rest = word >> from;
+    if rest == 0 {
+        return None;
+    }
+    Some(from + rest.trailing_zeros())
 }
 
 /// The highest bit below another one that is set, if there is one.

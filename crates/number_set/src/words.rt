@@ -3,11 +3,11 @@
 ghost use Rattle.std.specs.Prelude.{◌≡◌, ◌↔◌, ℕ, ◌+◌, ◌-◌, ◌*◌, ◌/◌, ◌%◌, ◌^◌, ◌<◌, ◌≤◌, ◌&&◌, ◌||◌, not, nat_eq, nat_lt, length, replicate, slice_index, true, IfOk, IsTrue, MatchOption, IfSome, if◌then◌else◌};
 ghost use Rattle.std.specs.List.{list_all, slice_range};
 ghost use Rattle.number_set.specs.Bits.{has_number, is_filled};
-ghost use Rattle.number_set.specs.Finds.{IsFirstIn, IsLastIn, IsNext, IsPrevious, NoneAboveIn, NoneBelowIn};
+ghost use Rattle.number_set.specs.Finds.{IsFirstIn, IsFirstOutside, IsLastIn, IsNext, IsPrevious, NoneAboveIn, NoneBelowIn};
 ghost use Rattle.number_set.specs.Runs.{begins_run, count_in_run, in_run};
 
 use crate::word::{
-    highest_bit, low_bits, lowest_bit, next_bit, previous_bit, run_bits, run_starts,
+    bit_from, highest_bit, low_bits, lowest_bit, next_bit, previous_bit, run_bits, run_starts,
 };
 use std::alloc::{AllocError, Global};
 
@@ -255,5 +255,46 @@ pub(crate) fn previous_in_word(words: &[u64], number: u32) -> Option<u32>
 {
     let word = number / 64;
     let bit = previous_bit(words[word as usize], number % 64)?;
+    Some(64 * word + bit)
+}
+
+/// The lowest number from one on and below an end that no level of three has, if there is one.
+#[inline(never)]
+pub(crate) fn first_outside(
+    first: &[u64],
+    second: &[u64],
+    third: &[u64],
+    from: u32,
+    end: u32,
+) -> Option<u32>
+    requires few { end ≤ 16777216 }
+    requires first { end ≤ 64 * length first.now }
+    requires second { end ≤ 64 * length second.now }
+    requires third { end ≤ 64 * length third.now }
+    ensures { IsFirstOutside (has_number first.now) (has_number second.now) (has_number third.now) from end result }
+{
+    for word in from / 64..(end + 63) / 64 {
+        if let Some(found) = outside_in_word(first, second, third, from.max(64 * word)) {
+            if found >= end {
+                return None;
+            }
+            return Some(found);
+        }
+    }
+    None
+}
+
+/// The lowest number from one on in the same word that no level of three has, if there is one.
+#[inline(always)]
+fn outside_in_word(first: &[u64], second: &[u64], third: &[u64], number: u32) -> Option<u32>
+    requires first { number < 64 * length first.now }
+    requires second { number < 64 * length second.now }
+    requires third { number < 64 * length third.now }
+    ensures { IsFirstOutside (has_number first.now) (has_number second.now) (has_number third.now) number (64 * (number / 64) + 64) result }
+{
+    let word = number / 64;
+    let index = word as usize;
+    let outside = !(first[index] | second[index] | third[index]);
+    let bit = bit_from(outside, number % 64)?;
     Some(64 * word + bit)
 }

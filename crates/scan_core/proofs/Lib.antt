@@ -3,6 +3,7 @@ pub mod Counting
 pub mod Found
 pub mod FrameSets
 pub mod HeapSteps
+pub mod Leaving
 pub mod Masking
 pub mod Numbering
 pub mod OpenRuns

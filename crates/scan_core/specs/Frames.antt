@@ -41,6 +41,11 @@ is_way_state (Some (Source serial)) = true
 is_way_state (Some (Target serial)) = true
 is_way_state _ = false
 
+-- whether there is a frame, and it is the source of a moving page
+abbrev pub is_leaving_state : Option (FrameState ℕ) → Bool
+is_leaving_state (Some (Source page)) = true
+is_leaving_state _ = false
+
 -- whether there is a frame, and it is handed out, or holds a page that isn't movable
 abbrev pub is_stuck_state : Option (FrameState ℕ) → Bool → Bool
 is_stuck_state state movable = is_huge_state state || (is_holding_state state && not movable)
@@ -64,6 +69,10 @@ huge_at states frame = is_huge_state (slice_get states frame)
 -- whether a frame in the list is the source or the target of a moving page
 abbrev pub way_at : List (FrameState ℕ) → ℕ → Bool
 way_at states frame = is_way_state (slice_get states frame)
+
+-- whether a page is leaving a frame in the list
+abbrev pub leaving_at : List (FrameState ℕ) → ℕ → Bool
+leaving_at states frame = is_leaving_state (slice_get states frame)
 
 -- whether a list of booleans has true at a place
 abbrev pub true_at : List Bool → ℕ → Bool

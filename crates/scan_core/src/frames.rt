@@ -1,7 +1,8 @@
-ghost use Rattle.std.specs.Prelude.{◌≡◌, ◌*◌, ◌^◌, ◌<◌, ◌≤◌, ◌&&◌, is_some, length, nat_le, slice_get, slice_set, true, Some, IfOk, IfSome};
+ghost use Rattle.std.specs.Prelude.{◌≡◌, ◌*◌, ◌^◌, ◌<◌, ◌≤◌, ◌&&◌, is_some, length, nat_le, slice_get, slice_set, true, Some, IfOk, IfSome, MatchOption};
 ghost use Rattle.frame_core.specs.declared.state.FrameState.TheVariants.{Free, Holds, Huge, Source, Target};
 ghost use Rattle.frame_core.specs.Below.{count_below, count_from, highest, lowest, some_below};
-ghost use Rattle.scan_core.specs.Frames.{all_free, blocks_of, free_at, free_frames, holds_at, huge_at, is_open_at, is_whole, page_held, source_at, true_at, way_at};
+ghost use Rattle.number_set.specs.Finds.{IsFrom, NoneFrom};
+ghost use Rattle.scan_core.specs.Frames.{all_free, blocks_of, free_at, free_frames, holds_at, huge_at, is_open_at, is_whole, leaving_at, page_held, source_at, true_at, way_at};
 ghost use Rattle.scan_core.specs.NumberSet.{all_from};
 ghost use Rattle.scan_core.specs.Pairs.{after_step, is_stuck, is_target, next_step, Finds};
 ghost use Rattle.scan_core.specs.Runs.{first_run, has_block, is_run, with_run};
@@ -227,6 +228,27 @@ impl Frames {
             return None;
         }
         FrameNo::in_any_zone(frame)
+    }
+
+    /// The lowest frame from one on that a page is leaving, if there is one. For each 64 frames it looks at a word of three sets, and of the
+    /// frames that are in none of them at each one's state.
+    pub fn next_leaving(&self, from: FrameNo) -> Option<FrameNo>
+        ensures next { MatchOption result (NoneFrom (leaving_at self.now.states) from) (IsFrom (leaving_at self.now.states) from) }
+        ensures within { IfSome result (λ frame. frame < length self.now.states) }
+    {
+        let end = self.len();
+        let free = self.free.numbers();
+        let mut next = from.get();
+        while next < end {
+            let frame = self
+                .held
+                .first_outside(free, &self.candidates.sources, next, end)?;
+            if self.kept[frame as usize].is_source() {
+                return FrameNo::in_any_zone(frame);
+            }
+            next = frame + 1;
+        }
+        None
     }
 
     /// The lowest free frame, if there is one.

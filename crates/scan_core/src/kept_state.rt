@@ -1,6 +1,6 @@
 ghost use Rattle.std.specs.Prelude.{◌≡◌, ℕ, Some};
 ghost use Rattle.frame_core.specs.declared.state.FrameState.{FrameState as State};
-ghost use Rattle.scan_core.specs.Frames.{is_free_state, page_held};
+ghost use Rattle.scan_core.specs.Frames.{is_free_state, is_leaving_state, page_held};
 ghost use Rattle.scan_core.specs.KeptState.{IsState, kind_of, page_of, state_by};
 
 use frame_core::{FrameState, PageNo, Tagged};
@@ -55,6 +55,14 @@ impl KeptState {
         ensures { result ≡ is_free_state (Some self) }
     {
         self.page.tag() == FREE
+    }
+
+    /// Whether the state is that of a frame that a page is leaving.
+    #[inline(always)]
+    pub(crate) fn is_source(self) -> bool
+        ensures { result ≡ is_leaving_state (Some self) }
+    {
+        self.page.tag() == SOURCE
     }
 
     /// The page of a frame that holds one.

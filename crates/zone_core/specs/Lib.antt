@@ -6,7 +6,6 @@ pub mod Emptying
 pub mod Fingers
 pub mod FreeRuns
 pub mod Made
-pub mod NextMoving
 pub mod OneThread
 pub mod Outcome
 pub mod Reserving

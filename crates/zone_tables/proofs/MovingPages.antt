@@ -8,18 +8,22 @@ use Rattle.frame_core.proofs.Searches.{pairs_same_below, pairs_none}
 use Rattle.frame_core.specs.Address.{InRange}
 use Rattle.frame_core.specs.declared.place.Address.{Address}
 use Rattle.frame_core.specs.History.{page_at, names, maps}
+use Rattle.frame_core.specs.declared.state.FrameState.{FrameState}
+use Rattle.frame_core.specs.declared.state.FrameState.TheVariants.{Free, Holds, Huge, Source, Target}
+use Rattle.scan_core.specs.Frames.{is_leaving_state, leaving_at}
 use Rattle.state_core.proofs.Facts.{named_in_range, page_named, not_none, takes_own}
 use Rattle.state_core.specs.Valid.{IsValidZone}
-use Rattle.state_core.specs.ZoneState.{ZoneState, placement_at, takes_up}
+use Rattle.state_core.specs.ZoneState.{ZoneState, frame_count, placement_at, takes_up}
 use Rattle.state_core.specs.declared.placement.Placement.{Placement}
 use Rattle.state_core.specs.declared.placement.Placement.TheVariants.{Moving}
 use Rattle.table_core.specs.declared.entry.Entry.TheVariants.{Migration}
 use Rattle.table_core.specs.Names.{IsIn, IsRising, AreJust, order_of}
 use Rattle.table_core.specs.Tables.{EntryTable, entry_at}
-use Rattle.zone_tables.proofs.Tables.{migration_is}
+use Rattle.zone_tables.proofs.Tables.{migration_is, source_of_page, source_seen}
 use Rattle.zone_tables.proofs.ListedAddresses.{page_is}
-use Rattle.zone_tables.specs.Fits.{EntriesFit, entry_for}
-use Rattle.zone_tables.specs.MovingPages.{Leaves, IsLeftByNone, IsLowestName}
+use Rattle.zone_tables.specs.Fits.{EntriesFit, FramesFit, entry_for}
+use Rattle.zone_tables.specs.MovingPages.{IsMovingFrom, IsNextMoving, Leaves, IsLeftByNone, IsLowestName}
+use Rattle.zone_tables.specs.declared.moving.MovingPage.{MovingPage}
 
 -- some address names a page in use
 pub has_name : (v : ZoneState) → IsValidZone v → (page : ℕ) (placement : Placement) → map.get v.placement page ≡ Some placement → ((a : Address) → page_at v.records a ≡ Some page → ⊥) → ⊥
@@ -77,3 +81,31 @@ only_page v valid source page leaves None some none = absurd (none refl page lea
 only_page v valid source page leaves (Some q) some none = ap Some (valid.pages.apart q page source (takes q some) (takes page leaves)) where
   takes : (p : ℕ) → Leaves (map.get v.placement p) source → takes_up (map.get v.placement p) source ≡ true
   takes p left = ap (λ (o : Option Placement). takes_up o source) left.2 ∙ takes_own (Moving left.0 source left.1)
+
+-- the state of a frame that a page is leaving has that page
+source_in : (o : Option (FrameState ℕ)) → is_leaving_state o ≡ true → (page : ℕ) × (o ≡ Some (Source page))
+source_in None is = absurd cc
+source_in (Some Free) is = absurd cc
+source_in (Some (Holds page)) is = absurd cc
+source_in (Some (Source page)) is = (page, refl)
+source_in (Some (Target page)) is = absurd cc
+source_in (Some Huge) is = absurd cc
+
+module _ (v : ZoneState) (frames : List (FrameState ℕ)) (fit : FramesFit frames v) (source : ℕ) where
+  pub left_by_none : leaving_at frames source ≡ false → IsLeftByNone v source
+  left_by_none isnt page serial target at = let bad : true ≡ false = sym (ap is_leaving_state (source_of_page frames v fit page serial source target at)) ∙ isnt in cc
+
+  pub left_by_one : source < frame_count v → leaving_at frames source ≡ true → IsLeftByNone v source → ⊥
+  left_by_one within is none =
+      let page = source_in (slice_get frames source) is in
+      let leaves = source_seen frames v fit source page.0 (Source page.0) within page.1 refl in
+      none page.0 leaves.0 leaves.1 leaves.2
+
+-- the page that leaves the lowest of the frames from one on that are left
+pub lowest_left : (v : ZoneState) (from source : ℕ) (found : Option MovingPage) → from ≤ source → ((frame : ℕ) → from ≤ frame → frame < source → IsLeftByNone v frame) → IfSome found (IsMovingFrom v source) → IfSome found (IsNextMoving v from)
+lowest_left v from source None low before is = tt
+lowest_left v from source (Some moving) low before is = record {
+  least = omega (arith, low, is.left);
+  leaves = record { left = refl; placed = is.placed; flags = is.flags; address = is.address };
+  before = λ frame least less. before frame least (omega (arith, less, is.left));
+}

@@ -1,5 +1,5 @@
 -- The pages that are moving.
-use Rattle.std.specs.Prelude.{◌≡◌, ◌≢◌, ◌≤◌, ℕ, Option, Some}
+use Rattle.std.specs.Prelude.{◌≡◌, ◌≢◌, ◌<◌, ◌≤◌, ℕ, Option, Some}
 use Rattle.std.specs.FinMap as map
 use Rattle.frame_core.specs.declared.place.Address.{Address}
 use Rattle.frame_core.specs.History.{page_at}
@@ -29,3 +29,13 @@ pub record IsMovingFrom (z : ZoneState) (source : ℕ) (moving : MovingPage) : T
 -- no page is moving out of this frame
 abbrev pub IsLeftByNone : ZoneState → ℕ → Type 0
 IsLeftByNone z frame = (page serial target : ℕ) → map.get z.placement page ≢ Some (Moving serial frame target)
+
+-- this page is moving out of a frame from `from` on, and none is moving out of a lower one of these
+pub record IsNextMoving (z : ZoneState) (from : ℕ) (moving : MovingPage) : Type 0 where
+  pub least : from ≤ moving.source
+  pub leaves : IsMovingFrom z moving.source moving
+  pub before : (frame : ℕ) → from ≤ frame → frame < moving.source → IsLeftByNone z frame
+
+-- no page is moving out of a frame from `from` on
+abbrev pub IsNoneMoving : ZoneState → ℕ → Type 0
+IsNoneMoving z from = (frame : ℕ) → from ≤ frame → IsLeftByNone z frame

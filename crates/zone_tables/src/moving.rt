@@ -1,11 +1,10 @@
 //! The pages that are moving, by the frames that they leave.
 
-ghost use Rattle.std.specs.Prelude.{◌≡◌, ℕ, ◌<◌, false, length, nat_lt, Some, None, IfSome};
+ghost use Rattle.std.specs.Prelude.{◌≡◌, ◌<◌, Some, None, IfSome};
 ghost use Rattle.std.specs.FinMap as map;
-ghost use Rattle.frame_core.specs.Moves.{out};
 ghost use Rattle.state_core.specs.ZoneState.{frame_count};
 ghost use Rattle.state_core.specs.declared.placement.Placement.TheVariants.{Moving};
-ghost use Rattle.zone_tables.specs.MovingPages.{IsMovingFrom, IsLeftByNone, IsLowestName, Leaves};
+ghost use Rattle.zone_tables.specs.MovingPages.{IsMovingFrom, IsLeftByNone, IsLowestName, IsNextMoving, IsNoneMoving, Leaves};
 
 use crate::zone::ZoneTables;
 use frame_core::{Address, FrameNo, FrameState, PageFlags, PageNo, Serial};
@@ -25,16 +24,22 @@ pub struct MovingPage {
 }
 
 impl<const W: usize> ZoneTables<W> {
-    /// Whether some page is moving.
-    pub fn is_any_moving(&self) -> bool
-        ensures any { result ≡ nat_lt 0 (length (out self.now.records)) }
-        ensures none { result ≡ false → (frame : ℕ) → IsLeftByNone self.now frame }
+    /// The moving page that leaves the lowest frame, of those that leave a frame from `from` on, if there is one. Where no page is moving
+    /// the answer comes at once; else it looks, up to the frame that the page leaves, for each 64 frames at a word of three sets, and at each
+    /// frame that is in none of them.
+    pub fn next_moving(&self, from: FrameNo) -> Option<MovingPage>
+        ensures some { IfSome result (IsNextMoving self.now from) }
+        ensures none { result ≡ None → IsNoneMoving self.now from }
     {
-        self.moves.out() > 0
+        if self.moves.out() == 0 {
+            return None;
+        }
+        let source = self.frames.next_leaving(from)?;
+        self.moving_from(source)
     }
 
     /// The page that is moving out of a frame, if one is.
-    pub fn moving_from(&self, source: FrameNo) -> Option<MovingPage>
+    fn moving_from(&self, source: FrameNo) -> Option<MovingPage>
         requires { source < frame_count self.now }
         ensures some { IfSome result (IsMovingFrom self.now source) }
         ensures none { result ≡ None → IsLeftByNone self.now source }
