@@ -48,6 +48,7 @@ LINES = {
         '    let mut table = Vec::from_elem(rt.alloc(), true, 300_000).expect(&rt, "memory");\n',
         "fn counts_small_runs(rt: HostRuntime) {\n",
         '    let mut table = Vec::from_elem(rt.alloc(), true, 4_096).expect(&rt, "memory");\n',
+        "fn finds_what_three_sets_lack(rt: HostRuntime) {\n",
     ),
     "crates/number_set/src/number_set.rt": ("    words: Vec<u64>,\n",),
     "crates/number_set/src/upper_levels.rt": ("    words: Vec<u64>,\n",),
