@@ -115,13 +115,7 @@ fn assert_kept(rt: &impl Abort, kept: Kept, want: Kept, name: &str, number: usiz
     assert!(rt; kept == want, "{name}, step {number}");
 }
 
-fn plays(
-    rt: &impl Abort,
-    keeper: &mut Keeper,
-    zone: &mut BareZone<8>,
-    name: &str,
-    rows: &[Row],
-) {
+fn plays(rt: &impl Abort, keeper: &mut Keeper, zone: &mut BareZone<8>, name: &str, rows: &[Row]) {
     for (number, row) in rows.iter().enumerate() {
         match *row {
             Row::Call(call, want) => {
@@ -150,7 +144,10 @@ fn a_block_is_kept_ready(rt: HostRuntime) {
         plays(&rt, &mut keeper, &mut zone, "two runs", TWO_RUNS);
         plays(&rt, &mut keeper, &mut zone, name, rows);
         keeper.close(&mut zone);
-        assert!(rt; zone.info().held % 8 == 0, "{name}: the claims of it were dropped");
+        assert!(rt;
+            zone.info().held % 8 == 0,
+            "{name}: the claims of it were dropped"
+        );
     }
 }
 
@@ -160,9 +157,18 @@ fn as_many_blocks_are_kept_as_it_wants(rt: HostRuntime) {
     let mut zone = opened(&rt);
     let mut keeper = Keeper::open(rt.alloc(), order(&rt, 9), 2).expect(&rt, "a keeper");
     assert!(rt; keeper.lacks() == 2, "two are wanted");
-    assert!(rt; step(&mut keeper, &mut zone, 32) == Kept::Claimed(0, 0), "the one pageblock");
-    assert!(rt; step(&mut keeper, &mut zone, 32) == Kept::Rested, "no other is open");
-    assert!(rt; keeper.lacks() == 1 && keeper.claims().len() == 1, "one is lacking");
+    assert!(rt;
+        step(&mut keeper, &mut zone, 32) == Kept::Claimed(0, 0),
+        "the one pageblock"
+    );
+    assert!(rt;
+        step(&mut keeper, &mut zone, 32) == Kept::Rested,
+        "no other is open"
+    );
+    assert!(rt;
+        keeper.lacks() == 1 && keeper.claims().len() == 1,
+        "one is lacking"
+    );
     keeper.close(&mut zone);
     assert!(rt; zone.info().free == 512, "all frames are free again");
 }

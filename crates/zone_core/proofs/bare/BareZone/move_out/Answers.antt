@@ -26,7 +26,7 @@ next_to_go-requires g c =
     let now = c.loop-moved.invariant in (
       omega arith,
       ap (λ (u : ZoneState). has_block u c.args.order c.args.first) c.deref.ensures
-      ∙ ap (λ (blocks : ℕ). is_aligned c.args.order c.args.first && nat_le (c.args.first + 2 ^ c.args.order) (512 * blocks)) now.stepping.blocks ∙ c.requires.block,
+          ∙ ap (λ (blocks : ℕ). is_aligned c.args.order c.args.first && nat_le (c.args.first + 2 ^ c.args.order) (512 * blocks)) now.stepping.blocks ∙ c.requires.block,
     )
 
 pub holder-requires : goal.holder-requires
@@ -91,10 +91,10 @@ loop-moved-preserved g c =
     let after = c.claim.ensures.step ∙ ap (λ (u : ZoneState). claimed_at u source) went in
     record {
       gone = after ∙ gone_is c.args.first (2 ^ c.args.order) z now.valid source c.in-Some-highest_vacant.target next vacant c.in-Some-holder.page holds
-        ∙ ap (λ (u : ZoneState). gone u (next_to_go c.args.first (2 ^ c.args.order) u) (highest_vacant u)) now.gone ∙ sym (ap (pages_gone c.args.first (2 ^ c.args.order) c.args.self.now) more);
+          ∙ ap (λ (u : ZoneState). gone u (next_to_go c.args.first (2 ^ c.args.order) u) (highest_vacant u)) now.gone ∙ sym (ap (pages_gone c.args.first (2 ^ c.args.order) c.args.self.now) more);
       stepping = stepping_on c.args.first (2 ^ c.args.order) c.args.self.now z c.claim.new.self c.loop-moved.moved now.stepping
-        (subst (λ (u : ZoneState). IsStepping c.args.first (2 ^ c.args.order) z u 1) (sym after)
-        (goes_out c.args.first (2 ^ c.args.order) z now.valid source c.in-Some-highest_vacant.target next vacant c.in-Some-holder.page holds now.stepping.shut room));
+          (subst (λ (u : ZoneState). IsStepping c.args.first (2 ^ c.args.order) z u 1) (sym after)
+          (goes_out c.args.first (2 ^ c.args.order) z now.valid source c.in-Some-highest_vacant.target next vacant c.in-Some-holder.page holds now.stepping.shut room));
       most = omega (arith, c.loop-moved-test.true);
       valid = c.claim.ensures.valid;
     }
