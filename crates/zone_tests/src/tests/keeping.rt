@@ -5,7 +5,7 @@ use super::calls::{Call, Name, told, value_of};
 use super::many_pageblocks::frame_of;
 use super::{client, order};
 use frame_core::ZoneNo;
-use keeper_core::{Keeper, Step, Taken};
+use keeper_core::{Keeper, Step};
 use std::process::Abort;
 use zone_core::{BareZone, ZoneError};
 
@@ -97,16 +97,22 @@ fn opened(rt: &(impl Abort + AllocGlobal)) -> BareZone<8> {
 
 fn step(keeper: &mut Keeper, zone: &mut BareZone<8>, most: u32) -> Kept {
     match keeper.step(zone, most) {
-        Ok(Step::Emptied { first, pages }) => Kept::Emptied(first.get(), pages),
-        Ok(Step::Claimed { first, pages }) => Kept::Claimed(first.get(), pages),
-        Ok(Step::Rested) => Kept::Rested,
+        Ok(step) => shown(step),
         Err(error) => Kept::Refused(error),
+    }
+}
+
+fn shown(step: Step) -> Kept {
+    match step {
+        Step::Emptied { first, pages } => Kept::Emptied(first.get(), pages),
+        Step::Claimed { first, pages } => Kept::Claimed(first.get(), pages),
+        Step::Rested => Kept::Rested,
     }
 }
 
 fn take(keeper: &mut Keeper, zone: &mut BareZone<8>) -> Kept {
     match keeper.take(zone) {
-        Ok(Taken { first, pages }) => Kept::Taken(first.get(), pages),
+        Ok(taken) => Kept::Taken(taken.first.get(), taken.pages),
         Err(error) => Kept::Refused(error),
     }
 }
