@@ -525,8 +525,8 @@ uint32_t compactd_cheapest_run(compactd_pool *pool, uint32_t order, uint32_t *fi
  * it up by compactd_drop_claim. A keeper has one order. A pool may have several keepers. */
 
 /* Makes one step of a keeper. It goes on with the first of its runs that isn't finished, as compactd_empty_some does: claims its free frames,
- * and moves at most `most` pages out of it. A run is finished where all its frames are claimed, and for now also where each page left in it
- * is moving, pinned or unmovable, or no frame is free for it. Where all runs are finished and there is a place for another one, the step
+ * and moves at most `most` pages out of it. A run is finished where all its frames are claimed. It counts as finished, until that changes,
+ * where each page left in it is moving, pinned or unmovable, or no frame is free for it. Where all are and there is a place for another, the step
  * claims the run of compactd_cheapest_run, if one is open. Gets how many pages were moved, and whether the step did anything; else there is
  * no more to do now. A caller makes steps until `more` is 0, and again after other calls. With `most` 0 it only claims, and `more` stays 1
  * while a page could go.
