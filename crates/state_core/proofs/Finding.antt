@@ -1,12 +1,14 @@
 -- What a zone's searches for a free frame and for an unused page number find.
-use Rattle.frame_core.proofs.Bounds.{highest_some, no_highest}
-use Rattle.std.proofs.Common.{subst, ◌≡◌, refl, ◌∙◌, ap, sym, false, ◌&&◌, if◌then◌else◌, Option, ℕ, ◌<◌, true, arith, Bool, Some, None, IsSome, is_some, is_none, unwrap_or}
+use Rattle.std.proofs.Common.{subst, ◌≡◌, refl, ◌∙◌, ap, sym, false, not, ◌&&◌, if◌then◌else◌, Option, ℕ, zero, suc, ◌+◌, ◌-◌, ◌*◌, ◌/◌, ◌<◌, ◌≤◌, inl, inr, true, arith, Bool, Some, None, IsSome, is_some, is_none, unwrap_or, le-ltb}
+use Rattle.std.specs.Prelude.{nat_lt}
+use Rattle.std.specs.Option.{option_or}
 use Rattle.std.specs.FinMap.{get}
-use Rattle.std.proofs.lemmas.Bool.{both_ways, not-true, not-false, true_from_ne_false}
-use Rattle.frame_core.proofs.Searches.{lowest_some, lowest_before, no_lowest, count_all, count_some}
-use Rattle.frame_core.specs.Below.{count_below}
+use Rattle.std.proofs.lemmas.Bool.{and_from, and_parts, both_ways, not-true, not-false, true_from_ne_false}
+use Rattle.std.proofs.lemmas.Bool.Decides.{leb_tells}
+use Rattle.frame_core.proofs.Searches.{below_suc, lowest_some, lowest_before, no_lowest, count_all, count_none, count_some, none_some, some_none, some_one}
+use Rattle.frame_core.specs.Below.{count_below, count_from, some_below}
 use Rattle.state_core.specs.Valid.{IsValidZone}
-use Rattle.state_core.specs.ZoneState.{ZoneState, frame_count, is_free, frame_for, lowest_free_frame, highest_free_frame, lowest_unused_page}
+use Rattle.state_core.specs.ZoneState.{ZoneState, frame_count, free_in_block, is_free, is_whole, has_unmovable, is_emptiest, lowest_free_where, frame_for, frame_with_unmovable, frame_without_unmovable, lowest_free_frame, lowest_unused_page}
 use Rattle.state_core.proofs.Facts.{none_is, some_is}
 
 -- where a frame is free, a page number is unused
@@ -29,22 +31,89 @@ unused_is v page e =
     let found = lowest_some (λ q. is_none (get v.placement q)) (frame_count v) page e in
     (found.0, none_is _ (not-true _ found.1), λ q h. not-false _ (lowest_before (λ r. is_none (get v.placement r)) (frame_count v) page q e h))
 
--- where a frame is free, the search for the highest one finds one
-pub some_highest : (v : ZoneState) → IsSome (lowest_free_frame v) → IsSome (highest_free_frame v)
-some_highest v some =
-    let found = some_is (lowest_free_frame v) some in
-    let free = lowest_some (is_free v) (frame_count v) found.0 found.1 in
-    true_from_ne_false _ (λ e. both_ways _ (no_highest (is_free v) (frame_count v) found.0 (none_is _ e) free.0) free.1)
+-- the greatest of some numbers
+pub greatest : (f : ℕ → ℕ) (n : ℕ) → (k : ℕ) × (k < suc n) × ((j : ℕ) → j < suc n → f j ≤ f k)
+greatest f zero = (0, omega arith, λ j h. let at : j ≡ 0 = omega (arith, h) in omega (arith, ap f at))
+greatest f (suc n) =
+    let rest = greatest f n in
+    elim (leb_tells (f (suc n)) (f rest.0)) [
+      | inl more ↦ (rest.0, omega (arith, rest.1), λ j h. elim (below_suc j (suc n) h) [
+          | inl under ↦ rest.2 j under
+          | inr at ↦ omega (arith, ap f at, more.1)
+        ])
+      | inr fewer ↦ (suc n, omega arith, λ j h. elim (below_suc j (suc n) h) [
+          | inl under ↦ omega (arith, rest.2 j under, fewer.1)
+          | inr at ↦ omega (arith, ap f at)
+        ])
+    ]
+
+-- a frame that passes is counted in its pageblock, and a pageblock that has one counted has a frame that passes
+pub counted_here : (p : ℕ → Bool) (frame : ℕ) → p frame ≡ true → 0 < count_from p (512 * (frame / 512)) 512
+unfolding count_from
+counted_here p frame passes =
+    let at : 512 * (frame / 512) + (frame - 512 * (frame / 512)) ≡ frame = omega arith in
+    count_some (λ k. p (512 * (frame / 512) + k)) 512 (frame - 512 * (frame / 512)) (omega arith) (ap p at ∙ passes)
+
+one_below : (p : ℕ → Bool) (n : ℕ) → 0 < count_below p n → (k : ℕ) × (k < n) × (p k ≡ true)
+one_below p n some = by (some_below p n) refl where
+  by : (b : Bool) → some_below p n ≡ b → (k : ℕ) × (k < n) × (p k ≡ true)
+  by true e = some_one p n e
+  by false e = absurd (omega (arith, some, count_none p n (some_none p n e)))
+
+pub one_counted : (p : ℕ → Bool) (block : ℕ) → 0 < count_from p (512 * block) 512 → (frame : ℕ) × (frame / 512 ≡ block) × (p frame ≡ true)
+unfolding count_from
+one_counted p block some = let one = one_below (λ k. p (512 * block + k)) 512 some in (512 * block + one.0, omega (arith, one.1), one.2)
+
+-- a search that found a frame that is free
+abbrev pub IsFound : ZoneState → Option ℕ → Type 0
+IsFound v found = (frame : ℕ) × (found ≡ Some frame) × (frame < frame_count v) × (is_free v frame ≡ true)
+
+module _ (v : ZoneState) where
+  -- each frame that the searches find is free
+  found_free : (passes : ℕ → Bool) (frame : ℕ) → lowest_free_where v passes ≡ Some frame → (frame < frame_count v) × (is_free v frame ≡ true)
+  found_free passes frame e =
+      let found = lowest_some (λ k. is_free v k && passes (k / 512)) (frame_count v) frame e in
+      (found.0, (and_parts (is_free v frame) (passes (frame / 512)) found.1).0)
+
+  or_found : (o r : Option ℕ) → ((frame : ℕ) → o ≡ Some frame → (frame < frame_count v) × (is_free v frame ≡ true)) → IsFound v r → IsFound v (option_or o r)
+  or_found None r free found = found
+  or_found (Some frame) r free found = (frame, refl, (free frame refl).0, (free frame refl).1)
+
+  -- where a free frame's pageblock passes, the search finds one
+  where_found : (passes : ℕ → Bool) (frame : ℕ) → frame < frame_count v → is_free v frame ≡ true → passes (frame / 512) ≡ true → IsFound v (lowest_free_where v passes)
+  where_found passes frame within free suits = by (lowest_free_where v passes) refl where
+    by : (o : Option ℕ) → lowest_free_where v passes ≡ o → IsFound v (lowest_free_where v passes)
+    by None e = absurd (both_ways _ (no_lowest (λ k. is_free v k && passes (k / 512)) (frame_count v) frame e within) (and_from (is_free v frame) (passes (frame / 512)) free suits))
+    by (Some found) e = let is = found_free passes found e in (found, e, is.0, is.1)
+
+  lowest_found : IsSome (lowest_free_frame v) → IsFound v (lowest_free_frame v)
+  lowest_found some =
+      let found = some_is (lowest_free_frame v) some in
+      let is = lowest_some (is_free v) (frame_count v) found.0 found.1 in
+      (found.0, found.1, is.0, is.1)
+
+  -- the emptiest pageblock has a free frame where any has
+  emptiest_found : (frame : ℕ) → frame < frame_count v → is_free v frame ≡ true → IsFound v (lowest_free_where v (is_emptiest v))
+  emptiest_found frame within free =
+      let blocks : suc (v.blocks - 1) ≡ v.blocks = omega (arith, within) in
+      let most = greatest (free_in_block v) (v.blocks - 1) in
+      let low : most.0 < v.blocks = omega (arith, most.1, blocks) in
+      let each = λ (other : ℕ) (h : other < v.blocks). most.2 other (omega (arith, h, blocks)) in
+      let some = counted_here (is_free v) frame free in
+      let one = one_counted (is_free v) most.0 (omega (arith, some, each (frame / 512) (omega (arith, within)))) in
+      let none : is_emptiest v most.0 ≡ true = ap not (none_some (λ other. nat_lt (free_in_block v most.0) (free_in_block v other)) v.blocks (λ other h. le-ltb (free_in_block v most.0) (free_in_block v other) (each other h))) in
+      where_found (is_emptiest v) one.0 (omega (arith, one.1, low)) one.2 (ap (is_emptiest v) one.1 ∙ none)
+
+  pub frame_for_found : (unmovable : Bool) → IsSome (lowest_free_frame v) → IsFound v (frame_for v unmovable)
+  frame_for_found unmovable some = by v.apart unmovable where
+    by : (apart unmovable : Bool) → IsFound v (if not apart then lowest_free_frame v else if unmovable then frame_with_unmovable v else frame_without_unmovable v)
+    by false unmovable = lowest_found some
+    by true true = let low = lowest_found some in or_found (lowest_free_where v (has_unmovable v)) _ (found_free (has_unmovable v)) (emptiest_found low.0 low.2 low.3)
+    by true false = or_found (lowest_free_where v (λ block. not (is_whole v block) && not (has_unmovable v block))) _ (found_free (λ block. not (is_whole v block) && not (has_unmovable v block))) (lowest_found some)
 
 -- where a frame is free, so is the one that a page is mapped to
 pub frame_for_free : (v : ZoneState) (unmovable : Bool) → IsSome (lowest_free_frame v) → (unwrap_or (frame_for v unmovable) 0 < frame_count v) × (is_free v (unwrap_or (frame_for v unmovable) 0) ≡ true)
-frame_for_free v unmovable some = by (v.apart && unmovable) refl where
-  by : (b : Bool) → (v.apart && unmovable) ≡ b → (unwrap_or (frame_for v unmovable) 0 < frame_count v) × (is_free v (unwrap_or (frame_for v unmovable) 0) ≡ true)
-  by false e =
-      let found = some_is (lowest_free_frame v) some in
-      let named : unwrap_or (frame_for v unmovable) 0 ≡ found.0 = ap (λ b. unwrap_or (if b then highest_free_frame v else lowest_free_frame v) 0) e ∙ ap (λ (o : Option ℕ). unwrap_or o 0) found.1 in
-      subst (λ (k : ℕ). (k < frame_count v) × (is_free v k ≡ true)) (sym named) (lowest_some (is_free v) (frame_count v) found.0 found.1)
-  by true e =
-      let found = some_is (highest_free_frame v) (some_highest v some) in
-      let named : unwrap_or (frame_for v unmovable) 0 ≡ found.0 = ap (λ b. unwrap_or (if b then highest_free_frame v else lowest_free_frame v) 0) e ∙ ap (λ (o : Option ℕ). unwrap_or o 0) found.1 in
-      subst (λ (k : ℕ). (k < frame_count v) × (is_free v k ≡ true)) (sym named) (highest_some (is_free v) (frame_count v) found.0 found.1)
+frame_for_free v unmovable some =
+    let found = frame_for_found v unmovable some in
+    let named : unwrap_or (frame_for v unmovable) 0 ≡ found.0 = ap (λ (o : Option ℕ). unwrap_or o 0) found.1 in
+    subst (λ (k : ℕ). (k < frame_count v) × (is_free v k ≡ true)) (sym named) (found.2, found.3)

@@ -1,6 +1,6 @@
 -- The state of a zone, one record, and what is read off it: which frames are free, whether the journal has room, and
 -- whether the latest round is quiet.
-use Rattle.std.specs.Prelude.{ℕ, ◌+◌, true, false, List, length, nat_eq, Option, Some, None, ◌-◌, ◌*◌, ◌^◌, Bool, not, ◌&&◌, ◌||◌, ◌∷◌, take, nat_lt, nat_le, is_none, if◌then◌else◌}
+use Rattle.std.specs.Prelude.{ℕ, ◌+◌, true, false, List, length, nat_eq, Option, Some, None, ◌-◌, ◌*◌, ◌/◌, ◌^◌, Bool, not, ◌&&◌, ◌||◌, ◌∷◌, take, nat_lt, nat_le, is_none, if◌then◌else◌}
 use Rattle.std.specs.FinMap as map
 use Rattle.frame_core.specs.Address.{is_in_table}
 use Rattle.frame_core.specs.declared.place.Address.{Address}
@@ -8,10 +8,10 @@ use Rattle.frame_core.specs.Moves.{out}
 use Rattle.state_core.specs.declared.placement.Placement.{Placement}
 use Rattle.state_core.specs.declared.placement.Placement.TheVariants.{At, Moving}
 use Rattle.std.specs.List.{list_all}
-use Rattle.std.specs.Option.{option_and_then}
+use Rattle.std.specs.Option.{option_and_then, option_or}
 use Rattle.std.specs.Ordering.{nat_cmp}
 use Rattle.std.specs.FinSet as set
-use Rattle.frame_core.specs.Below.{lowest, highest, some_below, count_from}
+use Rattle.frame_core.specs.Below.{lowest, some_below, count_from}
 use Rattle.frame_core.specs.declared.record.Record.{Record}
 use Rattle.frame_core.specs.declared.record.Record.TheVariants.{Load, Store, Isolate, Moved}
 use Rattle.frame_core.specs.History.{page_at}
@@ -103,13 +103,42 @@ is_whole z block = nat_eq (free_in_block z block) 512
 abbrev pub lowest_free_frame : ZoneState → Option ℕ
 lowest_free_frame z = lowest (is_free z) (frame_count z)
 
--- the highest free frame, if there is one
-abbrev pub highest_free_frame : ZoneState → Option ℕ
-highest_free_frame z = highest (is_free z) (frame_count z)
+-- whether a page with this placement is in a pageblock: it takes up a frame of it
+abbrev pub is_in_block : Option Placement → ℕ → Bool
+is_in_block None block = false
+is_in_block (Some (At frame)) block = nat_eq (frame / 512) block
+is_in_block (Some (Moving serial source target)) block = nat_eq (source / 512) block || nat_eq (target / 512) block
 
--- the frame that a page is mapped to: the lowest free one, or the highest where the page is unmovable and such pages are mapped apart
+-- whether a page is unmovable and in a pageblock
+abbrev pub is_unmovable_in : ZoneState → ℕ → ℕ → Bool
+is_unmovable_in z block page = set.contains z.unmovable page && is_in_block (map.get z.placement page) block
+
+-- whether an unmovable page is in a pageblock; the numbers of pages are below the number of frames
+abbrev pub has_unmovable : ZoneState → ℕ → Bool
+has_unmovable z block = some_below (is_unmovable_in z block) (frame_count z)
+
+-- whether no pageblock has more free frames than this one
+abbrev pub is_emptiest : ZoneState → ℕ → Bool
+is_emptiest z block = not (some_below (λ other. nat_lt (free_in_block z block) (free_in_block z other)) z.blocks)
+
+-- the lowest free frame of the pageblocks that pass, if there is one
+abbrev pub lowest_free_where : ZoneState → (ℕ → Bool) → Option ℕ
+lowest_free_where z passes = lowest (λ frame. is_free z frame && passes (frame / 512)) (frame_count z)
+
+-- the frame for an unmovable page that is mapped apart: in a pageblock that has such a page, and else in the emptiest one
+abbrev pub frame_with_unmovable : ZoneState → Option ℕ
+frame_with_unmovable z = option_or (lowest_free_where z (has_unmovable z)) (lowest_free_where z (is_emptiest z))
+
+-- the frame for another page then: in a pageblock without an unmovable page that isn't whole, and else the lowest
+abbrev pub frame_without_unmovable : ZoneState → Option ℕ
+frame_without_unmovable z = option_or (lowest_free_where z (λ block. not (is_whole z block) && not (has_unmovable z block))) (lowest_free_frame z)
+
+-- the frame that a page is mapped to: the lowest free one, where unmovable pages aren't mapped apart
 abbrev pub frame_for : ZoneState → Bool → Option ℕ
-frame_for z unmovable = if z.apart && unmovable then highest_free_frame z else lowest_free_frame z
+frame_for z unmovable =
+    if not z.apart then lowest_free_frame z
+    else if unmovable then frame_with_unmovable z
+    else frame_without_unmovable z
 
 -- the lowest page number that isn't in use, if there is one
 abbrev pub lowest_unused_page : ZoneState → Option ℕ

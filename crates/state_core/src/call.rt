@@ -7,7 +7,7 @@ use frame_core::{Address, BlockNo, ClientNo, FrameNo, Order, PageNo, Record, Wor
 /// A call that a client makes on a zone whose pages have `W` words. The calls are this project's own profile.
 #[derive(Clone, Copy, Debug, PartialEq, Eq)]
 pub enum ZoneCall<const W: usize> {
-    /// Makes an address name a fresh page in the lowest free frame, or in the highest where it is unmovable and such pages are mapped apart.
+    /// Makes an address name a fresh page in the lowest free frame, or in a frame by its pageblock where unmovable pages are mapped apart.
     Map {
         address: Address,
         unmovable: bool,
