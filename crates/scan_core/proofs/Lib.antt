@@ -2,6 +2,7 @@ pub mod CountedRuns
 pub mod Counting
 pub mod Found
 pub mod FrameSets
+pub mod Grouping
 pub mod HeapSteps
 pub mod Leaving
 pub mod Masking

@@ -16,7 +16,7 @@ use Rattle.scan_core.specs.FrameCountsInside.{IsTallied}
 use Rattle.scan_core.specs.Frames.{true_at}
 use Rattle.scan_core.specs.declared.frame_counts.FrameCounts.TheInside.{Inside}
 
-item_of : (counts : List ℕ) (blocks count block : ℕ) → counts ≡ replicate blocks count → block < length counts → slice_index counts block ≡ count
+pub item_of : (counts : List ℕ) (blocks count block : ℕ) → counts ≡ replicate blocks count → block < length counts → slice_index counts block ≡ count
 item_of counts blocks count block are within =
     let long : length counts ≡ blocks = ap length are ∙ length-replicate blocks count in
     get_or_from_slice_get counts block count 0 (ap (λ (xs : List ℕ). slice_get xs block) are ∙ slice_get_replicate blocks block count (omega (arith, within, long)))

@@ -1,4 +1,6 @@
+pub mod Apart
 pub mod BlockCounts
+pub mod BlockGroups
 pub mod FrameCounts
 pub mod FrameCountsInside
 pub mod FrameSet

@@ -5,6 +5,7 @@
 //! private. The searches and counts are there for plain lists too.
 #![tactic(auto)]
 
+mod block_groups;
 mod blocks;
 mod candidates;
 mod fingers;

@@ -1,0 +1,60 @@
+-- The groups of pageblocks, as they are opened and after a change of one pageblock.
+use Rattle.std.proofs.Common.{◌≡◌, ◌≢◌, ℕ, ◌<◌, ◌≤◌, Bool, true, false, List, length, inl, inr, refl, sym, ap, ◌∙◌, eq-eqb, replicate, slice_index, arith}
+use Rattle.std.specs.Prelude.{nat_eq, nat_lt, ◌&&◌, if◌then◌else◌}
+use Rattle.std.specs.FinSet as set
+use Rattle.std.specs.Ordering.{nat_cmp}
+use Rattle.std.proofs.lemmas.Bool.{ne_eqb}
+use Rattle.std.proofs.lemmas.Bool.Decides.{eqb_tells, leb_tells}
+use Rattle.std.proofs.lemmas.List.{get_or_past, length-replicate}
+use Rattle.scan_core.specs.BlockGroups.{HasRoom, IsGrouped, IsRegrouped, takes_another, takes_unmovable}
+use Rattle.scan_core.specs.declared.block_groups.BlockGroups.{BlockGroups}
+use Rattle.scan_core.proofs.Seeing.{skipped, taken}
+use Rattle.scan_core.proofs.Tallying.{item_of}
+
+-- an item of a list of equal numbers is 0 or that number
+item_or_none : (item blocks block : ℕ) (p : ℕ → Bool) → p item ≡ false → p 0 ≡ false → p (slice_index (replicate blocks item) block) ≡ false
+item_or_none item blocks block p fails fails_none = elim (leb_tells (length (replicate {A = ℕ} blocks item)) block) [
+  | inl past ↦ (ap p (get_or_past (replicate {A = ℕ} blocks item) block 0 past.1) ∙ fails_none)
+  | inr under ↦ (ap p (item_of (replicate {A = ℕ} blocks item) blocks item block refl under.1) ∙ fails)
+]
+
+none_unmovable : (blocks block : ℕ) → slice_index (replicate {A = ℕ} blocks 0) block ≡ 0
+none_unmovable blocks block = elim (leb_tells (length (replicate {A = ℕ} blocks 0)) block) [
+  | inl past ↦ get_or_past (replicate {A = ℕ} blocks 0) block 0 past.1
+  | inr under ↦ item_of (replicate {A = ℕ} blocks 0) blocks 0 block refl under.1
+]
+
+-- where all pageblocks are whole, there is nothing in the groups
+pub grouped_whole : (groups : BlockGroups) (blocks : ℕ) → groups.unmovable.items ≡ replicate blocks 0 → groups.with_unmovable.members ≡ set.empty → groups.without_unmovable.members ≡ set.empty → blocks ≤ groups.with_unmovable.bound → blocks ≤ groups.without_unmovable.bound → IsGrouped groups (replicate blocks 512)
+grouped_whole groups blocks none with_none without_none with_room without_room =
+    let long : length (replicate {A = ℕ} blocks 512) ≡ blocks = length-replicate blocks 512 in
+    let as_many : length groups.unmovable.items ≡ blocks = ap length none ∙ length-replicate blocks 0 in
+    let unmovable = λ (block : ℕ). ap (λ (xs : List ℕ). slice_index xs block) none ∙ none_unmovable blocks block in
+    record {
+      room = record { unmovable = as_many ∙ sym long; with_unmovable = omega (arith, long, with_room); without_unmovable = omega (arith, long, without_room) };
+      with_unmovable = λ block. ap (λ s. set.contains s block) with_none ∙ set.contains-empty nat_cmp block
+          ∙ sym (ap (λ u. takes_unmovable u (slice_index (replicate blocks 512) block)) (unmovable block));
+      without_unmovable = λ block. ap (λ s. set.contains s block) without_none ∙ set.contains-empty nat_cmp block
+          ∙ sym (ap (λ u. takes_another u (slice_index (replicate blocks 512) block)) (unmovable block) ∙ item_or_none 512 blocks block (takes_another 0) refl refl);
+    }
+
+-- a group after one pageblock changed
+member : (takes : ℕ → ℕ → Bool) (c d : ℕ → Bool) (u v f g : ℕ → ℕ) (block unmovable : ℕ) → v block ≡ unmovable → ((n : ℕ) → c n ≡ takes (u n) (f n)) → ((n : ℕ) → d n ≡ (if nat_eq n block then takes unmovable (g block) else c n))
+    → ((n : ℕ) → n ≢ block → v n ≡ u n) → ((n : ℕ) → n ≢ block → g n ≡ f n) → (n : ℕ) → d n ≡ takes (v n) (g n)
+member takes c d u v f g block unmovable is before after same_u same_f n = after n ∙ elim (eqb_tells n block) [
+  | inl at ↦ (taken (nat_eq n block) (takes unmovable (g block)) (c n) (eq-eqb n block at.1) ∙ ap (λ k. takes k (g block)) (sym is) ∙ ap (λ k. takes (v k) (g k)) (sym at.1))
+  | inr away ↦ (skipped (nat_eq n block) (takes unmovable (g block)) (c n) (ne_eqb n block away.1) ∙ before n ∙ (λ i. takes (sym (same_u n away.1) i) (sym (same_f n away.1) i)))
+]
+
+-- the groups stay those that the numbers make through a change of one pageblock
+pub regrouped : (before after : BlockGroups) (free now : List ℕ) (block unmovable : ℕ) → IsGrouped before free → IsRegrouped before after block unmovable (slice_index now block) → length now ≡ length free → slice_index after.unmovable.items block ≡ unmovable
+    → ((n : ℕ) → n ≢ block → slice_index now n ≡ slice_index free n) → ((n : ℕ) → n ≢ block → slice_index after.unmovable.items n ≡ slice_index before.unmovable.items n) → IsGrouped after now
+regrouped before after free now block unmovable grouped step long is same_free same_unmovable =
+    let room = step.room (length free) grouped.room in
+    record {
+      room = record { unmovable = room.unmovable ∙ sym long; with_unmovable = omega (arith, long, room.with_unmovable); without_unmovable = omega (arith, long, room.without_unmovable) };
+      with_unmovable = member takes_unmovable (set.contains before.with_unmovable.members) (set.contains after.with_unmovable.members) (slice_index before.unmovable.items) (slice_index after.unmovable.items) (slice_index free) (slice_index now) block unmovable is
+          grouped.with_unmovable step.with_unmovable same_unmovable same_free;
+      without_unmovable = member takes_another (set.contains before.without_unmovable.members) (set.contains after.without_unmovable.members) (slice_index before.unmovable.items) (slice_index after.unmovable.items) (slice_index free) (slice_index now) block unmovable is
+          grouped.without_unmovable step.without_unmovable same_unmovable same_free;
+    }
