@@ -74,7 +74,7 @@ some_upto : (p : ℕ → Bool) (n : ℕ) → 0 < count_below p n → (k : ℕ) �
 some_upto p zero some = absurd (omega arith)
 some_upto p (suc n) some = by_last p n (p n) refl some (some_upto p n)
 
-some_from : (p : ℕ → Bool) (first n : ℕ) → 0 < count_from p first n → (k : ℕ) × (first ≤ k) × (k < first + n) × (p k ≡ true)
+pub some_from : (p : ℕ → Bool) (first n : ℕ) → 0 < count_from p first n → (k : ℕ) × (first ≤ k) × (k < first + n) × (p k ≡ true)
 unfolding count_from
 some_from p first n some = let found = some_upto (λ k. p (first + k)) n some in (first + found.0, omega arith, omega (arith, found.1), found.2)
 

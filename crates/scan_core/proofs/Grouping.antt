@@ -3,11 +3,13 @@ use Rattle.std.proofs.Common.{◌≡◌, ◌≢◌, ℕ, ◌<◌, ◌≤◌, Boo
 use Rattle.std.specs.Prelude.{nat_eq, nat_lt, ◌&&◌, if◌then◌else◌}
 use Rattle.std.specs.FinSet as set
 use Rattle.std.specs.Ordering.{nat_cmp}
+use Rattle.std.proofs.Math.Bool.{and-false}
 use Rattle.std.proofs.lemmas.Bool.{ne_eqb}
 use Rattle.std.proofs.lemmas.Bool.Decides.{eqb_tells, leb_tells}
 use Rattle.std.proofs.lemmas.List.{get_or_past, length-replicate}
 use Rattle.scan_core.specs.BlockGroups.{HasRoom, IsGrouped, IsRegrouped, takes_another, takes_unmovable}
 use Rattle.scan_core.specs.declared.block_groups.BlockGroups.{BlockGroups}
+use Rattle.scan_core.proofs.Masking.{clash}
 use Rattle.scan_core.proofs.Seeing.{skipped, taken}
 use Rattle.scan_core.proofs.Tallying.{item_of}
 
@@ -58,3 +60,20 @@ regrouped before after free now block unmovable grouped step long is same_free s
       without_unmovable = member takes_another (set.contains before.without_unmovable.members) (set.contains after.without_unmovable.members) (slice_index before.unmovable.items) (slice_index after.unmovable.items) (slice_index free) (slice_index now) block unmovable is
           grouped.without_unmovable step.without_unmovable same_unmovable same_free;
     }
+
+-- a pageblock with no free frame is in no group, and none past the last one is
+none_free : (takes : ℕ → ℕ → Bool) (unmovable : ℕ) (free : List ℕ) (block : ℕ) → takes unmovable 0 ≡ false → takes unmovable (slice_index free block) ≡ true → block < length free
+none_free takes unmovable free block fails e = elim (leb_tells (length free) block) [
+  | inl past ↦ absurd (clash _ e (ap (takes unmovable) (get_or_past free block 0 past.1) ∙ fails))
+  | inr under ↦ under.1
+]
+
+no_free : (unmovable : ℕ) → (takes_unmovable unmovable 0 ≡ false) × (takes_another unmovable 0 ≡ false)
+no_free unmovable = (and-false (nat_lt 0 unmovable), and-false (nat_eq unmovable 0))
+
+pub member_low : (groups : BlockGroups) (free : List ℕ) → IsGrouped groups free → (block : ℕ) → (set.contains groups.with_unmovable.members block ≡ true → block < length free) × (set.contains groups.without_unmovable.members block ≡ true → block < length free)
+member_low groups free grouped block =
+    let unmovable = slice_index groups.unmovable.items block in (
+      λ e. none_free takes_unmovable unmovable free block (no_free unmovable).0 (sym (grouped.with_unmovable block) ∙ e),
+      λ e. none_free takes_another unmovable free block (no_free unmovable).1 (sym (grouped.without_unmovable block) ∙ e),
+    )

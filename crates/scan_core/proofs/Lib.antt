@@ -1,3 +1,4 @@
+pub mod Choosing
 pub mod CountedRuns
 pub mod Counting
 pub mod Found

@@ -1,5 +1,5 @@
 -- Counts of frames, one for each pageblock.
-use Rattle.std.specs.Prelude.{◌≡◌, ℕ, ◌+◌, ◌-◌, ◌*◌, ◌<◌, Bool, true, false, List, length, nat_eq, nat_lt, slice_get, slice_index, slice_set, Some, if◌then◌else◌}
+use Rattle.std.specs.Prelude.{◌≡◌, ℕ, ◌+◌, ◌-◌, ◌*◌, ◌<◌, ◌≤◌, Bool, true, false, List, length, nat_eq, nat_lt, slice_get, slice_index, slice_set, Some, if◌then◌else◌}
 use Rattle.frame_core.specs.Below.{count_from}
 use Rattle.scan_core.specs.Frames.{true_at}
 
@@ -36,3 +36,9 @@ abbrev pub recounted : Bool → Bool → List ℕ → ℕ → List ℕ
 recounted false true counts block = with_more counts block 1
 recounted true false counts block = with_fewer counts block 1
 recounted _ _ counts block = counts
+
+-- the lowest pageblock with the most counted frames
+pub record IsFullest (counts : List ℕ) (blocks block : ℕ) : Type 0 where
+  pub within : block < blocks
+  pub most : (other : ℕ) → other < blocks → slice_index counts other ≤ slice_index counts block
+  pub lowest : (other : ℕ) → other < block → slice_index counts other < slice_index counts block

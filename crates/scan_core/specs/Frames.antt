@@ -4,16 +4,18 @@ use Rattle.frame_core.specs.Below.{count_below, count_from}
 use Rattle.frame_core.specs.declared.state.FrameState.{FrameState}
 use Rattle.frame_core.specs.declared.state.FrameState.TheVariants.{Free, Holds, Huge, Source, Target}
 
--- the frames of a zone, in two lists with a place for each frame
+-- the frames of a zone, in two lists with a place for each frame, and a list with a place for each pageblock
 pub record Frames : Type 0 where
   -- what each frame is used for
   pub states : List (FrameState ℕ)
   -- whether the page that a frame holds may be taken from it
   pub movable : List Bool
+  -- how many unmovable pages each pageblock has
+  pub unmovable : List ℕ
 
 -- a zone of this many pageblocks in which each frame is free
 abbrev pub all_free : ℕ → Frames
-all_free blocks = record { states = replicate (512 * blocks) Free; movable = replicate (512 * blocks) false }
+all_free blocks = record { states = replicate (512 * blocks) Free; movable = replicate (512 * blocks) false; unmovable = replicate blocks 0 }
 
 -- whether there is a frame, and it is free
 abbrev pub is_free_state : Option (FrameState ℕ) → Bool

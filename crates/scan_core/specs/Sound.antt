@@ -7,9 +7,9 @@ use Rattle.scan_core.specs.Frames.{Frames, blocks_of, free_at, huge_at, source_a
 use Rattle.scan_core.specs.Seen.{seen}
 use Rattle.scan_core.specs.declared.frames.Frames.TheInside.{Inside}
 
--- the two lists that contracts see
+-- the lists that contracts see
 abbrev pub frames_of : Inside → Frames
-frames_of z = record { states = seen z.held.members z.kept.items; movable = z.movable.items }
+frames_of z = record { states = seen z.held.members z.kept.items; movable = z.movable.items; unmovable = z.free.unmovable }
 
 -- there are whole pageblocks, each frame of which has a number, and the sets and counts have the frames that they should
 pub record IsSound (z : Inside) : Type 0 where

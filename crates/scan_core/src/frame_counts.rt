@@ -3,7 +3,7 @@
 ghost use Rattle.std.specs.Prelude.{◌≡◌, ◌+◌, ◌<◌, ◌≤◌, ◌&&◌, not, length, replicate, slice_index, IfOk};
 ghost use Rattle.frame_core.specs.Below.{count_below, some_below, sum_below};
 ghost use Rattle.scan_core.specs.Frames.{true_at};
-ghost use Rattle.scan_core.specs.FrameCounts.{is_all_counted, is_some_counted, unmarked_count, with_fewer, with_more};
+ghost use Rattle.scan_core.specs.FrameCounts.{is_all_counted, is_some_counted, unmarked_count, with_fewer, with_more, IsFullest};
 
 use crate::marks::Marks;
 use frame_core::FixedVec;
@@ -178,5 +178,19 @@ impl FrameCounts {
         ensures { result ≡ count_below (is_all_counted self.now) (length self.now) }
     {
         self.whole
+    }
+
+    /// The pageblock with the most counted frames, the lowest of equals. It looks at the count of each pageblock.
+    pub(crate) fn fullest(&self) -> u32
+        requires { 0 < length self.now }
+        ensures { IsFullest self.now (length self.now) result }
+    {
+        let mut fullest = 0;
+        for block in 1..self.len() {
+            if self.get(block) > self.get(fullest) {
+                fullest = block;
+            }
+        }
+        fullest
     }
 }

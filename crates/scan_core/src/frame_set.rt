@@ -1,13 +1,17 @@
 //! A set of frames with counts of them.
 
-ghost use Rattle.std.specs.Prelude.{◌≡◌, ℕ, ◌+◌, ◌*◌, ◌/◌, ◌^◌, ◌<◌, ◌≤◌, ◌&&◌, ◌||◌, not, true, false, length, nat_lt, IfOk, IfSome};
+ghost use Rattle.std.specs.Prelude.{◌≡◌, ℕ, ◌+◌, ◌*◌, ◌/◌, ◌^◌, ◌<◌, ◌≤◌, ◌&&◌, ◌||◌, not, true, false, length, nat_lt, replicate, slice_index, IfOk, IfSome, MatchOption};
 ghost use Rattle.std.specs.FinSet as set;
 ghost use Rattle.frame_core.specs.Below.{count_below, count_from, highest, lowest};
 ghost use Rattle.frame_core.specs.Order.{is_aligned};
+ghost use Rattle.number_set.specs.Finds.{IsFrom, NoneFrom};
+ghost use Rattle.scan_core.specs.Apart.{frame_with_unmovable, frame_without_unmovable};
+ghost use Rattle.scan_core.specs.FrameCounts.{with_fewer, with_more};
 ghost use Rattle.scan_core.specs.FrameSet.{all_of_block, is_run_of};
 ghost use Rattle.scan_core.specs.NumberSet.{in_run};
 ghost use Rattle.scan_core.specs.Pairs.{is_marked};
 
+use crate::block_groups::BlockGroups;
 use crate::frame_counts::FrameCounts;
 use crate::marks::Marks;
 use crate::whole_runs::WholeRuns;
@@ -16,21 +20,23 @@ use number_set::NumberSet;
 use std::alloc::{AllocError, Global};
 use std::marker::Model;
 
-/// A set of frames, how many frames it has in all and in each pageblock, and the blocks of each order that it has whole.
+/// A set of frames that are free, how many frames it has in all and in each pageblock, and the blocks of each order that it has whole.
+/// It knows how many unmovable pages each pageblock has, too.
 #[derive(Drop)]
 pub(crate) struct FrameSet {
     numbers: NumberSet,
     count: u32,
     blocks: FrameCounts,
     runs: WholeRuns,
+    groups: BlockGroups,
 }
 
 impl Model for FrameSet {
-    ghost use Rattle.number_set.specs.Numbers.{Numbers, coded_numbers};
+    ghost use Rattle.scan_core.specs.FrameSet.{FrameNumbers, coded_frame_numbers};
 
-    ghost Value = { Numbers };
+    ghost Value = { FrameNumbers };
 
-    ghost coded = { coded_numbers };
+    ghost coded = { coded_frame_numbers };
 
     ghost use Rattle.scan_core.specs.FrameSetInside.{frames_in, IsCounted};
 
@@ -46,16 +52,19 @@ impl FrameSet {
         requires room { 512 * blocks ≤ 16777216 }
         ensures members { IfOk result (λ s. (frame : ℕ) → set.contains s.members frame ≡ nat_lt frame (512 * blocks)) }
         ensures bound { IfOk result (λ s. s.bound ≡ 512 * blocks) }
+        ensures unmovable { IfOk result (λ s. s.unmovable ≡ replicate blocks 0) }
     {
         let count = 512 * blocks;
         let numbers = NumberSet::filled(alloc, count)?;
         let runs = WholeRuns::full(alloc, blocks)?;
+        let groups = BlockGroups::open(alloc, blocks)?;
         let blocks = FrameCounts::full(alloc, blocks)?;
         Ok(FrameSet {
             numbers,
             count,
             blocks,
             runs,
+            groups,
         })
     }
 
@@ -87,6 +96,8 @@ impl FrameSet {
         self.count += 1;
         self.blocks.more(frame.get() / 512, 1);
         self.runs.insert_frame(&self.numbers, frame.get());
+        let block = frame.get() / 512;
+        self.groups.regroup(block, self.blocks.get(block));
     }
 
     /// Takes out a frame that is a member.
@@ -99,6 +110,8 @@ impl FrameSet {
         self.numbers.remove(frame.get());
         self.count -= 1;
         self.blocks.fewer(frame.get() / 512, 1);
+        let block = frame.get() / 512;
+        self.groups.regroup(block, self.blocks.get(block));
     }
 
     /// Puts in the frames of a block of this order, none of which is a member.
@@ -108,12 +121,15 @@ impl FrameSet {
         requires none { (frame : ℕ) → in_run first (2 ^ order) frame ≡ true → set.contains self.old.members frame ≡ false }
         ensures members { (frame : ℕ) → set.contains self.new.members frame ≡ (in_run first (2 ^ order) frame || set.contains self.old.members frame) }
         ensures bound { self.new.bound ≡ self.old.bound }
+        ensures unmovable { self.new.unmovable ≡ self.old.unmovable }
     {
         let frames = order.frames();
         self.numbers.insert_run(first.get(), order.get());
         self.count += frames;
         self.blocks.more(first.get() / 512, frames);
         self.runs.insert(first.get(), order.get());
+        let block = first.get() / 512;
+        self.groups.regroup(block, self.blocks.get(block));
     }
 
     /// Takes out the frames of a block of this order, all of which are members.
@@ -123,12 +139,35 @@ impl FrameSet {
         requires all { (frame : ℕ) → in_run first (2 ^ order) frame ≡ true → set.contains self.old.members frame ≡ true }
         ensures members { (frame : ℕ) → set.contains self.new.members frame ≡ (not (in_run first (2 ^ order) frame) && set.contains self.old.members frame) }
         ensures bound { self.new.bound ≡ self.old.bound }
+        ensures unmovable { self.new.unmovable ≡ self.old.unmovable }
     {
         let frames = order.frames();
         self.numbers.remove_run(first.get(), order.get());
         self.count -= frames;
         self.blocks.fewer(first.get() / 512, frames);
         self.runs.remove(first.get(), order.get());
+        let block = first.get() / 512;
+        self.groups.regroup(block, self.blocks.get(block));
+    }
+
+    /// The pageblock of a frame has one unmovable page more.
+    pub(crate) fn add_unmovable(&mut self, frame: FrameNo)
+        requires within { frame < self.old.bound }
+        requires few { slice_index self.old.unmovable (frame / 512) < 16777216 }
+        ensures { self.new ≡ record self.old { unmovable = with_more self.old.unmovable (frame / 512) 1 } }
+    {
+        let block = frame.get() / 512;
+        self.groups.add_page(block, self.blocks.get(block));
+    }
+
+    /// The pageblock of a frame has one unmovable page less.
+    pub(crate) fn remove_unmovable(&mut self, frame: FrameNo)
+        requires within { frame < self.old.bound }
+        requires some { 0 < slice_index self.old.unmovable (frame / 512) }
+        ensures { self.new ≡ record self.old { unmovable = with_fewer self.old.unmovable (frame / 512) 1 } }
+    {
+        let block = frame.get() / 512;
+        self.groups.remove_page(block, self.blocks.get(block));
     }
 
     /// How many frames the set has.
@@ -200,5 +239,36 @@ impl FrameSet {
             Some(order) => self.runs.count(order),
             None => self.numbers.count_runs(order),
         }
+    }
+
+    /// The lowest frame of the set in a pageblock with an unmovable page, if there is one, and else in the pageblock with the most frames in
+    /// the set. Only for this it looks at the count of each pageblock.
+    pub(crate) fn lowest_with_unmovable(&self) -> Option<FrameNo>
+        ensures lowest { result ≡ frame_with_unmovable (set.contains self.now.members) self.now.unmovable self.now.bound }
+        ensures member { IfSome result (λ frame. set.contains self.now.members frame ≡ true) }
+    {
+        match self.groups.with_unmovable.first() {
+            Some(block) => self.lowest_from(block),
+            None => self.lowest_from(self.blocks.fullest()),
+        }
+    }
+
+    /// The lowest frame of the set in a pageblock without an unmovable page that isn't whole, if there is one, and else the lowest of all.
+    pub(crate) fn lowest_without_unmovable(&self) -> Option<FrameNo>
+        ensures lowest { result ≡ frame_without_unmovable (set.contains self.now.members) self.now.unmovable self.now.bound }
+        ensures member { IfSome result (λ frame. set.contains self.now.members frame ≡ true) }
+    {
+        match self.groups.without_unmovable.first() {
+            Some(block) => self.lowest_from(block),
+            None => self.lowest(),
+        }
+    }
+
+    /// The lowest frame of the set from a pageblock on, if there is one.
+    fn lowest_from(&self, block: u32) -> Option<FrameNo>
+        requires { 512 * block < self.now.bound }
+        ensures { MatchOption result (NoneFrom (set.contains self.now.members) (512 * block)) (IsFrom (set.contains self.now.members) (512 * block)) }
+    {
+        FrameNo::in_any_zone(self.numbers.at_or_after(512 * block)?)
     }
 }

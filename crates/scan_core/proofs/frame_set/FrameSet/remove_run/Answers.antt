@@ -1,7 +1,7 @@
-use Rattle.std.proofs.Common.{ℕ, subst, ◌<◌, ◌≤◌, ◌+◌, ◌*◌, ◌%◌, ◌^◌, length, ap, sym, ◌∙◌, arith}
+use Rattle.std.proofs.Common.{◌/◌, ℕ, subst, ◌<◌, ◌≤◌, ◌+◌, ◌*◌, ◌%◌, ◌^◌, length, ap, sym, ◌∙◌, arith}
 use Rattle.std.specs.Prelude.{not, ◌&&◌}
 use Rattle.std.specs.FinSet as set
-use Rattle.number_set.specs.Numbers.{Numbers}
+use Rattle.scan_core.specs.FrameSet.{FrameNumbers}
 use Rattle.frame_core.specs.Order.{is_aligned}
 use Rattle.scan_core.specs.NumberSet.{in_run}
 use Rattle.scan_core.specs.WholeRuns.{Empties}
@@ -17,26 +17,26 @@ remove_run-requires c =
     record {
       order = c.get-2.ensures.high;
       aligned = (λ i. c.get.ensures.value i % count i) ∙ no_rest c.args.order c.frames-frames.ensures.low c.frames-frames.ensures.high c.args.first c.requires.aligned;
-      within = omega (arith, count, c.get.ensures.value, c.requires.within, ap (λ (s : Numbers). s.bound) c.self.view_is, c.self.invariant.room);
+      within = omega (arith, count, c.get.ensures.value, c.requires.within, ap (λ (s : FrameNumbers). s.bound) c.self.view_is, c.self.invariant.room);
     }
 
 pub overflow_sub-self : goal.overflow_sub-self
 overflow_sub-self c =
-    let low : c.args.first < 512 * length c.self.inside.blocks = omega (arith, ap (λ (s : Numbers). s.bound) c.self.view_is, c.requires.within, some_frames c.args.order c.frames-frames.ensures.low c.frames-frames.ensures.high) in
+    let low : c.args.first < 512 * length c.self.inside.blocks = omega (arith, ap (λ (s : FrameNumbers). s.bound) c.self.view_is, c.requires.within, some_frames c.args.order c.frames-frames.ensures.low c.frames-frames.ensures.high) in
     let within : c.args.first % 512 + c.frames-frames.result ≤ 512 = omega (arith, c.frames-frames.ensures.value, one_block c.args.order c.frames-frames.ensures.low c.frames-frames.ensures.high c.args.first c.requires.aligned) in
     let count = ap (λ o. 2 ^ o) c.get-2.ensures.value ∙ sym c.frames-frames.ensures.value in
     let adds = removes_run c.self.inside.numbers.members c.remove_run.new.self.members c.args.first c.get.result c.frames-frames.result c.get.ensures.value
-    (λ k e. ap (λ (s : Numbers). set.contains s.members k) c.self.view_is ∙ c.requires.all k (ap (λ m. in_run c.args.first m k) (sym c.frames-frames.ensures.value) ∙ e))
+    (λ k e. ap (λ (s : FrameNumbers). set.contains s.members k) c.self.view_is ∙ c.requires.all k (ap (λ m. in_run c.args.first m k) (sym c.frames-frames.ensures.value) ∙ e))
     (λ k. c.remove_run.ensures.run k ∙ ap (λ m. not (in_run c.get.result m k) && set.contains c.self.inside.numbers.members k) count) in
     fewer_has c.self.inside c.self.invariant c.remove_run.new.self c.args.first c.get.result c.frames-frames.result low within c.get.ensures.value adds
 
 pub fewer-requires-clause-counted : goal.fewer-requires-clause-counted
 fewer-requires-clause-counted c =
-    let low : c.args.first < 512 * length c.self.inside.blocks = omega (arith, ap (λ (s : Numbers). s.bound) c.self.view_is, c.requires.within, some_frames c.args.order c.frames-frames.ensures.low c.frames-frames.ensures.high) in
+    let low : c.args.first < 512 * length c.self.inside.blocks = omega (arith, ap (λ (s : FrameNumbers). s.bound) c.self.view_is, c.requires.within, some_frames c.args.order c.frames-frames.ensures.low c.frames-frames.ensures.high) in
     let within : c.args.first % 512 + c.frames-frames.result ≤ 512 = omega (arith, c.frames-frames.ensures.value, one_block c.args.order c.frames-frames.ensures.low c.frames-frames.ensures.high c.args.first c.requires.aligned) in
     let count = ap (λ o. 2 ^ o) c.get-2.ensures.value ∙ sym c.frames-frames.ensures.value in
     let adds = removes_run c.self.inside.numbers.members c.remove_run.new.self.members c.args.first c.get.result c.frames-frames.result c.get.ensures.value
-    (λ k e. ap (λ (s : Numbers). set.contains s.members k) c.self.view_is ∙ c.requires.all k (ap (λ m. in_run c.args.first m k) (sym c.frames-frames.ensures.value) ∙ e))
+    (λ k e. ap (λ (s : FrameNumbers). set.contains s.members k) c.self.view_is ∙ c.requires.all k (ap (λ m. in_run c.args.first m k) (sym c.frames-frames.ensures.value) ∙ e))
     (λ k. c.remove_run.ensures.run k ∙ ap (λ m. not (in_run c.get.result m k) && set.contains c.self.inside.numbers.members k) count) in
     fewer_room c.self.inside c.self.invariant c.remove_run.new.self c.args.first c.get-3.result c.frames-frames.result low within c.get-3.ensures.value adds
 
@@ -46,18 +46,19 @@ remove-requires c =
       «open» = c.self.invariant.runs_open;
       order = (omega (arith, c.get-5.ensures.low), c.get-5.ensures.high);
       aligned = (λ i. is_aligned (c.get-5.ensures.value i) (c.get-4.ensures.value i)) ∙ c.requires.aligned;
-      within = omega (arith, c.get-4.ensures.value, c.requires.within, some_frames c.args.order c.frames-frames.ensures.low c.frames-frames.ensures.high, ap (λ (s : Numbers). s.bound) c.self.view_is, c.self.invariant.runs_blocks);
+      within = omega (arith, c.get-4.ensures.value, c.requires.within, some_frames c.args.order c.frames-frames.ensures.low c.frames-frames.ensures.high, ap (λ (s : FrameNumbers). s.bound) c.self.view_is, c.self.invariant.runs_blocks);
     }
 
 pub invariant_of-self : goal.invariant_of-self
 invariant_of-self c =
-    let low : c.args.first < 512 * length c.self.inside.blocks = omega (arith, ap (λ (s : Numbers). s.bound) c.self.view_is, c.requires.within, some_frames c.args.order c.frames-frames.ensures.low c.frames-frames.ensures.high) in
+    let low : c.args.first < 512 * length c.self.inside.blocks = omega (arith, ap (λ (s : FrameNumbers). s.bound) c.self.view_is, c.requires.within, some_frames c.args.order c.frames-frames.ensures.low c.frames-frames.ensures.high) in
     let within : c.args.first % 512 + c.frames-frames.result ≤ 512 = omega (arith, c.frames-frames.ensures.value, one_block c.args.order c.frames-frames.ensures.low c.frames-frames.ensures.high c.args.first c.requires.aligned) in
     let count = ap (λ o. 2 ^ o) c.get-2.ensures.value ∙ sym c.frames-frames.ensures.value in
     let adds = removes_run c.self.inside.numbers.members c.remove_run.new.self.members c.args.first c.get.result c.frames-frames.result c.get.ensures.value
-    (λ k e. ap (λ (s : Numbers). set.contains s.members k) c.self.view_is ∙ c.requires.all k (ap (λ m. in_run c.args.first m k) (sym c.frames-frames.ensures.value) ∙ e))
+    (λ k e. ap (λ (s : FrameNumbers). set.contains s.members k) c.self.view_is ∙ c.requires.all k (ap (λ m. in_run c.args.first m k) (sym c.frames-frames.ensures.value) ∙ e))
     (λ k. c.remove_run.ensures.run k ∙ ap (λ m. not (in_run c.get.result m k) && set.contains c.self.inside.numbers.members k) count) in
     set_fewer c.self.inside c.self.invariant c.remove_run.new.self c.args.first c.get-3.result c.frames-frames.result low within c.get-3.ensures.value adds c.fewer.new.self c.remove_run.ensures.bound c.fewer.ensures c.remove.new.self c.remove.ensures.open c.remove.ensures.blocks
     (c.remove.ensures.whole (set.contains c.self.inside.numbers.members) (set.contains c.remove_run.new.self.members) c.self.invariant.runs
     (subst (λ (f : ℕ). Empties (set.contains c.self.inside.numbers.members) (set.contains c.remove_run.new.self.members) f (2 ^ c.get-5.result)) (sym c.get-4.ensures.value) (subst (λ (o : ℕ). Empties (set.contains c.self.inside.numbers.members) (set.contains c.remove_run.new.self.members) c.args.first (2 ^ o)) (sym c.get-5.ensures.value)
-    (run_went (set.contains c.self.inside.numbers.members) (set.contains c.remove_run.new.self.members) c.args.first c.args.order (λ k inside. ap (λ (s : Numbers). set.contains s.members k) c.self.view_is ∙ c.requires.all k inside) (λ k. c.remove_run.ensures.run k ∙ (λ i. not (in_run (c.get.ensures.value i) (2 ^ c.get-2.ensures.value i) k) && set.contains c.self.inside.numbers.members k))))))
+    (run_went (set.contains c.self.inside.numbers.members) (set.contains c.remove_run.new.self.members) c.args.first c.args.order (λ k inside. ap (λ (s : FrameNumbers). set.contains s.members k) c.self.view_is ∙ c.requires.all k inside) (λ k. c.remove_run.ensures.run k ∙ (λ i. not (in_run (c.get.ensures.value i) (2 ^ c.get-2.ensures.value i) k) && set.contains c.self.inside.numbers.members k))))))
+    c.regroup.new.self (c.get-block.result / 512) c.get-6.result (ap (λ n. n / 512) c.get-block.ensures.value) (record { count = c.get-6.ensures.count; unmovable = c.regroup.ensures.unmovable; regrouped = c.regroup.ensures.regrouped })
