@@ -10,6 +10,7 @@ use Rattle.frame_core.specs.Below.{count_below, count_from, highest, lowest, som
 use Rattle.frame_core.specs.Order.{is_aligned}
 use Rattle.frame_core.specs.declared.state.FrameState.{FrameState}
 use Rattle.frame_core.proofs.Searches.{count_same, lowest_same}
+use Rattle.scan_core.specs.Apart.{frame_with_unmovable, frame_without_unmovable}
 use Rattle.scan_core.specs.FrameSet.{all_of_block, is_run_of}
 use Rattle.scan_core.specs.Frames.{Frames, blocks_of, free_at, free_frames, is_whole, source_at, stuck_at, true_at}
 use Rattle.scan_core.specs.NumberSet.{all_from}
@@ -82,8 +83,11 @@ module _ (z : Inside) (sound : IsSound z) where
   pub lowest_counted : lowest (set.contains z.free.members) z.free.bound ≡ lowest (free_at (seen z.held.members z.kept.items)) (length (seen z.held.members z.kept.items))
   lowest_counted = λ i. lowest (free_is i) (bound_is i)
 
-  pub highest_counted : highest (set.contains z.free.members) z.free.bound ≡ highest (free_at (seen z.held.members z.kept.items)) (length (seen z.held.members z.kept.items))
-  highest_counted = λ i. highest (free_is i) (bound_is i)
+  pub with_unmovable_found : frame_with_unmovable (set.contains z.free.members) z.free.unmovable z.free.bound ≡ frame_with_unmovable (free_at (seen z.held.members z.kept.items)) z.free.unmovable (length (seen z.held.members z.kept.items))
+  with_unmovable_found = λ i. frame_with_unmovable (free_is i) z.free.unmovable (bound_is i)
+
+  pub without_unmovable_found : frame_without_unmovable (set.contains z.free.members) z.free.unmovable z.free.bound ≡ frame_without_unmovable (free_at (seen z.held.members z.kept.items)) z.free.unmovable (length (seen z.held.members z.kept.items))
+  without_unmovable_found = λ i. frame_without_unmovable (free_is i) z.free.unmovable (bound_is i)
 
   pub whole_by_set : count_below (all_of_block (set.contains z.free.members)) (z.free.bound / 512) ≡ count_below (is_whole (seen z.held.members z.kept.items)) (blocks_of (seen z.held.members z.kept.items))
   whole_by_set = λ i. count_below (all_of_block (free_is i)) (bound_is i / 512)

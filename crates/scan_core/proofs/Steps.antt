@@ -14,6 +14,7 @@ use Rattle.frame_core.proofs.Lists.{slice_get_set_same, slice_get_set_other, sli
 use Rattle.frame_core.specs.Order.{is_aligned}
 use Rattle.number_set.specs.Numbers.{Numbers}
 use Rattle.scan_core.specs.FrameCounts.{CountsEach, recounted, with_fewer, with_more}
+use Rattle.scan_core.specs.FrameSet.{FrameNumbers}
 use Rattle.scan_core.specs.Frames.{Frames, free_at, holds_at, huge_at, source_at, stuck_at, true_at, way_at, is_stuck_state, is_free_state, is_holding_state, is_huge_state, is_source_state, is_way_state}
 use Rattle.scan_core.specs.NumberSet.{all_from, in_run}
 use Rattle.scan_core.specs.Runs.{has_block, is_run, with_run}
@@ -125,7 +126,7 @@ module _ (z : Inside) (sound : IsSound z) where
   frame_block frame within = omega (arith, sound.stuck_blocks, sound.whole, within)
 
   -- one frame, which isn't of a block that is handed out, is used for something else
-  pub sound_put : (kept : FixedVec (FrameState ℕ)) (movable : FixedVec Bool) (free sources : Numbers) (stuck : List ℕ) (frame index : ℕ) (state : FrameState ℕ) (flag was : Bool) → huge_at (seen z.held.members z.kept.items) frame ≡ false → is_huge_state (Some state) ≡ false → frame < length z.kept.items → index ≡ frame → kept.items ≡ slice_set z.kept.items index state → movable.items ≡ slice_set z.movable.items index flag → ((n : ℕ) → set.contains free.members n ≡ (if nat_eq n frame then is_free_state (Some state) else set.contains z.free.members n)) → free.bound ≡ z.free.bound → ((n : ℕ) → set.contains sources.members n ≡ (if nat_eq n frame then is_source_state (Some state) flag else set.contains z.candidates.sources.members n)) → sources.bound ≡ z.candidates.sources.bound → stuck_at (seen z.held.members z.kept.items) z.movable.items frame ≡ was → stuck ≡ recounted was (is_stuck_state (Some state) flag) z.candidates.stuck (frame / 512) → IsSound (record z { kept = kept; movable = movable; free = free; candidates = record { sources = sources; stuck = stuck } }) × (seen z.held.members kept.items ≡ slice_set (seen z.held.members z.kept.items) frame state)
+  pub sound_put : (kept : FixedVec (FrameState ℕ)) (movable : FixedVec Bool) (free : FrameNumbers) (sources : Numbers) (stuck : List ℕ) (frame index : ℕ) (state : FrameState ℕ) (flag was : Bool) → huge_at (seen z.held.members z.kept.items) frame ≡ false → is_huge_state (Some state) ≡ false → frame < length z.kept.items → index ≡ frame → kept.items ≡ slice_set z.kept.items index state → movable.items ≡ slice_set z.movable.items index flag → ((n : ℕ) → set.contains free.members n ≡ (if nat_eq n frame then is_free_state (Some state) else set.contains z.free.members n)) → free.bound ≡ z.free.bound → ((n : ℕ) → set.contains sources.members n ≡ (if nat_eq n frame then is_source_state (Some state) flag else set.contains z.candidates.sources.members n)) → sources.bound ≡ z.candidates.sources.bound → stuck_at (seen z.held.members z.kept.items) z.movable.items frame ≡ was → stuck ≡ recounted was (is_stuck_state (Some state) flag) z.candidates.stuck (frame / 512) → IsSound (record z { kept = kept; movable = movable; free = free; candidates = record { sources = sources; stuck = stuck } }) × (seen z.held.members kept.items ≡ slice_set (seen z.held.members z.kept.items) frame state)
   sound_put kept movable free sources stuck frame index state flag was known not_huge within at items flags free_put free_same sources_put sources_same was_is recounts =
       let states = seen z.held.members z.kept.items in
       let list : kept.items ≡ slice_set z.kept.items frame state = items ∙ ap (λ k. slice_set z.kept.items k state) at in
@@ -165,7 +166,7 @@ module _ (z : Inside) (sound : IsSound z) where
       )
 
   -- the frames of a free run are handed out
-  pub sound_held : (held free : Numbers) (stuck : List ℕ) (first count : ℕ) → first + count ≤ length z.kept.items → first % 512 + count ≤ 512 → 0 < count → ((n : ℕ) → in_run first count n ≡ true → free_at (seen z.held.members z.kept.items) n ≡ true) → ((n : ℕ) → set.contains held.members n ≡ (in_run first count n || set.contains z.held.members n)) → held.bound ≡ z.held.bound → ((n : ℕ) → set.contains free.members n ≡ (not (in_run first count n) && set.contains z.free.members n)) → free.bound ≡ z.free.bound → stuck ≡ with_more z.candidates.stuck (first / 512) count → IsSound (record z { held = held; free = free; candidates = record z.candidates { stuck = stuck } }) × (seen held.members z.kept.items ≡ with_run (seen z.held.members z.kept.items) first count Huge)
+  pub sound_held : (held : Numbers) (free : FrameNumbers) (stuck : List ℕ) (first count : ℕ) → first + count ≤ length z.kept.items → first % 512 + count ≤ 512 → 0 < count → ((n : ℕ) → in_run first count n ≡ true → free_at (seen z.held.members z.kept.items) n ≡ true) → ((n : ℕ) → set.contains held.members n ≡ (in_run first count n || set.contains z.held.members n)) → held.bound ≡ z.held.bound → ((n : ℕ) → set.contains free.members n ≡ (not (in_run first count n) && set.contains z.free.members n)) → free.bound ≡ z.free.bound → stuck ≡ with_more z.candidates.stuck (first / 512) count → IsSound (record z { held = held; free = free; candidates = record z.candidates { stuck = stuck } }) × (seen held.members z.kept.items ≡ with_run (seen z.held.members z.kept.items) first count Huge)
   sound_held held free stuck first count within one some all held_each held_same free_each free_same recounts =
       let states = seen z.held.members z.kept.items in
       let view = seen_held (set.contains z.held.members) (set.contains held.members) z.kept.items first count within held_each in
@@ -207,7 +208,7 @@ module _ (z : Inside) (sound : IsSound z) where
   is_held n e = huge_held (set.contains z.held.members n) (slice_get z.kept.items n) (sound.never_huge n) (ap is_huge_state (sym (seen_get (set.contains z.held.members) z.kept.items n)) ∙ e)
 
   -- the frames of a block that was handed out are free again
-  pub sound_released : (held free : Numbers) (stuck : List ℕ) (first count : ℕ) → first + count ≤ length z.kept.items → first % 512 + count ≤ 512 → 0 < count → ((n : ℕ) → in_run first count n ≡ true → huge_at (seen z.held.members z.kept.items) n ≡ true) → ((n : ℕ) → set.contains held.members n ≡ (not (in_run first count n) && set.contains z.held.members n)) → held.bound ≡ z.held.bound → ((n : ℕ) → set.contains free.members n ≡ (in_run first count n || set.contains z.free.members n)) → free.bound ≡ z.free.bound → stuck ≡ with_fewer z.candidates.stuck (first / 512) count → IsSound (record z { held = held; free = free; candidates = record z.candidates { stuck = stuck } }) × (seen held.members z.kept.items ≡ with_run (seen z.held.members z.kept.items) first count Free)
+  pub sound_released : (held : Numbers) (free : FrameNumbers) (stuck : List ℕ) (first count : ℕ) → first + count ≤ length z.kept.items → first % 512 + count ≤ 512 → 0 < count → ((n : ℕ) → in_run first count n ≡ true → huge_at (seen z.held.members z.kept.items) n ≡ true) → ((n : ℕ) → set.contains held.members n ≡ (not (in_run first count n) && set.contains z.held.members n)) → held.bound ≡ z.held.bound → ((n : ℕ) → set.contains free.members n ≡ (in_run first count n || set.contains z.free.members n)) → free.bound ≡ z.free.bound → stuck ≡ with_fewer z.candidates.stuck (first / 512) count → IsSound (record z { held = held; free = free; candidates = record z.candidates { stuck = stuck } }) × (seen held.members z.kept.items ≡ with_run (seen z.held.members z.kept.items) first count Free)
   sound_released held free stuck first count within one some all held_each held_same free_each free_same recounts =
       let states = seen z.held.members z.kept.items in
       let view = seen_released (set.contains z.held.members) (set.contains held.members) z.kept.items first count within held_each (λ n inside. sound.held n (is_held n (all n inside))) in
@@ -350,18 +351,18 @@ module _ {now : Frames} (z : Inside) (sound : IsSound z) (view : frames_of z ≡
   pub flag_is : (index : ℕ) (read : Bool) → index ≡ frame → frame < length z.kept.items → read ≡ get_or z.movable.items index read → read ≡ flag
   flag_is index read at within is = is ∙ ap (λ k. get_or z.movable.items k read) at ∙ sym (ap (λ o. unwrap_or o false) (slice_get-get_or z.movable.items frame read (frame_flag z sound frame within)))
 
-  free_inserted : (free : Numbers) → free ≡ record z.free { members = set.insert z.free.members frame } → (n : ℕ) → set.contains free.members n ≡ (if nat_eq n frame then true else set.contains z.free.members n)
-  free_inserted free now n = ap (λ (s : Numbers). set.contains s.members n) now ∙ member_insert z.free.members frame n ∙ insert_if (nat_eq n frame) (set.contains z.free.members n) true refl
+  free_inserted : (members : set.FinSet nat_cmp) → members ≡ set.insert z.free.members frame → (n : ℕ) → set.contains members n ≡ (if nat_eq n frame then true else set.contains z.free.members n)
+  free_inserted members now n = ap (λ s. set.contains s n) now ∙ member_insert z.free.members frame n ∙ insert_if (nat_eq n frame) (set.contains z.free.members n) true refl
 
-  free_removed : (free : Numbers) → free ≡ record z.free { members = set.remove z.free.members frame } → (n : ℕ) → set.contains free.members n ≡ (if nat_eq n frame then false else set.contains z.free.members n)
-  free_removed free now n = ap (λ (s : Numbers). set.contains s.members n) now ∙ member_remove z.free.members frame n ∙ remove_if (nat_eq n frame) (set.contains z.free.members n) false refl
+  free_removed : (members : set.FinSet nat_cmp) → members ≡ set.remove z.free.members frame → (n : ℕ) → set.contains members n ≡ (if nat_eq n frame then false else set.contains z.free.members n)
+  free_removed members now n = ap (λ s. set.contains s n) now ∙ member_remove z.free.members frame n ∙ remove_if (nat_eq n frame) (set.contains z.free.members n) false refl
 
   -- the fields are sound after a frame was given a state, and the states are seen with it
-  abbrev pub IsPut : FixedVec (FrameState ℕ) → FixedVec Bool → Numbers → Numbers → List ℕ → FrameState ℕ → Type 0
+  abbrev pub IsPut : FixedVec (FrameState ℕ) → FixedVec Bool → FrameNumbers → Numbers → List ℕ → FrameState ℕ → Type 0
   IsPut kept movable free sources stuck state = IsSound (record z { kept = kept; movable = movable; free = free; candidates = record { sources = sources; stuck = stuck } }) × (seen z.held.members kept.items ≡ slice_set now.states frame state)
 
   module _ (index : ℕ) (at : index ≡ frame) where
-    put : (kept : FixedVec (FrameState ℕ)) (movable : FixedVec Bool) (free sources : Numbers) (stuck : List ℕ) (state : FrameState ℕ) (said was_stuck : Bool) → huge_at (seen z.held.members z.kept.items) frame ≡ false → is_huge_state (Some state) ≡ false → frame < length z.kept.items → kept.items ≡ slice_set z.kept.items index state → movable.items ≡ slice_set z.movable.items index said → ((n : ℕ) → set.contains free.members n ≡ (if nat_eq n frame then is_free_state (Some state) else set.contains z.free.members n)) → free.bound ≡ z.free.bound → ((n : ℕ) → set.contains sources.members n ≡ (if nat_eq n frame then is_source_state (Some state) said else set.contains z.candidates.sources.members n)) → sources.bound ≡ z.candidates.sources.bound → stuck_at (seen z.held.members z.kept.items) z.movable.items frame ≡ was_stuck → stuck ≡ recounted was_stuck (is_stuck_state (Some state) said) z.candidates.stuck (frame / 512) → IsPut kept movable free sources stuck state
+    put : (kept : FixedVec (FrameState ℕ)) (movable : FixedVec Bool) (free : FrameNumbers) (sources : Numbers) (stuck : List ℕ) (state : FrameState ℕ) (said was_stuck : Bool) → huge_at (seen z.held.members z.kept.items) frame ≡ false → is_huge_state (Some state) ≡ false → frame < length z.kept.items → kept.items ≡ slice_set z.kept.items index state → movable.items ≡ slice_set z.movable.items index said → ((n : ℕ) → set.contains free.members n ≡ (if nat_eq n frame then is_free_state (Some state) else set.contains z.free.members n)) → free.bound ≡ z.free.bound → ((n : ℕ) → set.contains sources.members n ≡ (if nat_eq n frame then is_source_state (Some state) said else set.contains z.candidates.sources.members n)) → sources.bound ≡ z.candidates.sources.bound → stuck_at (seen z.held.members z.kept.items) z.movable.items frame ≡ was_stuck → stuck ≡ recounted was_stuck (is_stuck_state (Some state) said) z.candidates.stuck (frame / 512) → IsPut kept movable free sources stuck state
     put kept movable free sources stuck state said was_stuck known not_huge within items flags free_put free_same sources_put sources_same was_is recounts =
         let done = sound_put z sound kept movable free sources stuck frame index state said was_stuck known not_huge within at items flags free_put free_same sources_put sources_same was_is recounts in
         (done.0, done.1 ∙ ap (λ (frames : Frames). slice_set frames.states frame state) view)
@@ -370,9 +371,9 @@ module _ {now : Frames} (z : Inside) (sound : IsSound z) (view : frames_of z ≡
     flag_stays within = set_same z.movable.items frame flag (frame_flag z sound frame within) (flag_read within) ∙ ap (λ k. slice_set z.movable.items k flag) (sym at)
 
     -- a page is put into a free frame
-    pub sound_filled : (kept : FixedVec (FrameState ℕ)) (movable : FixedVec Bool) (free sources : Numbers) (stuck : List ℕ) (page : ℕ) (said : Bool) → free_at now.states frame ≡ true → kept.items ≡ slice_set z.kept.items index (Holds page) → movable.items ≡ slice_set z.movable.items index said → free ≡ record z.free { members = set.remove z.free.members frame } → ((n : ℕ) → set.contains sources.members n ≡ (if nat_eq n frame then said else set.contains z.candidates.sources.members n)) → sources.bound ≡ z.candidates.sources.bound → stuck ≡ recounted false (not said) z.candidates.stuck (frame / 512) → IsPut kept movable free sources stuck (Holds page)
-    sound_filled kept movable free sources stuck page said is_free items flags removed sources_put sources_same recounts =
-        put kept movable free sources stuck (Holds page) said false (free_not_huge was (seen_test is_free_state is_free)) refl (is_within is_free_state refl is_free) items flags (free_removed free removed) (ap (λ (s : Numbers). s.bound) removed) sources_put sources_same (free_isnt_stuck is_free) recounts
+    pub sound_filled : (kept : FixedVec (FrameState ℕ)) (movable : FixedVec Bool) (free : FrameNumbers) (sources : Numbers) (stuck : List ℕ) (page : ℕ) (said : Bool) → free_at now.states frame ≡ true → kept.items ≡ slice_set z.kept.items index (Holds page) → movable.items ≡ slice_set z.movable.items index said → free.members ≡ set.remove z.free.members frame → free.bound ≡ z.free.bound → ((n : ℕ) → set.contains sources.members n ≡ (if nat_eq n frame then said else set.contains z.candidates.sources.members n)) → sources.bound ≡ z.candidates.sources.bound → stuck ≡ recounted false (not said) z.candidates.stuck (frame / 512) → IsPut kept movable free sources stuck (Holds page)
+    sound_filled kept movable free sources stuck page said is_free items flags removed free_same sources_put sources_same recounts =
+        put kept movable free sources stuck (Holds page) said false (free_not_huge was (seen_test is_free_state is_free)) refl (is_within is_free_state refl is_free) items flags (free_removed free.members removed) free_same sources_put sources_same (free_isnt_stuck is_free) recounts
 
     -- a page's move ends in one of its two frames
     pub sound_settled : (kept : FixedVec (FrameState ℕ)) (movable : FixedVec Bool) (sources : Numbers) (stuck : List ℕ) (page : ℕ) (said : Bool) → way_at now.states frame ≡ true → kept.items ≡ slice_set z.kept.items index (Holds page) → movable.items ≡ slice_set z.movable.items index said → ((n : ℕ) → set.contains sources.members n ≡ (if nat_eq n frame then said else set.contains z.candidates.sources.members n)) → sources.bound ≡ z.candidates.sources.bound → stuck ≡ recounted false (not said) z.candidates.stuck (frame / 512) → IsPut kept movable z.free sources stuck (Holds page)
@@ -380,9 +381,9 @@ module _ {now : Frames} (z : Inside) (sound : IsSound z) (view : frames_of z ≡
         put kept movable z.free sources stuck (Holds page) said false (way_only was flag (seen_test is_way_state way)).0 refl (is_within is_way_state refl way) items flags (λ n. keep_if n frame (set.contains z.free.members) false (way_isnt_free way)) refl sources_put sources_same (way_isnt_stuck way) recounts
 
     -- the page of a frame goes out of use, and the frame is free
-    pub sound_emptied : (kept : FixedVec (FrameState ℕ)) (free sources : Numbers) (stuck : List ℕ) (read : Bool) → holds_at now.states frame ≡ true → kept.items ≡ slice_set z.kept.items index Free → free ≡ record z.free { members = set.insert z.free.members frame } → read ≡ flag → ((n : ℕ) → set.contains sources.members n ≡ (if nat_eq n frame then false else set.contains z.candidates.sources.members n)) → sources.bound ≡ z.candidates.sources.bound → stuck ≡ recounted (not read) false z.candidates.stuck (frame / 512) → IsPut kept z.movable free sources stuck Free
-    sound_emptied kept free sources stuck read page items inserted is_flag sources_put sources_same recounts =
-        put kept z.movable free sources stuck Free flag (not read) (page_only was (seen_test is_holding_state page)).0 refl (is_within is_holding_state refl page) items (flag_stays (is_within is_holding_state refl page)) (free_inserted free inserted) (ap (λ (s : Numbers). s.bound) inserted) sources_put sources_same (page_is_stuck page ∙ ap not (sym is_flag)) recounts
+    pub sound_emptied : (kept : FixedVec (FrameState ℕ)) (free : FrameNumbers) (sources : Numbers) (stuck : List ℕ) (read : Bool) → holds_at now.states frame ≡ true → kept.items ≡ slice_set z.kept.items index Free → free.members ≡ set.insert z.free.members frame → free.bound ≡ z.free.bound → read ≡ flag → ((n : ℕ) → set.contains sources.members n ≡ (if nat_eq n frame then false else set.contains z.candidates.sources.members n)) → sources.bound ≡ z.candidates.sources.bound → stuck ≡ recounted (not read) false z.candidates.stuck (frame / 512) → IsPut kept z.movable free sources stuck Free
+    sound_emptied kept free sources stuck read page items inserted free_same is_flag sources_put sources_same recounts =
+        put kept z.movable free sources stuck Free flag (not read) (page_only was (seen_test is_holding_state page)).0 refl (is_within is_holding_state refl page) items (flag_stays (is_within is_holding_state refl page)) (free_inserted free.members inserted) free_same sources_put sources_same (page_is_stuck page ∙ ap not (sym is_flag)) recounts
 
     -- a frame with a movable page becomes a source
     pub sound_to_source : (kept : FixedVec (FrameState ℕ)) (sources : Numbers) (page_number : ℕ) → holds_at now.states frame ≡ true → true_at now.movable frame ≡ true → kept.items ≡ slice_set z.kept.items index (Source page_number) → sources ≡ record z.candidates.sources { members = set.remove z.candidates.sources.members frame } → IsPut kept z.movable z.free sources z.candidates.stuck (Source page_number)
@@ -395,19 +396,19 @@ module _ {now : Frames} (z : Inside) (sound : IsSound z) (view : frames_of z ≡
         (ap (λ (s : Numbers). s.bound) removed) (page_is_stuck page ∙ ap not is_movable) refl
 
     -- a free frame becomes a target
-    pub sound_to_target : (kept : FixedVec (FrameState ℕ)) (free : Numbers) (page_number : ℕ) → free_at now.states frame ≡ true → kept.items ≡ slice_set z.kept.items index (Target page_number) → free ≡ record z.free { members = set.remove z.free.members frame } → IsPut kept z.movable free z.candidates.sources z.candidates.stuck (Target page_number)
+    pub sound_to_target : (kept : FixedVec (FrameState ℕ)) (free : FrameNumbers) (page_number : ℕ) → free_at now.states frame ≡ true → kept.items ≡ slice_set z.kept.items index (Target page_number) → free ≡ record z.free { members = set.remove z.free.members frame } → IsPut kept z.movable free z.candidates.sources z.candidates.stuck (Target page_number)
     sound_to_target kept free page_number is_free items removed =
         let within = is_within is_free_state refl is_free in
         put kept z.movable free z.candidates.sources z.candidates.stuck (Target page_number) flag false (free_not_huge was (seen_test is_free_state is_free)) refl within items (flag_stays within)
-        (free_removed free removed) (ap (λ (s : Numbers). s.bound) removed)
+        (free_removed free.members (ap (λ (s : FrameNumbers). s.members) removed)) (ap (λ (s : FrameNumbers). s.bound) removed)
         (λ n. keep_if n frame (set.contains z.candidates.sources.members) false (free_isnt_source is_free)) refl (free_isnt_stuck is_free) refl
 
     -- the other frame of a page whose move ends is free
-    pub sound_left : (kept : FixedVec (FrameState ℕ)) (free : Numbers) → way_at now.states frame ≡ true → kept.items ≡ slice_set z.kept.items index Free → free ≡ record z.free { members = set.insert z.free.members frame } → IsPut kept z.movable free z.candidates.sources z.candidates.stuck Free
+    pub sound_left : (kept : FixedVec (FrameState ℕ)) (free : FrameNumbers) → way_at now.states frame ≡ true → kept.items ≡ slice_set z.kept.items index Free → free ≡ record z.free { members = set.insert z.free.members frame } → IsPut kept z.movable free z.candidates.sources z.candidates.stuck Free
     sound_left kept free way items inserted =
         let within = is_within is_way_state refl way in
         put kept z.movable free z.candidates.sources z.candidates.stuck Free flag false (way_only was flag (seen_test is_way_state way)).0 refl within items (flag_stays within)
-        (free_inserted free inserted) (ap (λ (s : Numbers). s.bound) inserted)
+        (free_inserted free.members (ap (λ (s : FrameNumbers). s.members) inserted)) (ap (λ (s : FrameNumbers). s.bound) inserted)
         (λ n. keep_if n frame (set.contains z.candidates.sources.members) false (way_isnt_source way)) refl (way_isnt_stuck way) refl
 
     -- it is noted of a page that stays in its frame whether it may be taken from it
@@ -422,11 +423,11 @@ module _ {now : Frames} (z : Inside) (sound : IsSound z) (view : frames_of z ≡
         (λ n. keep_if n frame (set.contains z.free.members) false (page_isnt_free page)) refl sources_put sources_same (page_is_stuck page) recounts).0
 
   -- a set of numbers after the run of the frame alone came into it or went out of it
-  one_in : (numbers new : Numbers) → new ≡ record numbers { members = set.insert numbers.members frame } → (n : ℕ) → set.contains new.members n ≡ (in_run frame 1 n || set.contains numbers.members n)
-  one_in numbers new inserted n = ap (λ (s : Numbers). set.contains s.members n) inserted ∙ member_insert numbers.members frame n ∙ ap (λ b. b || set.contains numbers.members n) (sym (run_of_one frame n))
+  one_in : (members new : set.FinSet nat_cmp) → new ≡ set.insert members frame → (n : ℕ) → set.contains new n ≡ (in_run frame 1 n || set.contains members n)
+  one_in members new inserted n = ap (λ s. set.contains s n) inserted ∙ member_insert members frame n ∙ ap (λ b. b || set.contains members n) (sym (run_of_one frame n))
 
-  one_out : (numbers new : Numbers) → new ≡ record numbers { members = set.remove numbers.members frame } → (n : ℕ) → set.contains new.members n ≡ (not (in_run frame 1 n) && set.contains numbers.members n)
-  one_out numbers new removed n = ap (λ (s : Numbers). set.contains s.members n) removed ∙ member_remove numbers.members frame n ∙ ap (λ b. not b && set.contains numbers.members n) (sym (run_of_one frame n))
+  one_out : (members new : set.FinSet nat_cmp) → new ≡ set.remove members frame → (n : ℕ) → set.contains new n ≡ (not (in_run frame 1 n) && set.contains members n)
+  one_out members new removed n = ap (λ s. set.contains s n) removed ∙ member_remove members frame n ∙ ap (λ b. not b && set.contains members n) (sym (run_of_one frame n))
 
   -- what is known of the frame holds in the run of it alone
   in_one : (f : Option (FrameState ℕ) → Bool) → f (slice_get now.states frame) ≡ true → (n : ℕ) → in_run frame 1 n ≡ true → f (slice_get (seen z.held.members z.kept.items) n) ≡ true
@@ -436,21 +437,21 @@ module _ {now : Frames} (z : Inside) (sound : IsSound z) (view : frames_of z ≡
   one_seen_as states state is = is ∙ with_run_of_one (seen z.held.members z.kept.items) frame state ∙ ap (λ (frames : Frames). slice_set frames.states frame state) view
 
   -- the fields are sound after the frame was held or released, and it is seen so
-  abbrev pub IsHeld : Numbers → Numbers → List ℕ → FrameState ℕ → Type 0
+  abbrev pub IsHeld : Numbers → FrameNumbers → List ℕ → FrameState ℕ → Type 0
   IsHeld held free stuck state = IsSound (record z { held = held; free = free; candidates = record z.candidates { stuck = stuck } }) × (seen held.members z.kept.items ≡ slice_set now.states frame state)
 
   -- a free frame is held
-  pub frame_held : (held free : Numbers) (stuck : List ℕ) → free_at now.states frame ≡ true → held ≡ record z.held { members = set.insert z.held.members frame } → free ≡ record z.free { members = set.remove z.free.members frame } → stuck ≡ with_more z.candidates.stuck (frame / 512) 1 → IsHeld held free stuck Huge
+  pub frame_held : (held : Numbers) (free : FrameNumbers) (stuck : List ℕ) → free_at now.states frame ≡ true → held ≡ record z.held { members = set.insert z.held.members frame } → free ≡ record z.free { members = set.remove z.free.members frame } → stuck ≡ with_more z.candidates.stuck (frame / 512) 1 → IsHeld held free stuck Huge
   frame_held held free stuck is_free inserted removed recounts =
       let within = is_within is_free_state refl is_free in
-      let next = sound_held z sound held free stuck frame 1 (omega (arith, within)) (omega arith) (omega arith) (in_one is_free_state is_free) (one_in z.held held inserted) (ap (λ (s : Numbers). s.bound) inserted) (one_out z.free free removed) (ap (λ (s : Numbers). s.bound) removed) recounts in
+      let next = sound_held z sound held free stuck frame 1 (omega (arith, within)) (omega arith) (omega arith) (in_one is_free_state is_free) (one_in z.held.members held.members (ap (λ (s : Numbers). s.members) inserted)) (ap (λ (s : Numbers). s.bound) inserted) (one_out z.free.members free.members (ap (λ (s : FrameNumbers). s.members) removed)) (ap (λ (s : FrameNumbers). s.bound) removed) recounts in
       (next.0, one_seen_as (seen held.members z.kept.items) Huge next.1)
 
   -- a frame that is held is free again
-  pub frame_released : (held free : Numbers) (stuck : List ℕ) → huge_at now.states frame ≡ true → held ≡ record z.held { members = set.remove z.held.members frame } → free ≡ record z.free { members = set.insert z.free.members frame } → stuck ≡ with_fewer z.candidates.stuck (frame / 512) 1 → IsHeld held free stuck Free
+  pub frame_released : (held : Numbers) (free : FrameNumbers) (stuck : List ℕ) → huge_at now.states frame ≡ true → held ≡ record z.held { members = set.remove z.held.members frame } → free ≡ record z.free { members = set.insert z.free.members frame } → stuck ≡ with_fewer z.candidates.stuck (frame / 512) 1 → IsHeld held free stuck Free
   frame_released held free stuck is_huge removed inserted recounts =
       let within = is_within is_huge_state refl is_huge in
-      let next = sound_released z sound held free stuck frame 1 (omega (arith, within)) (omega arith) (omega arith) (in_one is_huge_state is_huge) (one_out z.held held removed) (ap (λ (s : Numbers). s.bound) removed) (one_in z.free free inserted) (ap (λ (s : Numbers). s.bound) inserted) recounts in
+      let next = sound_released z sound held free stuck frame 1 (omega (arith, within)) (omega arith) (omega arith) (in_one is_huge_state is_huge) (one_out z.held.members held.members (ap (λ (s : Numbers). s.members) removed)) (ap (λ (s : Numbers). s.bound) removed) (one_in z.free.members free.members (ap (λ (s : FrameNumbers). s.members) inserted)) (ap (λ (s : FrameNumbers). s.bound) inserted) recounts in
       (next.0, one_seen_as (seen held.members z.kept.items) Free next.1)
 
 -- the frames of a block are handed out or taken back
@@ -489,12 +490,12 @@ module _ {now : Frames} (z : Inside) (sound : IsSound z) (view : frames_of z ≡
         (λ n inside. huge_stuck (slice_get states n) (true_at z.movable.items n) (seen_test z sound view n is_huge_state (all_pass (huge_at now.states) first (2 ^ order) huge n inside))) (λ n. refl))
         z.candidates.stuck (run_counted here) sound.stuck
 
-    pub block_held : (held free : Numbers) (stuck : List ℕ) → is_run now.states order first ≡ true → ((n : ℕ) → set.contains held.members n ≡ (in_run first (2 ^ order) n || set.contains z.held.members n)) → held.bound ≡ z.held.bound → ((n : ℕ) → set.contains free.members n ≡ (not (in_run first (2 ^ order) n) && set.contains z.free.members n)) → free.bound ≡ z.free.bound → stuck ≡ with_more z.candidates.stuck (first / 512) (2 ^ order) → IsSound (record z { held = held; free = free; candidates = record z.candidates { stuck = stuck } }) × (seen held.members z.kept.items ≡ with_run now.states first (2 ^ order) Huge)
+    pub block_held : (held : Numbers) (free : FrameNumbers) (stuck : List ℕ) → is_run now.states order first ≡ true → ((n : ℕ) → set.contains held.members n ≡ (in_run first (2 ^ order) n || set.contains z.held.members n)) → held.bound ≡ z.held.bound → ((n : ℕ) → set.contains free.members n ≡ (not (in_run first (2 ^ order) n) && set.contains z.free.members n)) → free.bound ≡ z.free.bound → stuck ≡ with_more z.candidates.stuck (first / 512) (2 ^ order) → IsSound (record z { held = held; free = free; candidates = record z.candidates { stuck = stuck } }) × (seen held.members z.kept.items ≡ with_run now.states first (2 ^ order) Huge)
     block_held held free stuck run held_each held_same free_each free_same recounts =
         let next = sound_held z sound held free stuck first (2 ^ order) (block_within (run_block run)) (one_block order low high first (block_aligned (run_block run))) (some_frames order low high) (λ n inside. seen_test z sound view n is_free_state (run_free run n inside)) held_each held_same free_each free_same recounts in
         (next.0, next.1 ∙ ap (λ (frames : Frames). with_run frames.states first (2 ^ order) Huge) view)
 
-    pub block_released : (held free : Numbers) (stuck : List ℕ) → has_block now.states order first ≡ true → all_from (huge_at now.states) first (2 ^ order) ≡ true → ((n : ℕ) → set.contains held.members n ≡ (not (in_run first (2 ^ order) n) && set.contains z.held.members n)) → held.bound ≡ z.held.bound → ((n : ℕ) → set.contains free.members n ≡ (in_run first (2 ^ order) n || set.contains z.free.members n)) → free.bound ≡ z.free.bound → stuck ≡ with_fewer z.candidates.stuck (first / 512) (2 ^ order) → IsSound (record z { held = held; free = free; candidates = record z.candidates { stuck = stuck } }) × (seen held.members z.kept.items ≡ with_run now.states first (2 ^ order) Free)
+    pub block_released : (held : Numbers) (free : FrameNumbers) (stuck : List ℕ) → has_block now.states order first ≡ true → all_from (huge_at now.states) first (2 ^ order) ≡ true → ((n : ℕ) → set.contains held.members n ≡ (not (in_run first (2 ^ order) n) && set.contains z.held.members n)) → held.bound ≡ z.held.bound → ((n : ℕ) → set.contains free.members n ≡ (in_run first (2 ^ order) n || set.contains z.free.members n)) → free.bound ≡ z.free.bound → stuck ≡ with_fewer z.candidates.stuck (first / 512) (2 ^ order) → IsSound (record z { held = held; free = free; candidates = record z.candidates { stuck = stuck } }) × (seen held.members z.kept.items ≡ with_run now.states first (2 ^ order) Free)
     block_released held free stuck here huge held_each held_same free_each free_same recounts =
         let next = sound_released z sound held free stuck first (2 ^ order) (block_within here) (one_block order low high first (block_aligned here)) (some_frames order low high) (λ n inside. seen_test z sound view n is_huge_state (all_pass (huge_at now.states) first (2 ^ order) huge n inside)) held_each held_same free_each free_same recounts in
         (next.0, next.1 ∙ ap (λ (frames : Frames). with_run frames.states first (2 ^ order) Free) view)

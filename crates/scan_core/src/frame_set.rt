@@ -2,11 +2,11 @@
 
 ghost use Rattle.std.specs.Prelude.{◌≡◌, ℕ, ◌+◌, ◌*◌, ◌/◌, ◌^◌, ◌<◌, ◌≤◌, ◌&&◌, ◌||◌, not, true, false, length, nat_lt, replicate, slice_index, IfOk, IfSome, MatchOption};
 ghost use Rattle.std.specs.FinSet as set;
-ghost use Rattle.frame_core.specs.Below.{count_below, count_from, highest, lowest};
+ghost use Rattle.frame_core.specs.Below.{count_below, count_from, lowest};
 ghost use Rattle.frame_core.specs.Order.{is_aligned};
 ghost use Rattle.number_set.specs.Finds.{IsFrom, NoneFrom};
 ghost use Rattle.scan_core.specs.Apart.{frame_with_unmovable, frame_without_unmovable};
-ghost use Rattle.scan_core.specs.FrameCounts.{with_fewer, with_more};
+ghost use Rattle.scan_core.specs.FrameCounts.{recounted};
 ghost use Rattle.scan_core.specs.FrameSet.{all_of_block, is_run_of};
 ghost use Rattle.scan_core.specs.NumberSet.{in_run};
 ghost use Rattle.scan_core.specs.Pairs.{is_marked};
@@ -150,24 +150,30 @@ impl FrameSet {
         self.groups.regroup(block, self.blocks.get(block));
     }
 
-    /// The pageblock of a frame has one unmovable page more.
-    pub(crate) fn add_unmovable(&mut self, frame: FrameNo)
+    /// A page comes to a frame. The pageblock has an unmovable page more, where it is unmovable.
+    #[inline(always)]
+    pub(crate) fn add_page(&mut self, frame: FrameNo, unmovable: bool)
         requires within { frame < self.old.bound }
-        requires few { slice_index self.old.unmovable (frame / 512) < 16777216 }
-        ensures { self.new ≡ record self.old { unmovable = with_more self.old.unmovable (frame / 512) 1 } }
+        requires few { unmovable ≡ true → slice_index self.old.unmovable (frame / 512) < 16777216 }
+        ensures { self.new ≡ record self.old { unmovable = recounted false unmovable self.old.unmovable (frame / 512) } }
     {
-        let block = frame.get() / 512;
-        self.groups.add_page(block, self.blocks.get(block));
+        if unmovable {
+            let block = frame.get() / 512;
+            self.groups.add_page(block, self.blocks.get(block));
+        }
     }
 
-    /// The pageblock of a frame has one unmovable page less.
-    pub(crate) fn remove_unmovable(&mut self, frame: FrameNo)
+    /// A page goes from a frame. The pageblock has an unmovable page less, where it is unmovable.
+    #[inline(always)]
+    pub(crate) fn remove_page(&mut self, frame: FrameNo, unmovable: bool)
         requires within { frame < self.old.bound }
-        requires some { 0 < slice_index self.old.unmovable (frame / 512) }
-        ensures { self.new ≡ record self.old { unmovable = with_fewer self.old.unmovable (frame / 512) 1 } }
+        requires some { unmovable ≡ true → 0 < slice_index self.old.unmovable (frame / 512) }
+        ensures { self.new ≡ record self.old { unmovable = recounted unmovable false self.old.unmovable (frame / 512) } }
     {
-        let block = frame.get() / 512;
-        self.groups.remove_page(block, self.blocks.get(block));
+        if unmovable {
+            let block = frame.get() / 512;
+            self.groups.remove_page(block, self.blocks.get(block));
+        }
     }
 
     /// How many frames the set has.
@@ -204,14 +210,6 @@ impl FrameSet {
         ensures member { IfSome result (λ frame. set.contains self.now.members frame ≡ true) }
     {
         FrameNo::in_any_zone(self.numbers.first()?)
-    }
-
-    /// The highest frame of the set, if it has one.
-    pub(crate) fn highest(&self) -> Option<FrameNo>
-        ensures highest { result ≡ highest (set.contains self.now.members) self.now.bound }
-        ensures member { IfSome result (λ frame. set.contains self.now.members frame ≡ true) }
-    {
-        FrameNo::in_any_zone(self.numbers.last()?)
     }
 
     /// How many pageblocks have all of their frames in the set.

@@ -1,7 +1,9 @@
-ghost use Rattle.std.specs.Prelude.{◌≡◌, ◌*◌, ◌^◌, ◌<◌, ◌≤◌, ◌&&◌, is_some, length, nat_le, slice_get, slice_set, true, Some, IfOk, IfSome, MatchOption};
+ghost use Rattle.std.specs.Prelude.{◌≡◌, ◌*◌, ◌/◌, ◌^◌, ◌<◌, ◌≤◌, ◌&&◌, false, is_some, length, nat_le, slice_get, slice_index, slice_set, true, Some, IfOk, IfSome, MatchOption};
 ghost use Rattle.frame_core.specs.declared.state.FrameState.TheVariants.{Free, Holds, Huge, Source, Target};
 ghost use Rattle.frame_core.specs.Below.{count_below, count_from, highest, lowest, some_below};
 ghost use Rattle.number_set.specs.Finds.{IsFrom, NoneFrom};
+ghost use Rattle.scan_core.specs.Apart.{frame_apart};
+ghost use Rattle.scan_core.specs.FrameCounts.{recounted};
 ghost use Rattle.scan_core.specs.Frames.{all_free, blocks_of, free_at, free_frames, holds_at, huge_at, is_open_at, is_whole, leaving_at, page_held, source_at, true_at, way_at};
 ghost use Rattle.scan_core.specs.NumberSet.{all_from};
 ghost use Rattle.scan_core.specs.Pairs.{after_step, is_stuck, is_target, next_step, Finds};
@@ -116,29 +118,33 @@ impl Frames {
         self.free.contains(frame)
     }
 
-    /// Puts a page into a free frame. `movable` says whether the page may be taken from it.
+    /// Puts a page into a free frame. `movable` says whether the page may be taken from it, and `unmovable` whether it is an unmovable page.
     #[inline(always)]
-    pub fn fill(&mut self, frame: FrameNo, page: PageNo, movable: bool)
-        requires { free_at self.old.states frame ≡ true }
-        ensures page { self.new ≡ record { states = slice_set self.old.states frame (Holds page); movable = slice_set self.old.movable frame movable } }
+    pub fn fill(&mut self, frame: FrameNo, page: PageNo, movable: bool, unmovable: bool)
+        requires free { free_at self.old.states frame ≡ true }
+        requires few { unmovable ≡ true → slice_index self.old.unmovable (frame / 512) < 16777216 }
+        ensures page { self.new ≡ record { states = slice_set self.old.states frame (Holds page); movable = slice_set self.old.movable frame movable; unmovable = recounted false unmovable self.old.unmovable (frame / 512) } }
         ensures frames { length self.new.states ≡ length self.old.states }
     {
         let index = frame.get() as usize;
         self.free.remove(frame);
+        self.free.add_page(frame, unmovable);
         self.candidates.add(frame, movable);
         self.movable[index] = movable;
         self.kept[index] = KeptState::of(FrameState::Holds(page));
     }
 
-    /// Takes the page of a frame out of use: the frame is free.
+    /// Takes the page of a frame out of use: the frame is free. `unmovable` says whether it is an unmovable page.
     #[inline(always)]
-    pub fn empty(&mut self, frame: FrameNo)
-        requires { holds_at self.old.states frame ≡ true }
-        ensures state { self.new ≡ record self.old { states = slice_set self.old.states frame Free } }
+    pub fn empty(&mut self, frame: FrameNo, unmovable: bool)
+        requires page { holds_at self.old.states frame ≡ true }
+        requires some { unmovable ≡ true → 0 < slice_index self.old.unmovable (frame / 512) }
+        ensures state { self.new ≡ record self.old { states = slice_set self.old.states frame Free; unmovable = recounted unmovable false self.old.unmovable (frame / 512) } }
         ensures frames { length self.new.states ≡ length self.old.states }
     {
         let index = frame.get() as usize;
         self.free.insert(frame);
+        self.free.remove_page(frame, unmovable);
         self.candidates.remove(frame, self.movable[index]);
         self.kept[index] = KeptState::of(FrameState::Free);
     }
@@ -170,7 +176,7 @@ impl Frames {
     #[inline(always)]
     pub fn settle(&mut self, frame: FrameNo, page: PageNo, can_move: bool)
         requires { way_at self.old.states frame ≡ true }
-        ensures page { self.new ≡ record { states = slice_set self.old.states frame (Holds page); movable = slice_set self.old.movable frame can_move } }
+        ensures page { self.new ≡ record { states = slice_set self.old.states frame (Holds page); movable = slice_set self.old.movable frame can_move; unmovable = self.old.unmovable } }
         ensures frames { length self.new.states ≡ length self.old.states }
     {
         let index = frame.get() as usize;
@@ -260,14 +266,17 @@ impl Frames {
         self.free.lowest()
     }
 
-    /// The highest free frame, if there is one.
+    /// The frame for a page that is unmovable or not, where unmovable pages are kept in pageblocks of their own.
     #[inline(never)]
-    pub fn highest_free(&self) -> Option<FrameNo>
-        ensures highest { result ≡ highest (free_at self.now.states) (length self.now.states) }
+    pub fn frame_apart(&self, unmovable: bool) -> Option<FrameNo>
+        ensures frame { result ≡ frame_apart self.now unmovable }
         ensures free { IfSome result (λ frame. free_at self.now.states frame ≡ true) }
         ensures within { IfSome result (λ frame. frame < length self.now.states) }
     {
-        self.free.highest()
+        if unmovable {
+            return self.free.lowest_with_unmovable();
+        }
+        self.free.lowest_without_unmovable()
     }
 
     /// How many pageblocks have only free frames.

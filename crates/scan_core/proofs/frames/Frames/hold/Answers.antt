@@ -1,6 +1,7 @@
 use Rattle.std.proofs.Common.{◌^◌, ◌%◌, ◌/◌, ap, ◌∙◌, slice_index, arith}
 use Rattle.std.specs.Prelude.{◌||◌}
 use Rattle.std.specs.FinSet as set
+use Rattle.scan_core.specs.Frames.{Frames}
 use Rattle.scan_core.specs.FrameCounts.{with_more}
 use Rattle.scan_core.specs.NumberSet.{in_run}
 use Rattle.scan_core.proofs.Orders.{no_rest}
@@ -42,4 +43,4 @@ returns c =
     let states = (step.block_held c.self.inside c.self.invariant c.self.view_is c.args.first c.args.order c.frames.ensures.low c.frames.ensures.high c.insert_run.new.self c.remove_run.new.self c.more.new.self c.requires
     (λ n. c.insert_run.ensures.run n ∙ (λ i. in_run (c.get-2.ensures.value i) (2 ^ c.get-3.ensures.value i) n || set.contains c.self.inside.held.members n)) c.insert_run.ensures.bound c.remove_run.ensures.members c.remove_run.ensures.bound
     (c.more.ensures ∙ (λ i. with_more c.self.inside.candidates.stuck (c.get.ensures.value i / 512) (c.frames.ensures.value i)))).1 in
-    λ i. record { states = states i; movable = (c.self.view_is i).movable }
+    λ i. record { states = states i; movable = (c.self.view_is i).movable; unmovable = (c.remove_run.ensures.unmovable ∙ ap (λ (frames : Frames). frames.unmovable) c.self.view_is) i }

@@ -1,8 +1,9 @@
 use Rattle.std.proofs.Common.{refl, ap, ◌∙◌, ◌/◌, length, length-set, slice_index, arith}
 use Rattle.std.specs.FinSet as set
 use Rattle.frame_core.specs.declared.state.FrameState.TheVariants.{Huge}
+use Rattle.scan_core.specs.FrameSet.{FrameNumbers}
 use Rattle.scan_core.specs.FrameCounts.{with_more}
-use Rattle.scan_core.specs.Frames.{is_free_state}
+use Rattle.scan_core.specs.Frames.{Frames, is_free_state}
 use Rattle.scan_core.proofs.Steps as step
 use Rattle.scan_core.proofs.frames.Frames.hold_frame.Goals as goal
 
@@ -39,6 +40,6 @@ returns c =
     (c.insert.ensures ∙ ap (λ k. record c.self.inside.held { members = set.insert c.self.inside.held.members k }) c.get-2.ensures.value) c.remove.ensures
     (c.more.ensures ∙ ap (λ n. with_more c.self.inside.candidates.stuck (n / 512) 1) c.get.ensures.value)).1 in
     record {
-      state = λ i. record { states = states i; movable = (c.self.view_is i).movable };
+      state = λ i. record { states = states i; movable = (c.self.view_is i).movable; unmovable = (ap (λ (s : FrameNumbers). s.unmovable) c.remove.ensures ∙ ap (λ (frames : Frames). frames.unmovable) c.self.view_is) i };
       frames = ap length states ∙ length-set c.args.self.now.states c.args.frame Huge;
     }

@@ -12,7 +12,7 @@ invariant_of-result c =
 pub returns-clause-open : goal.returns-clause-open
 returns-clause-open c =
     let states = (sound_free (record { kept = c.in_ok-kept.kept; movable = c.in_ok-movable.movable; held = c.in_ok-held.held; free = c.in_ok-free.free; candidates = c.in_ok-candidates.candidates }) c.args.blocks c.requires.some (omega (arith, c.requires.room)) (c.in_ok-kept.ensures.items ∙ ap (replicate (512 * c.args.blocks)) c.of-free.ensures) c.in_ok-movable.ensures.items c.in_ok-held.ensures.empty c.in_ok-held.ensures.enough c.in_ok-free.ensures.members c.in_ok-free.ensures.bound c.in_ok-candidates.ensures.sources c.in_ok-candidates.ensures.room c.in_ok-candidates.ensures.stuck).1 in
-    λ i. record { states = states i; movable = c.in_ok-movable.ensures.items i }
+    λ i. record { states = states i; movable = c.in_ok-movable.ensures.items i; unmovable = c.in_ok-free.ensures.unmovable i }
 
 pub returns-clause-frames : goal.returns-clause-frames
 returns-clause-frames c =

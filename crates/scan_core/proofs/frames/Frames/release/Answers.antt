@@ -2,7 +2,7 @@ use Rattle.std.proofs.Common.{◌^◌, ◌%◌, ◌/◌, ap, ◌∙◌, slice_in
 use Rattle.std.specs.Prelude.{not, ◌&&◌}
 use Rattle.std.specs.FinSet as set
 use Rattle.scan_core.specs.FrameCounts.{with_fewer}
-use Rattle.scan_core.specs.Frames.{huge_at}
+use Rattle.scan_core.specs.Frames.{Frames, huge_at}
 use Rattle.scan_core.specs.NumberSet.{in_run}
 use Rattle.scan_core.proofs.FrameSets.{all_pass}
 use Rattle.scan_core.proofs.Orders.{no_rest}
@@ -44,4 +44,4 @@ returns c =
     let states = (step.block_released c.self.inside c.self.invariant c.self.view_is c.args.first c.args.order c.frames.ensures.low c.frames.ensures.high c.remove_run.new.self c.insert_run.new.self c.fewer.new.self c.requires.block c.requires.huge
     (λ n. c.remove_run.ensures.run n ∙ (λ i. not (in_run (c.get.ensures.value i) (2 ^ c.get-2.ensures.value i) n) && set.contains c.self.inside.held.members n)) c.remove_run.ensures.bound c.insert_run.ensures.members c.insert_run.ensures.bound
     (c.fewer.ensures ∙ (λ i. with_fewer c.self.inside.candidates.stuck (c.get-3.ensures.value i / 512) (c.frames.ensures.value i)))).1 in
-    λ i. record { states = states i; movable = (c.self.view_is i).movable }
+    λ i. record { states = states i; movable = (c.self.view_is i).movable; unmovable = (c.insert_run.ensures.unmovable ∙ ap (λ (frames : Frames). frames.unmovable) c.self.view_is) i }

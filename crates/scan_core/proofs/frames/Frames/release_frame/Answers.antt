@@ -1,8 +1,9 @@
 use Rattle.std.proofs.Common.{refl, ap, ◌∙◌, ◌/◌, length, length-set, slice_index, arith}
 use Rattle.std.specs.FinSet as set
 use Rattle.frame_core.specs.declared.state.FrameState.TheVariants.{Free}
+use Rattle.scan_core.specs.FrameSet.{FrameNumbers}
 use Rattle.scan_core.specs.FrameCounts.{with_fewer}
-use Rattle.scan_core.specs.Frames.{is_huge_state}
+use Rattle.scan_core.specs.Frames.{Frames, is_huge_state}
 use Rattle.scan_core.proofs.Steps as step
 use Rattle.scan_core.proofs.frames.Frames.release_frame.Goals as goal
 
@@ -39,6 +40,6 @@ returns c =
     (c.remove.ensures ∙ ap (λ k. record c.self.inside.held { members = set.remove c.self.inside.held.members k }) c.get.ensures.value) c.insert.ensures
     (c.fewer.ensures ∙ ap (λ n. with_fewer c.self.inside.candidates.stuck (n / 512) 1) c.get-2.ensures.value)).1 in
     record {
-      state = λ i. record { states = states i; movable = (c.self.view_is i).movable };
+      state = λ i. record { states = states i; movable = (c.self.view_is i).movable; unmovable = (ap (λ (s : FrameNumbers). s.unmovable) c.insert.ensures ∙ ap (λ (frames : Frames). frames.unmovable) c.self.view_is) i };
       frames = ap length states ∙ length-set c.args.self.now.states c.args.frame Free;
     }

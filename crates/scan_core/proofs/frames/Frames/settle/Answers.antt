@@ -32,6 +32,6 @@ pub returns : goal.returns
 returns c =
     let states = (step.sound_settled c.self.inside c.self.invariant c.self.view_is c.args.frame c.get-index.result c.get-index.ensures.value (with_item c.self.inside.kept c.get-index.result c.of.result) (with_item c.self.inside.movable c.get-index.result c.args.can_move) c.add.new.self.sources c.add.new.self.stuck c.args.page c.args.can_move c.requires (ap (slice_set c.self.inside.kept.items c.get-index.result) c.of.ensures) refl c.add.ensures.sources c.add.ensures.room c.add.ensures.stuck).1 in
     record {
-      page = λ i. record { states = states i; movable = slice_set (c.self.view_is i).movable (c.get-index.ensures.value i) c.args.can_move };
+      page = λ i. record { states = states i; movable = slice_set (c.self.view_is i).movable (c.get-index.ensures.value i) c.args.can_move; unmovable = (c.self.view_is i).unmovable };
       frames = ap length states ∙ length-set c.args.self.now.states c.args.frame (Holds c.args.page);
     }

@@ -23,6 +23,6 @@ pub returns : goal.returns
 returns c =
     let states = (step.sound_to_source c.self.inside c.self.invariant c.self.view_is c.args.frame c.get-2.result c.get-2.ensures.value (with_item c.self.inside.kept c.get-2.result c.of.result) c.remove.new.self c.args.page c.requires.page c.requires.movable (ap (slice_set c.self.inside.kept.items c.get-2.result) c.of.ensures) (c.remove.ensures ∙ ap (λ k. record c.self.inside.candidates.sources { members = set.remove c.self.inside.candidates.sources.members k }) c.get.ensures.value)).1 in
     record {
-      state = λ i. record { states = states i; movable = (c.self.view_is i).movable };
+      state = λ i. record { states = states i; movable = (c.self.view_is i).movable; unmovable = (c.self.view_is i).unmovable };
       frames = ap length states ∙ length-set c.args.self.now.states c.args.frame (Source c.args.page);
     }

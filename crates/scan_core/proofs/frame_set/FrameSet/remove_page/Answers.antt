@@ -1,7 +1,7 @@
 use Rattle.std.proofs.Common.{◌/◌, ap, arith}
 use Rattle.scan_core.specs.FrameSet.{FrameNumbers}
 use Rattle.scan_core.proofs.SetSteps.{set_paged}
-use Rattle.scan_core.proofs.frame_set.FrameSet.remove_unmovable.Goals as goal
+use Rattle.scan_core.proofs.frame_set.FrameSet.remove_page.Goals as goal
 
 pub invariant_of-self : goal.invariant_of-self
 invariant_of-self c =
