@@ -1,5 +1,5 @@
 -- Which frame the searches by pageblocks find.
-use Rattle.std.proofs.Common.{◌≡◌, ℕ, ◌+◌, ◌*◌, ◌/◌, ◌<◌, ◌≤◌, Bool, true, false, not, List, length, inl, inr, refl, sym, ap, ◌∙◌, slice_index, le-ltb, ltb-true, lt-ltb, arith}
+use Rattle.std.proofs.Common.{◌≡◌, ℕ, ◌*◌, ◌/◌, ◌<◌, ◌≤◌, Bool, true, false, not, List, length, inl, inr, refl, sym, ap, ◌∙◌, slice_index, le-ltb, ltb-true, lt-ltb, arith}
 use Rattle.std.specs.Prelude.{Option, Some, None, MatchOption, nat_eq, nat_lt, ◌&&◌}
 use Rattle.std.specs.FinSet as set
 use Rattle.std.specs.Option.{option_or}
@@ -10,7 +10,7 @@ use Rattle.frame_core.proofs.Searches.{count_from_most, lowest_is, lowest_none, 
 use Rattle.number_set.specs.Finds.{IsFirst, IsFrom, NoneAtAll, NoneFrom}
 use Rattle.scan_core.specs.Apart.{frame_with_unmovable, frame_without_unmovable, has_unmovable, is_emptiest, lowest_where}
 use Rattle.scan_core.specs.BlockGroups.{IsGrouped, takes_another, takes_unmovable}
-use Rattle.scan_core.specs.FrameCounts.{CountsEach, IsFullest, count_in_block}
+use Rattle.scan_core.specs.FrameCounts.{IsFullest, count_in_block}
 use Rattle.scan_core.specs.FrameSet.{Counts, all_of_block}
 use Rattle.scan_core.specs.declared.block_groups.BlockGroups.{BlockGroups}
 use Rattle.scan_core.proofs.FrameSets.{below_bound, some_from}

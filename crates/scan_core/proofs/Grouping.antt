@@ -1,13 +1,13 @@
 -- The groups of pageblocks, as they are opened and after a change of one pageblock.
 use Rattle.std.proofs.Common.{◌≡◌, ◌≢◌, ℕ, ◌<◌, ◌≤◌, Bool, true, false, List, length, inl, inr, refl, sym, ap, ◌∙◌, eq-eqb, replicate, slice_index, arith}
-use Rattle.std.specs.Prelude.{nat_eq, nat_lt, ◌&&◌, if◌then◌else◌}
+use Rattle.std.specs.Prelude.{nat_eq, nat_lt, if◌then◌else◌}
 use Rattle.std.specs.FinSet as set
 use Rattle.std.specs.Ordering.{nat_cmp}
 use Rattle.std.proofs.Math.Bool.{and-false}
 use Rattle.std.proofs.lemmas.Bool.{ne_eqb}
 use Rattle.std.proofs.lemmas.Bool.Decides.{eqb_tells, leb_tells}
 use Rattle.std.proofs.lemmas.List.{get_or_past, length-replicate}
-use Rattle.scan_core.specs.BlockGroups.{HasRoom, IsGrouped, IsRegrouped, takes_another, takes_unmovable}
+use Rattle.scan_core.specs.BlockGroups.{IsGrouped, IsRegrouped, takes_another, takes_unmovable}
 use Rattle.scan_core.specs.declared.block_groups.BlockGroups.{BlockGroups}
 use Rattle.scan_core.proofs.Masking.{clash}
 use Rattle.scan_core.proofs.Seeing.{skipped, taken}

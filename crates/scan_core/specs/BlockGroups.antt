@@ -1,5 +1,5 @@
 -- The pageblocks in groups by their unmovable pages and their free frames.
-use Rattle.std.specs.Prelude.{◌≡◌, ℕ, ◌<◌, ◌≤◌, Bool, ◌&&◌, List, length, nat_eq, nat_lt, slice_index, if◌then◌else◌}
+use Rattle.std.specs.Prelude.{◌≡◌, ℕ, ◌≤◌, Bool, ◌&&◌, List, length, nat_eq, nat_lt, slice_index, if◌then◌else◌}
 use Rattle.std.specs.FinSet as set
 use Rattle.scan_core.specs.declared.block_groups.BlockGroups.{BlockGroups}
 

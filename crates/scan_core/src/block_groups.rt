@@ -51,7 +51,7 @@ impl BlockGroups {
     /// A pageblock has one unmovable page more. This many of its frames are free.
     pub(crate) fn add_page(&mut self, block: u32, free: u32)
         requires room { (blocks : ℕ) × HasRoom self.old blocks × (block < blocks) }
-        requires few { slice_index self.old.unmovable.items block < 16777216 }
+        requires few { slice_index self.old.unmovable.items block ≤ 16777216 }
         ensures unmovable { self.new.unmovable.items ≡ slice_set self.old.unmovable.items block (slice_index self.old.unmovable.items block + 1) }
         ensures regrouped { IsRegrouped self.old self.new block (slice_index self.old.unmovable.items block + 1) free }
     {

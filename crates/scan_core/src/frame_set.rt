@@ -154,7 +154,7 @@ impl FrameSet {
     #[inline(always)]
     pub(crate) fn add_page(&mut self, frame: FrameNo, unmovable: bool)
         requires within { frame < self.old.bound }
-        requires few { unmovable ≡ true → slice_index self.old.unmovable (frame / 512) < 16777216 }
+        requires few { unmovable ≡ true → slice_index self.old.unmovable (frame / 512) ≤ 16777216 }
         ensures { self.new ≡ record self.old { unmovable = recounted false unmovable self.old.unmovable (frame / 512) } }
     {
         if unmovable {

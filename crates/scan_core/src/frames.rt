@@ -122,7 +122,7 @@ impl Frames {
     #[inline(always)]
     pub fn fill(&mut self, frame: FrameNo, page: PageNo, movable: bool, unmovable: bool)
         requires free { free_at self.old.states frame ≡ true }
-        requires few { unmovable ≡ true → slice_index self.old.unmovable (frame / 512) < 16777216 }
+        requires few { unmovable ≡ true → slice_index self.old.unmovable (frame / 512) ≤ 16777216 }
         ensures page { self.new ≡ record { states = slice_set self.old.states frame (Holds page); movable = slice_set self.old.movable frame movable; unmovable = recounted false unmovable self.old.unmovable (frame / 512) } }
         ensures frames { length self.new.states ≡ length self.old.states }
     {

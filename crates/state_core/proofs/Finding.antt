@@ -1,5 +1,5 @@
 -- What a zone's searches for a free frame and for an unused page number find.
-use Rattle.std.proofs.Common.{subst, ◌≡◌, refl, ◌∙◌, ap, sym, false, not, ◌&&◌, if◌then◌else◌, Option, ℕ, zero, suc, ◌+◌, ◌-◌, ◌*◌, ◌/◌, ◌<◌, ◌≤◌, inl, inr, true, arith, Bool, Some, None, IsSome, is_some, is_none, unwrap_or, le-ltb}
+use Rattle.std.proofs.Common.{subst, ◌≡◌, refl, ◌∙◌, ap, sym, false, not, ◌&&◌, if◌then◌else◌, Option, ℕ, zero, suc, ◌+◌, ◌-◌, ◌*◌, ◌/◌, ◌<◌, ◌≤◌, ◌⊎◌, inl, inr, true, arith, Bool, Some, None, IsSome, is_some, is_none, unwrap_or, le-ltb}
 use Rattle.std.specs.Prelude.{nat_lt}
 use Rattle.std.specs.Option.{option_or}
 use Rattle.std.specs.FinMap.{get}
@@ -110,6 +110,36 @@ module _ (v : ZoneState) where
     by false unmovable = lowest_found some
     by true true = let low = lowest_found some in or_found (lowest_free_where v (has_unmovable v)) _ (found_free (has_unmovable v)) (emptiest_found low.0 low.2 low.3)
     by true false = or_found (lowest_free_where v (λ block. not (is_whole v block) && not (has_unmovable v block))) _ (found_free (λ block. not (is_whole v block) && not (has_unmovable v block))) (lowest_found some)
+
+  either : (o r : Option ℕ) (frame : ℕ) → option_or o r ≡ Some frame → (o ≡ Some frame) ⊎ (r ≡ Some frame)
+  either None r frame e = inr e
+  either (Some x) r frame e = inl e
+
+  -- the frame that a page is mapped to is free
+  pub frame_for_is : (unmovable : Bool) (frame : ℕ) → frame_for v unmovable ≡ Some frame → (frame < frame_count v) × (is_free v frame ≡ true)
+  frame_for_is unmovable frame = by v.apart unmovable where
+    low : lowest_free_frame v ≡ Some frame → (frame < frame_count v) × (is_free v frame ≡ true)
+    low e = lowest_some (is_free v) (frame_count v) frame e
+
+    by : (apart unmovable : Bool) → (if not apart then lowest_free_frame v else if unmovable then frame_with_unmovable v else frame_without_unmovable v) ≡ Some frame → (frame < frame_count v) × (is_free v frame ≡ true)
+    by false unmovable e = low e
+    by true true e = elim (either (lowest_free_where v (has_unmovable v)) (lowest_free_where v (is_emptiest v)) frame e) [
+      | inl there ↦ found_free (has_unmovable v) frame there
+      | inr other ↦ found_free (is_emptiest v) frame other
+    ]
+    by true false e = elim (either (lowest_free_where v (λ block. not (is_whole v block) && not (has_unmovable v block))) (lowest_free_frame v) frame e) [
+      | inl there ↦ found_free (λ block. not (is_whole v block) && not (has_unmovable v block)) frame there
+      | inr other ↦ low other
+    ]
+
+  -- a page is mapped to no frame just where none is free
+  pub frame_for_none : (unmovable : Bool) → is_none (frame_for v unmovable) ≡ is_none (lowest_free_frame v)
+  frame_for_none unmovable = by (frame_for v unmovable) (lowest_free_frame v) refl refl where
+    by : (o r : Option ℕ) → frame_for v unmovable ≡ o → lowest_free_frame v ≡ r → is_none (frame_for v unmovable) ≡ is_none (lowest_free_frame v)
+    by None None e f = ap is_none e ∙ sym (ap is_none f)
+    by (Some x) (Some y) e f = ap is_none e ∙ sym (ap is_none f)
+    by (Some x) None e f = let is = frame_for_is unmovable x e in absurd (both_ways _ (no_lowest (is_free v) (frame_count v) x f is.0) is.1)
+    by None (Some y) e f = let found = frame_for_found unmovable (ap is_some f) in let bad : None ≡ Some found.0 = sym e ∙ found.1 in cc
 
 -- where a frame is free, so is the one that a page is mapped to
 pub frame_for_free : (v : ZoneState) (unmovable : Bool) → IsSome (lowest_free_frame v) → (unwrap_or (frame_for v unmovable) 0 < frame_count v) × (is_free v (unwrap_or (frame_for v unmovable) 0) ≡ true)

@@ -1,4 +1,3 @@
-use Rattle.std.proofs.Common.{◌≤◌}
 use Rattle.scan_core.specs.FrameCounts.{IsFullest}
 use Rattle.scan_core.proofs.frame_counts.FrameCounts.fullest.Given as goal
 

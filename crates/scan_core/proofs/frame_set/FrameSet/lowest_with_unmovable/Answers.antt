@@ -1,4 +1,4 @@
-use Rattle.std.proofs.Common.{◌≡◌, ◌<◌, ◌*◌, length, subst, arith}
+use Rattle.std.proofs.Common.{◌≡◌, ◌<◌, ◌*◌, length, subst}
 use Rattle.std.specs.Prelude.{MatchOption}
 use Rattle.std.specs.FinSet as set
 use Rattle.number_set.specs.Finds.{IsFrom, NoneFrom}
