@@ -273,14 +273,14 @@ uint32_t compactd_close(compactd_pool *pool) COMPACTD_NOT_NULL;
 
 /* Pages and addresses. Each call but the first is made for a client. Its number is stored in the record and has no other meaning. */
 
-/* Sets whether compactd_map puts unmovable pages apart from the others: into the highest free frame and not into the lowest. So they
- * gather at the top, and fewer pageblocks below have one. In a pool that was just opened they go to the lowest too. Pages that are mapped
- * already stay. The call is unrecorded.
+/* Sets whether compactd_map puts unmovable pages apart from the others: into a pageblock that has one, and else into the emptiest. Any
+ * other page goes into a pageblock that has none and isn't whole, and else into the lowest free frame. So fewer pageblocks have one. In a
+ * pool that was just opened each page goes into the lowest free frame. Pages that are mapped already stay. The call is unrecorded.
  * Refused: CLOSED. */
 uint32_t compactd_set_apart(compactd_pool *pool, compactd_bool apart) COMPACTD_CALL;
 
-/* Makes an address name a fresh page of zeros, and gets its frame: the lowest free one, or the highest where the page is unmovable and
- * compactd_set_apart says so. No round moves an unmovable page.
+/* Makes an address name a fresh page of zeros, and gets its frame: the lowest free one, or as compactd_set_apart says
+ * where it was called. No round moves an unmovable page.
  * Refused: CLOSED; RANGE, also where the pool doesn't have the address; JOURNAL_FULL; OCCUPIED; NO_FRAME. */
 uint32_t compactd_map(compactd_pool *pool, uint32_t client, uint32_t space, uint32_t vpage, compactd_bool unmovable, uint32_t *frame)
     COMPACTD_CALL;

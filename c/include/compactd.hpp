@@ -295,7 +295,7 @@ public:
         return &handle_->raw;
     }
 
-    // Sets whether map puts unmovable pages apart from the others: into the highest free frame and not into the lowest.
+    // Sets whether map puts unmovable pages apart from the others, into pageblocks of their own.
     void set_apart(bool apart) { detail::done(compactd_set_apart(raw(), apart)); }
 
     std::uint32_t map(std::uint32_t client, Address at, bool unmovable = false)

@@ -787,10 +787,11 @@ static void steps_of_a_journal(uint32_t page_words)
     OK(compactd_close(&pool));
 }
 
-/* An unmovable page goes to the highest free frame where such pages are mapped apart. The others go to the lowest. */
+/* Where unmovable pages are mapped apart, such a page goes to a pageblock that has one, and else to the emptiest. The others go to one that
+ * has none and isn't whole, and else to the lowest free frame. */
 static void unmovable_pages_apart(uint32_t page_words)
 {
-    static const uint32_t wanted[] = {1023, 0, 1022, 1, 2, 3};
+    static const uint32_t wanted[] = {0, 512, 1, 513, 2, 3};
     compactd_pool pool = {0};
     uint32_t at;
 
@@ -802,14 +803,14 @@ static void unmovable_pages_apart(uint32_t page_words)
     for (at = 0; at < 6; at++) {
         if (at == 4)
             OK(compactd_set_apart(&pool, 0));
-        OK(compactd_map(&pool, 0, 0, at, at % 2 == 0, &frame));
+        OK(compactd_map(&pool, 0, 0, at, at % 2 == 1, &frame));
         HOLDS(frame == wanted[at]);
     }
     OK(compactd_set_apart(&pool, 1));
     OK(compactd_map_at(&pool, 0, 0, 6, 1, 5));
     claims(&pool, 1008, 3, 0);
     OK(compactd_map(&pool, 0, 0, 7, 1, &frame));
-    HOLDS(frame == 1021);
+    HOLDS(frame == 4);
     OK(compactd_close(&pool));
 }
 

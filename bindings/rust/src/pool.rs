@@ -148,17 +148,17 @@ impl Pool {
         self.page_size
     }
 
-    /// Sets whether [`Pool::map`] puts unmovable pages apart from the others: into the highest free frame and not into the lowest. So they
-    /// gather at the top, and fewer pageblocks below have one. In a pool that was just opened they go to the lowest too. Pages that are
-    /// mapped already stay.
+    /// Sets whether [`Pool::map`] puts unmovable pages apart from the others: into a pageblock that has one, and else into the emptiest. Any
+    /// other page goes into a pageblock that has none and isn't whole, and else into the lowest free frame. So fewer pageblocks have one.
+    /// In a pool that was just opened each page goes into the lowest free frame. Pages that are mapped already stay.
     ///
     /// ```
     /// # use compactd::{Address, Error, PageSize, Pool};
     /// # fn main() -> Result<(), Error> {
-    /// # let mut pool = Pool::open(PageSize::Bytes64, 1)?;
+    /// # let mut pool = Pool::open(PageSize::Bytes64, 2)?;
     /// pool.set_apart(true);
-    /// assert_eq!(pool.map(0, Address::new(0, 0), true)?, 511);
-    /// assert_eq!(pool.map(0, Address::new(0, 1), false)?, 0);
+    /// assert_eq!(pool.map(0, Address::new(0, 0), false)?, 0);
+    /// assert_eq!(pool.map(0, Address::new(0, 1), true)?, 512);
     /// # Ok(())
     /// # }
     /// ```
@@ -166,8 +166,8 @@ impl Pool {
         is_done(unsafe { raw::compactd_set_apart(&mut self.raw, apart) });
     }
 
-    /// Makes an address name a fresh page of zeros, and returns its frame: the lowest free one, or the highest where the page is unmovable
-    /// and [`Pool::set_apart`] says so. No round moves an unmovable page.
+    /// Makes an address name a fresh page of zeros, and returns its frame: the lowest free one, or as
+    /// [`Pool::set_apart`] says where it was called. No round moves an unmovable page.
     ///
     /// Refused as [`Error::Range`], [`Error::JournalFull`], [`Error::Occupied`] or [`Error::NoFrame`].
     pub fn map(&mut self, client: u32, at: Address, unmovable: bool) -> Result<u32, Error> {

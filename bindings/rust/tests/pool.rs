@@ -196,13 +196,13 @@ fn empties_a_claimed_run_in_steps() {
 
 #[test]
 fn maps_unmovable_pages_apart() {
-    let mut pool = pool();
-    let frames = [(true, true), (true, false), (false, true)].map(|(apart, unmovable)| {
+    let mut pool = Pool::open(PageSize::Bytes64, 2).unwrap();
+    let frames = [(true, false), (true, true), (false, true)].map(|(apart, unmovable)| {
         pool.set_apart(apart);
         let page = pool.info().pages;
         pool.map(0, Address::new(0, page), unmovable)
     });
-    assert_eq!(frames, [Ok(511), Ok(0), Ok(1)]);
+    assert_eq!(frames, [Ok(0), Ok(512), Ok(1)]);
 }
 
 #[test]

@@ -150,7 +150,8 @@ pub extern "C" fn compactd_close(alloc: Global, pool: &mut Pool) -> u32
     }
 }
 
-/// Maps unmovable pages apart from the others from now on, each to the highest free frame; or no longer, as in a pool that was just opened.
+/// Maps unmovable pages apart from the others from now on, in pageblocks of their own as far as there are free frames; or no longer, as in
+/// a pool that was just opened.
 ///
 /// Refused as CLOSED.
 #[unsafe(no_mangle)]
@@ -165,8 +166,8 @@ pub extern "C" fn compactd_set_apart(pool: &mut Pool, apart: bool) -> u32
     0
 }
 
-/// Makes an address name a fresh page, and tells its frame: the lowest free one, or the highest where the page is unmovable and such pages
-/// are mapped apart. The page holds zeros.
+/// Makes an address name a fresh page, and tells its frame: the lowest free one, or one by its pageblock where unmovable pages are mapped
+/// apart. The page holds zeros.
 ///
 /// Refused as CLOSED, RANGE, JOURNAL_FULL, OCCUPIED or NO_FRAME.
 #[unsafe(no_mangle)]

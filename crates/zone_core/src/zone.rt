@@ -172,9 +172,9 @@ impl<const W: usize, I: Ledger, M: Ledger, B: Ledger> Zone<W, I, M, B> {
         (zone, scan, ends)
     }
 
-    /// Makes an address name a fresh page in the lowest free frame, or in the highest where the page is unmovable and such pages are mapped
-    /// apart, and answers this frame. The page holds zeros, has no pin and isn't dirty. It is unmovable where the flags say so. The flags
-    /// must not have DIRTY.
+    /// Makes an address name a fresh page in the lowest free frame, or in one by its pageblock where unmovable pages are mapped apart, and
+    /// answers this frame. The page holds zeros, has no pin and isn't dirty. It is unmovable where the flags say so. The flags must not have
+    /// DIRTY.
     ///
     /// Refused as Range where the zone has no such address, as JournalFull, Occupied or NoFrame.
     pub fn map(

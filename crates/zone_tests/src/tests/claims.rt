@@ -103,7 +103,25 @@ const DROPPED: &[Row] = &[
     (Step::Claim, Answer::Value(4)),
 ];
 
-/// Eight frames are left beside blocks of 504 frames.
+/// Of two pageblocks the second has the unmovable pages, until one is mapped where they aren't kept apart.
+const TWO_PAGEBLOCKS: &[Row] = &[
+    (Step::SetApart(true), Answer::Done),
+    (Step::Call(Call::Map((0, 0))), Answer::Frame(0)),
+    (Step::Call(Call::MapUnmovable((0, 1))), Answer::Frame(512)),
+    (Step::Call(Call::Map((0, 2))), Answer::Frame(1)),
+    (Step::Call(Call::MapUnmovable((0, 3))), Answer::Frame(513)),
+    (Step::SetApart(false), Answer::Done),
+    (Step::Call(Call::MapUnmovable((0, 4))), Answer::Frame(2)),
+    (Step::SetApart(true), Answer::Done),
+    (Step::Call(Call::MapUnmovable((0, 5))), Answer::Frame(3)),
+    (Step::Call(Call::Map((0, 6))), Answer::Frame(4)),
+    (Step::Call(Call::Unmap((0, 4))), Answer::Done),
+    (Step::Call(Call::Unmap((0, 5))), Answer::Done),
+    (Step::Call(Call::MapUnmovable((0, 7))), Answer::Frame(514)),
+    (Step::Call(Call::Map((0, 8))), Answer::Frame(2)),
+];
+
+/// Eight frames are left of one pageblock beside blocks of 504 frames.
 const APART: &[Row] = &[
     (Step::Call(Call::TakeOrder(8)), Answer::Frame(0)),
     (Step::Call(Call::TakeOrder(7)), Answer::Frame(256)),
@@ -112,16 +130,16 @@ const APART: &[Row] = &[
     (Step::Call(Call::TakeOrder(4)), Answer::Frame(480)),
     (Step::Call(Call::TakeOrder(3)), Answer::Frame(496)),
     (Step::SetApart(true), Answer::Done),
-    (Step::Call(Call::MapUnmovable((0, 0))), Answer::Frame(511)),
-    (Step::Call(Call::Map((0, 1))), Answer::Frame(504)),
-    (Step::Call(Call::MapUnmovable((0, 2))), Answer::Frame(510)),
-    (Step::Call(Call::Map((0, 3))), Answer::Frame(505)),
+    (Step::Call(Call::MapUnmovable((0, 0))), Answer::Frame(504)),
+    (Step::Call(Call::Map((0, 1))), Answer::Frame(505)),
+    (Step::Call(Call::MapUnmovable((0, 2))), Answer::Frame(506)),
+    (Step::Call(Call::Map((0, 3))), Answer::Frame(507)),
     (Step::SetApart(false), Answer::Done),
-    (Step::Call(Call::MapUnmovable((0, 4))), Answer::Frame(506)),
+    (Step::Call(Call::MapUnmovable((0, 4))), Answer::Frame(508)),
     (Step::SetApart(true), Answer::Done),
     (Step::Call(Call::MapUnmovable((0, 5))), Answer::Frame(509)),
-    (Step::Call(Call::Map((0, 6))), Answer::Frame(507)),
-    (Step::Call(Call::MapUnmovable((0, 7))), Answer::Frame(508)),
+    (Step::Call(Call::Map((0, 6))), Answer::Frame(510)),
+    (Step::Call(Call::MapUnmovable((0, 7))), Answer::Frame(511)),
     (
         Step::Call(Call::MapUnmovable((0, 8))),
         Answer::Refused(ZoneError::NoFrame),
@@ -132,9 +150,9 @@ const APART: &[Row] = &[
     ),
 ];
 
-fn opened(rt: &(impl Abort + AllocGlobal)) -> BareZone<8> {
+fn opened(rt: &(impl Abort + AllocGlobal), blocks: u32) -> BareZone<8> {
     let number = ZoneNo::new(3).expect(rt, "a zone");
-    BareZone::<8>::open(rt.alloc(), number, 1, 64).expect(rt, "a zone")
+    BareZone::<8>::open(rt.alloc(), number, blocks, 64).expect(rt, "a zone")
 }
 
 fn answer_of(rt: &impl Abort, zone: &mut BareZone<8>, step: Step) -> Answer {
@@ -171,7 +189,7 @@ fn a_claimed_run_is_emptied_in_steps(rt: HostRuntime) {
         ("a dropped claim", DROPPED),
     ];
     for (name, rows) in cases {
-        let mut zone = opened(&rt);
+        let mut zone = opened(&rt, 1);
         plays(&rt, &mut zone, "three pages", THREE_PAGES);
         plays(&rt, &mut zone, name, rows);
     }
@@ -179,5 +197,6 @@ fn a_claimed_run_is_emptied_in_steps(rt: HostRuntime) {
 
 #[test]
 fn unmovable_pages_are_mapped_apart(rt: HostRuntime) {
-    plays(&rt, &mut opened(&rt), "apart", APART);
+    plays(&rt, &mut opened(&rt, 1), "one pageblock", APART);
+    plays(&rt, &mut opened(&rt, 2), "two pageblocks", TWO_PAGEBLOCKS);
 }
