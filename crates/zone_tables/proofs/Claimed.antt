@@ -67,6 +67,7 @@ module _ {W : ℕ} (z : Inside W) (v : ZoneState) (sound : IsSound z v) (view : 
     notes = record { count = sound.notes.count; each = λ page note e used. (let fit = sound.notes.each page note e used in record { dirty = fit.dirty; pins = fit.pins; maps = fit.maps }) };
     moves = record { isolated = sound.moves.isolated; moved = sound.moves.moved; back = sound.moves.back };
     movable = record { count = sound.movable.count; each = sound.movable.each };
+    unmovable = record { count = sound.unmovable.count; each = sound.unmovable.each; rest = sound.unmovable.rest };
   }
 
   pub claims_hold : {frames : Frames} {claimed : Numbers} {history : History} (states : List (FrameState ℕ)) (claims : set.FinSet nat_cmp) → IsValidZone (state_with claims) → FramesFit states (state_with claims)
@@ -197,6 +198,7 @@ module _ {W : ℕ} (z : Inside W) (v : ZoneState) (sound : IsSound z v) (view : 
     notes = record { count = sound.notes.count; each = λ page note e used. (let fit = sound.notes.each page note e used in record { dirty = fit.dirty; pins = fit.pins; maps = fit.maps }) };
     moves = record { isolated = sound.moves.isolated; moved = sound.moves.moved; back = sound.moves.back };
     movable = record { count = sound.movable.count; each = sound.movable.each };
+    unmovable = record { count = sound.unmovable.count; each = sound.unmovable.each; rest = sound.unmovable.rest };
   })
 
   -- unmovable pages are mapped apart from now on, or not
@@ -215,4 +217,5 @@ module _ {W : ℕ} (z : Inside W) (v : ZoneState) (sound : IsSound z v) (view : 
     notes = record { count = sound.notes.count; each = λ page note e used. (let fit = sound.notes.each page note e used in record { dirty = fit.dirty; pins = fit.pins; maps = fit.maps }) };
     moves = record { isolated = sound.moves.isolated; moved = sound.moves.moved; back = sound.moves.back };
     movable = record { count = sound.movable.count; each = sound.movable.each };
+    unmovable = record { count = sound.unmovable.count; each = sound.unmovable.each; rest = sound.unmovable.rest };
   })

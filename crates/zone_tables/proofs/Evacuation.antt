@@ -3,6 +3,7 @@ use Rattle.std.proofs.Common.{◌≡◌, ◌≢◌, ℕ, ◌+◌, ◌-◌, ◌<�
 use Rattle.std.specs.Prelude.{Option, Some, None, is_some, slice_get, slice_set, ◌&&◌}
 use Rattle.std.specs.Option.{option_and_then}
 use Rattle.std.specs.FinMap as map
+use Rattle.std.specs.FinSet as set
 use Rattle.std.specs.Ordering.{nat_cmp}
 use Rattle.std.proofs.lemmas.Bool.{both_ways, cases_Bool, eq-eqb, ne_eqb, or_from, or_left}
 use Rattle.std.proofs.lemmas.Option.{slice_get_within}
@@ -33,7 +34,7 @@ use Rattle.fewest_core.proofs.Evacuation.{can_settle, placement_after, target_fr
 use Rattle.fewest_core.proofs.Moves.{target_not_source, free_unused, others_same, page_there}
 use Rattle.zone_tables.specs.declared.note.PageNote.{PageNote}
 use Rattle.zone_tables.specs.declared.zone.ZoneTables.TheInside.{Inside}
-use Rattle.zone_tables.specs.Fits.{entry_for, EntriesFit, MovesFit, NoteFits, NotesFit}
+use Rattle.zone_tables.specs.Fits.{UnmovableFit, entry_for, EntriesFit, MovesFit, NoteFits, NotesFit}
 use Rattle.zone_tables.specs.HandedOut.{order_of}
 use Rattle.zone_tables.specs.History.{told}
 use Rattle.zone_tables.specs.Moves.{Moves}
@@ -46,6 +47,7 @@ use Rattle.zone_tables.proofs.HeldWords.{contents_kept, held_contents}
 use Rattle.zone_tables.proofs.ListedAddresses.{names_of, none_listed, page_rests}
 use Rattle.zone_tables.proofs.MoveEnds.{kept_movable, moved_frames, moved_words, still_free}
 use Rattle.zone_tables.proofs.NotedPages.{placements_put, unmovable_kept}
+use Rattle.zone_tables.proofs.UnmovablePages.{movable_only, unmovable_moved}
 use Rattle.zone_tables.proofs.Placement.{FramesPlaced, GetsPlace, LeavesOthers, MovablePlaced, WordsPlaced, frames_fit, movable_fit, notes_fit, words_fit}
 use Rattle.zone_tables.proofs.Relocation.{ReplacesInRange, WordsSettled, entries_settled}
 use Rattle.zone_tables.proofs.SearchesAndCounts.{free_seen, get_placements}
@@ -141,7 +143,7 @@ pub record Leaving {W : ℕ} (z changed : Inside W) (v : ZoneState) (m : Move) (
   pub accepted : isolate_refusal v ≡ None
   pub note_is : slice_get z.notes m.page ≡ Some note
   -- what changed with the page's place
-  pub frames : changed.frames ≡ record { states = slice_set (slice_set z.frames.states m.source Free) m.target (Holds m.page); movable = slice_set z.frames.movable m.target true }
+  pub frames : changed.frames ≡ record { states = slice_set (slice_set z.frames.states m.source Free) m.target (Holds m.page); movable = slice_set z.frames.movable m.target true; unmovable = z.frames.unmovable }
   pub tables : ReplacesInRange z.tables.entries changed.tables.entries (Present m.source) (Present m.target)
   pub words : changed.words ≡ with_words z.words m.target (words_of z.words m.source)
   pub notes : changed.notes ≡ slice_set z.notes m.page (record note { placement = Some (At m.target) })
@@ -187,6 +189,9 @@ module _ {W : ℕ} {z changed : Inside W} {v : ZoneState} {m : Move} {note : Pag
         left = λ g had gone. set.left g (or_left _ _ had) gone;
         kept = λ g off gone. set.kept g (or_from _ _ off gone) gone;
       })
+
+  fixed : set.contains v.unmovable m.page ≡ false
+  fixed = movable_only v m.page known.may_move.movable
 
   movable_placed : MovablePlaced z.frames.movable changed.frames.movable (can_move v m.page) (Some (At m.target))
   movable_placed = subst (λ (fs : Frames). MovablePlaced z.frames.movable fs.movable (can_move v m.page) (Some (At m.target))) (sym known.frames)
@@ -255,6 +260,8 @@ module _ {W : ℕ} {z changed : Inside W} {v : ZoneState} {m : Move} {note : Pag
         claimed = subst (λ (y : Inside W). frame_count v ≤ y.claimed.bound) (sym known.rest_same) sound.claimed;
         frames = frames_fit v after m.page old new gets z.frames.states changed.frames.states sound.frames frames_placed;
         movable = movable_fit v after m.page old new gets z.frames.movable changed.frames.movable (can_move v m.page) sound.movable movable_placed refl (λ q ne. refl);
+        unmovable = subst (λ (fs : Frames). UnmovableFit fs.unmovable after) (sym known.frames)
+            (unmovable_moved v after m.page z.frames.unmovable sound.unmovable refl (λ q ne. refl) (others_same v m) fixed fixed);
         entries = entries_fit;
         words = words_fit v after m.page old new gets z.words changed.words sound.words words_placed leaves;
         notes = subst (λ (ns : List PageNote). NotesFit ns after) (sym known.notes) (notes_fit v after m.page old new gets z.notes left_note note_within sound.notes (λ used. note_fits) leaves);

@@ -1,10 +1,10 @@
 -- A fresh page in a free frame: the tables still stand for the zone.
-use Rattle.std.proofs.Common.{◌≡◌, ◌≢◌, ℕ, ◌<◌, Bool, true, false, not, List, length, inl, inr, refl, sym, ap, ◌∙◌, arith}
+use Rattle.std.proofs.Common.{◌≡◌, ◌≢◌, ℕ, ◌/◌, ◌<◌, Bool, true, false, not, List, length, inl, inr, refl, sym, ap, ◌∙◌, arith}
 use Rattle.std.specs.Prelude.{Option, Some, None, is_some, slice_get, slice_set, nat_eq, ◌&&◌, if◌then◌else◌}
 use Rattle.std.specs.Option.{option_and_then}
 use Rattle.std.specs.FinMap as map
 use Rattle.std.specs.FinSet as set
-use Rattle.std.proofs.lemmas.Bool.{eq-eqb}
+use Rattle.std.proofs.lemmas.Bool.{eq-eqb, cases_Bool}
 use Rattle.std.proofs.lemmas.Bool.Decides.{eqb_tells}
 use Rattle.std.proofs.lemmas.List.{length-set, length-replicate}
 use Rattle.frame_core.proofs.Lists.{slice_get_set_same, slice_get_set_other, slice_get_replicate}
@@ -23,7 +23,7 @@ use Rattle.zone_tables.specs.declared.note.PageNote.{PageNote}
 use Rattle.zone_tables.specs.declared.zone.ZoneTables.TheInside.{Inside}
 use Rattle.state_core.specs.declared.placement.Placement.{Placement}
 use Rattle.state_core.specs.declared.placement.Placement.TheVariants.{At}
-use Rattle.zone_tables.specs.Fits.{entry_for, FramesFit, EntriesFit, WordsFit, NotesFit, MovableFit}
+use Rattle.zone_tables.specs.Fits.{entry_for, FramesFit, EntriesFit, WordsFit, NotesFit, MovableFit, UnmovableFit}
 use Rattle.state_core.specs.ZoneState.{words_frame, ZoneState, placement_at}
 use Rattle.state_core.specs.Pairs.{can_move}
 use Rattle.state_core.proofs.Places.{unheld_frame}
@@ -31,6 +31,7 @@ use Rattle.state_core.proofs.Entries.{contains_insert_same, contains_insert_othe
 use Rattle.zone_tables.specs.Notes.{placement_of, is_unmovable_of, says_unmovable}
 use Rattle.zone_tables.specs.Sound.{state_of, IsSound}
 use Rattle.state_core.specs.Mapping.{placed}
+use Rattle.scan_core.specs.FrameCounts.{recounted}
 use Rattle.scan_core.specs.NumberSet.{gathered}
 use Rattle.zone_tables.proofs.HeldWords.{contents_kept}
 use Rattle.zone_tables.proofs.LoadsAndStores.{words_set_same, words_set_other}
@@ -39,6 +40,7 @@ use Rattle.zone_tables.proofs.SearchesAndCounts.{get_placements}
 use Rattle.state_core.proofs.Placed.{CanPlace, untrue, clash, placed_valid, at_page, at_other, named_here, named_there, maps_one, maps_others, pins_none, pins_others}
 use Rattle.zone_tables.proofs.Entries.{entries_changed, placement_same}
 use Rattle.zone_tables.proofs.NotedPages.{unmovable_kept, placements_put, unmovable_put}
+use Rattle.zone_tables.proofs.UnmovablePages.{unmovable_come}
 use Rattle.zone_tables.proofs.Placement.{GetsPlace, LeavesOthers, frames_fit, movable_fit, words_fit, notes_fit}
 use Rattle.zone_tables.proofs.Facts.{Becomes, becomes}
 use Rattle.scan_core.specs.Frames.{Frames}
@@ -122,25 +124,31 @@ module _ (v : ZoneState) (client : ℕ) (address : Address) (unmovable : Bool) (
         maps = sym (maps_one v client address unmovable page frame can);
       }) leaves
 
-  movable_here : can_move next page ≡ not unmovable
-  movable_here =
-      ap (λ n. nat_eq n 0 && not (set.contains next.unmovable page)) (pins_none v client address unmovable page frame can)
-      ∙ by_flag unmovable where
-        never_used : (b : Bool) → set.contains v.unmovable page ≡ b → b ≡ false
-        never_used true e = absurd (clash _ can.unused (can.valid.pages.unmovable page e))
-        never_used false e = refl
+  -- the fresh page is unmovable as it was mapped, and each other page as before
+  never_used : set.contains v.unmovable page ≡ false
+  never_used = elim (cases_Bool (set.contains v.unmovable page)) [ inl e ↦ absurd (clash _ can.unused (can.valid.pages.unmovable page e)) | inr none ↦ none ]
 
-        by_flag : (b : Bool) → not (set.contains (if b then set.insert v.unmovable page else v.unmovable) page) ≡ not b
-        by_flag true = ap not (contains_insert_same v.unmovable page page refl)
-        by_flag false = ap not (never_used (set.contains v.unmovable page) refl)
+  unmovable_here : set.contains next.unmovable page ≡ unmovable
+  unmovable_here = by unmovable where
+    by : (b : Bool) → set.contains (if b then set.insert v.unmovable page else v.unmovable) page ≡ b
+    by true = contains_insert_same v.unmovable page page refl
+    by false = never_used
+
+  unmovable_there : (q : ℕ) → q ≢ page → set.contains next.unmovable q ≡ set.contains v.unmovable q
+  unmovable_there q ne = by unmovable where
+    by : (b : Bool) → set.contains (if b then set.insert v.unmovable page else v.unmovable) q ≡ set.contains v.unmovable q
+    by true = contains_insert_other v.unmovable page q ne
+    by false = refl
+
+  pub unmovable_placed : (counts : List ℕ) → UnmovableFit counts v → UnmovableFit (recounted false unmovable counts (frame / 512)) next
+  unmovable_placed counts fit =
+      unmovable_come v next page counts fit refl unmovable_there (at_other v client address unmovable page frame can) unmovable frame can.numbered can.within never_used unmovable_here (at_page v client address unmovable page frame can)
+
+  movable_here : can_move next page ≡ not unmovable
+  movable_here = λ i. nat_eq (pins_none v client address unmovable page frame can i) 0 && not (unmovable_here i)
 
   movable_there : (q : ℕ) → q ≢ page → can_move next q ≡ can_move v q
-  movable_there q ne =
-      ap (λ n. nat_eq n 0 && not (set.contains next.unmovable q)) (pins_others v client address unmovable page frame can q ne)
-      ∙ ap (λ b. nat_eq (pins v.records q) 0 && not b) (by_flag unmovable) where
-        by_flag : (b : Bool) → set.contains (if b then set.insert v.unmovable page else v.unmovable) q ≡ set.contains v.unmovable q
-        by_flag true = contains_insert_other v.unmovable page q ne
-        by_flag false = refl
+  movable_there q ne = λ i. nat_eq (pins_others v client address unmovable page frame can q ne i) 0 && not (unmovable_there q ne i)
 
   pub movable_placed : (movable : List Bool) → MovableFit movable v → MovableFit (slice_set movable frame (not unmovable)) next
   movable_placed movable fit = movable_fit v next page None (Some (At frame)) gets movable (slice_set movable frame (not unmovable)) (not unmovable) fit (record {
@@ -162,7 +170,7 @@ pub record Placing {W : ℕ} (z : Inside W) (v : ZoneState) (client : ℕ) (addr
 -- the fields of a zone after a fresh page was placed
 abbrev after_place : {W : ℕ} → Inside W → Bool → ℕ → ℕ → Tables → History → Inside W
 after_place {W} z unmovable page frame tables history = record z {
-  frames = record { states = slice_set z.frames.states frame (Holds page); movable = slice_set z.frames.movable frame (not unmovable) };
+  frames = record { states = slice_set z.frames.states frame (Holds page); movable = slice_set z.frames.movable frame (not unmovable); unmovable = recounted false unmovable z.frames.unmovable (frame / 512) };
   tables = tables;
   words = with_words z.words frame (blank_words W);
   notes = slice_set z.notes page (fresh_note unmovable frame);
@@ -195,6 +203,7 @@ module _ {W : ℕ} (z : Inside W) (v : ZoneState) (client : ℕ) (address : Addr
         notes = notes_placed v client address unmovable page frame can z.notes sound.notes;
         moves = record { isolated = sound.moves.isolated; moved = sound.moves.moved; back = sound.moves.back };
         movable = movable_placed v client address unmovable page frame can z.frames.movable sound.movable;
+        unmovable = unmovable_placed v client address unmovable page frame can z.frames.unmovable sound.unmovable;
       }
 
   -- before the call the notes had no placement for the fresh page
@@ -218,7 +227,7 @@ module _ {W : ℕ} (z : Inside W) (v : ZoneState) (client : ℕ) (address : Addr
       here ∙ ap (λ (s : ZoneState). placed s client address unmovable page frame) known.view
 
   pub place_holds : {frames : Frames} {rows : List (List ℕ)} {notes : List PageNote} →
-      frames ≡ record { states = slice_set z.frames.states frame (Holds page); movable = slice_set z.frames.movable frame (not unmovable) } → rows ≡ with_words z.words frame (blank_words W) →
+      frames ≡ record { states = slice_set z.frames.states frame (Holds page); movable = slice_set z.frames.movable frame (not unmovable); unmovable = recounted false unmovable z.frames.unmovable (frame / 512) } → rows ≡ with_words z.words frame (blank_words W) →
       notes ≡ notes_new → Becomes (record z { frames = frames; tables = tables; words = rows; notes = notes; history = history }) (placed v client address unmovable page frame)
   place_holds f r n =
       becomes {ideal = after_place z unmovable page frame tables history} (λ i. record z { frames = f i; tables = tables; words = r i; notes = n i; history = history }) place_view place_sound

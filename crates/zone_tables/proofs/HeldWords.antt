@@ -190,6 +190,7 @@ module _ {W : ℕ} (z : Inside W) (v : ZoneState) (sound : IsSound z v) (view : 
         notes = record { count = sound.notes.count; each = λ page note e used. (let fit = sound.notes.each page note e used in record { dirty = fit.dirty; pins = fit.pins; maps = fit.maps }) };
         moves = record { isolated = sound.moves.isolated; moved = sound.moves.moved; back = sound.moves.back };
         movable = record { count = sound.movable.count; each = sound.movable.each };
+        unmovable = record { count = sound.unmovable.count; each = sound.unmovable.each; rest = sound.unmovable.rest };
       }
 
 -- a block is handed out or taken back: its words come and go

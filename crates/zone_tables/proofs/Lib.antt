@@ -32,5 +32,6 @@ pub mod Shut
 pub mod Tables
 pub mod Tabulating
 pub mod Unmapped
+pub mod UnmovablePages
 pub mod Unused
 mod WordsAtOnce

@@ -55,6 +55,7 @@ loaded_sound z v sound history client address frame word at spare = record {
   notes = record { count = sound.notes.count; each = λ page note e used. (let fit = sound.notes.each page note e used in record { dirty = fit.dirty; pins = fit.pins; maps = fit.maps }) };
   moves = record { isolated = sound.moves.isolated; moved = sound.moves.moved; back = sound.moves.back };
   movable = record { count = sound.movable.count; each = sound.movable.each };
+  unmovable = record { count = sound.unmovable.count; each = sound.unmovable.each; rest = sound.unmovable.rest };
 }
 
 pub words_set_same : (rows : List (List ℕ)) (frame : ℕ) (row : List ℕ) → frame < length rows → words_of (slice_set rows frame row) frame ≡ row
@@ -221,6 +222,7 @@ store_sound z v client address page frame word value note history known =
       notes = stored_notes z.words v sound.valid sound.words client address page frame word value known.named known.at known.small z.notes note sound.notes known.note_is;
       moves = record { isolated = sound.moves.isolated; moved = sound.moves.moved; back = sound.moves.back };
       movable = record { count = sound.movable.count; each = sound.movable.each };
+      unmovable = record { count = sound.unmovable.count; each = sound.unmovable.each; rest = sound.unmovable.rest };
     }
 
 pub store_holds : {W : ℕ} {z : Inside W} {v : ZoneState} {client : ℕ} {address : Address} {page frame word value : ℕ} {note : PageNote} {history : History} → Storing z v client address page frame word value note history →

@@ -52,6 +52,7 @@ module _ {W : ℕ} (z : Inside W) (v : ZoneState) (sound : IsSound z v) (view : 
     notes = record { count = sound.notes.count; each = λ page note e used. (let fit = sound.notes.each page note e used in record { dirty = fit.dirty; pins = fit.pins; maps = fit.maps }) };
     moves = record { isolated = sound.moves.isolated; moved = sound.moves.moved; back = sound.moves.back };
     movable = record { count = sound.movable.count; each = sound.movable.each };
+    unmovable = record { count = sound.unmovable.count; each = sound.unmovable.each; rest = sound.unmovable.rest };
   }
 
   unmark_sound : IsSound (after_mark z block false history) (block_unmarked v block)
@@ -69,6 +70,7 @@ module _ {W : ℕ} (z : Inside W) (v : ZoneState) (sound : IsSound z v) (view : 
     notes = record { count = sound.notes.count; each = λ page note e used. (let fit = sound.notes.each page note e used in record { dirty = fit.dirty; pins = fit.pins; maps = fit.maps }) };
     moves = record { isolated = sound.moves.isolated; moved = sound.moves.moved; back = sound.moves.back };
     movable = record { count = sound.movable.count; each = sound.movable.each };
+    unmovable = record { count = sound.unmovable.count; each = sound.unmovable.each; rest = sound.unmovable.rest };
   }
 
   mark_view : history ≡ told z.history (Mark block) → state_of (after_mark z block true history) ≡ block_marked v block

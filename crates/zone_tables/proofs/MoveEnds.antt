@@ -181,8 +181,8 @@ pub two_puts : (f a b : Frames) (i j : ℕ) (x y : FrameState ℕ) → a ≡ rec
 two_puts f a b i j x y first second = second ∙ ap (λ (fs : Frames). record fs { states = slice_set fs.states j y }) first
 
 -- a page's move ends in one of its frames, and the other is free
-pub left_settled : (f a b : Frames) (kept left page : ℕ) (can : Bool) → a ≡ record f { states = slice_set f.states left Free } → b ≡ record { states = slice_set a.states kept (Holds page); movable = slice_set a.movable kept can } → b ≡ record { states = slice_set (slice_set f.states left Free) kept (Holds page); movable = slice_set f.movable kept can }
-left_settled f a b kept left page can first second = second ∙ ap (λ (fs : Frames). record { states = slice_set fs.states kept (Holds page); movable = slice_set fs.movable kept can }) first
+pub left_settled : (f a b : Frames) (kept left page : ℕ) (can : Bool) → a ≡ record f { states = slice_set f.states left Free } → b ≡ record { states = slice_set a.states kept (Holds page); movable = slice_set a.movable kept can; unmovable = a.unmovable } → b ≡ record { states = slice_set (slice_set f.states left Free) kept (Holds page); movable = slice_set f.movable kept can; unmovable = f.unmovable }
+left_settled f a b kept left page can first second = second ∙ ap (λ (fs : Frames). record { states = slice_set fs.states kept (Holds page); movable = slice_set fs.movable kept can; unmovable = fs.unmovable }) first
 
 -- a free frame is still free after another one changed its state
 pub still_free : (f a : Frames) (frame other : ℕ) (state : FrameState ℕ) → frame ≢ other → a ≡ record f { states = slice_set f.states other state } → free_at f.states frame ≡ true → free_at a.states frame ≡ true

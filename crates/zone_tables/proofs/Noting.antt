@@ -13,7 +13,7 @@ use Rattle.state_core.specs.Valid.{IsValidZone}
 use Rattle.state_core.specs.ZoneState.{ZoneState, noted}
 use Rattle.zone_tables.specs.declared.note.PageNote.{PageNote}
 use Rattle.zone_tables.specs.declared.zone.ZoneTables.TheInside.{Inside}
-use Rattle.zone_tables.specs.Fits.{FramesFit, EntriesFit, NoteFits, MovesFit, MovableFit}
+use Rattle.zone_tables.specs.Fits.{FramesFit, EntriesFit, NoteFits, MovesFit, MovableFit, UnmovableFit}
 use Rattle.zone_tables.specs.History.{History, told}
 use Rattle.zone_tables.specs.Notes.{says_unmovable}
 use Rattle.zone_tables.specs.Sound.{state_of, IsSound}
@@ -41,6 +41,7 @@ pub record Noting {W : ℕ} (z : Inside W) (v : ZoneState) (page : ℕ) (entry :
   pub fits : NoteFits changed (noted v entry) page
   pub states : frames.states ≡ z.frames.states
   pub movable : MovableFit frames.movable (noted v entry)
+  pub counts : frames.unmovable ≡ z.frames.unmovable
   pub entries : EntriesFit tables.entries (noted v entry)
   pub frames_same : tables.frames ≡ z.tables.frames
   pub size_same : tables.entries.size ≡ z.tables.entries.size
@@ -85,6 +86,7 @@ module _ {W : ℕ} {z : Inside W} {v : ZoneState} {page : ℕ} {entry : Record} 
         frames = subst (λ (states : List (FrameState ℕ)). FramesFit states (noted v entry)) (sym known.states)
             (record { count = sound.frames.count; of_page = sound.frames.of_page; of_block = sound.frames.of_block; of_none = sound.frames.of_none });
         movable = known.movable;
+        unmovable = subst (λ (counts : List ℕ). UnmovableFit counts (noted v entry)) (sym known.counts) (record { count = sound.unmovable.count; each = sound.unmovable.each; rest = sound.unmovable.rest });
         entries = known.entries;
         words = record { count = sound.words.count; sized = sound.words.sized; each = λ q placement w at small. sound.words.each q placement w at small ∙ ap Some (sym (known.only.last q w)) };
         notes = notes_fit v (noted v entry) page _ _ (stays v (noted v entry) page sound.valid known.valid refl refl refl refl refl) z.notes changed within sound.notes (λ used. known.fits) leaves;

@@ -1,11 +1,13 @@
 -- A zone that was just opened.
 use Rattle.std.proofs.Common.{◌≡◌, ℕ, ◌*◌, ◌≤◌, Bool, true, false, List, [], length, replicate, sym, ap, ◌∙◌}
-use Rattle.std.specs.Prelude.{Option, Some, None, slice_get, unwrap_or}
+use Rattle.std.specs.Prelude.{Option, Some, None, slice_get, unwrap_or, ◌&&◌}
 use Rattle.std.specs.FinSet as set
 use Rattle.std.specs.FinMap as map
 use Rattle.std.specs.Option.{option_map, option_and_then}
 use Rattle.std.specs.Ordering.{nat_cmp}
 use Rattle.std.proofs.lemmas.List.{length-replicate}
+use Rattle.frame_core.proofs.Searches.{count_none}
+use Rattle.state_core.specs.ZoneState.{is_in_block}
 use Rattle.frame_core.proofs.Lists.{slice_get_replicate}
 use Rattle.frame_core.specs.declared.state.FrameState.TheVariants.{Free}
 use Rattle.table_core.specs.Tables.{IsBlank}
@@ -116,6 +118,12 @@ opened_sound {W} z number size places fresh = record {
     each = λ page note e used. absurd (clash note.placement (sym (ap (option_and_then (λ (n : PageNote). n.placement)) e) ∙ ap (λ (ns : List PageNote). placement_of ns page) fresh.notes ∙ no_placement (512 * size.blocks) page) used);
   };
   moves = record { isolated = ap (λ (m : Moves). m.isolated) fresh.moves; moved = ap (λ (m : Moves). m.moved) fresh.moves; back = ap (λ (m : Moves). m.back) fresh.moves };
+  unmovable = record {
+    count = ap (λ (fs : Frames). length fs.unmovable) fresh.frames ∙ length-replicate size.blocks 0;
+    each = λ block h. ap (λ (fs : Frames). slice_get fs.unmovable block) fresh.frames ∙ slice_get_replicate size.blocks block 0 h
+        ∙ ap Some (sym (count_none _ (512 * size.blocks) (λ page low. ap (λ b. b && is_in_block (map.get (map.empty {R = nat_cmp}) page) block) (set.contains-empty nat_cmp page))));
+    rest = λ page e. (let bad : false ≡ true = sym (set.contains-empty nat_cmp page) ∙ e in cc);
+  };
   movable = record {
     count = ap (λ (fs : Frames). length fs.movable) fresh.frames ∙ length-replicate (512 * size.blocks) false;
     each = λ page frame e. (let bad : None ≡ Some (At frame) = sym (map.get-empty nat_cmp page) ∙ e in cc);

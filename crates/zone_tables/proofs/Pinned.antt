@@ -57,6 +57,7 @@ module _ {W : ℕ} (z : Inside W) (v : ZoneState) (sound : IsSound z v) (view : 
         fits = record { dirty = before.dirty ∙ sym (only.dirty page); pins = is; maps = before.maps ∙ sym maps_same };
         states = ap (λ (fs : Frames). fs.states) frames_are;
         movable = said_so entry valid count is only.pins frames frames_are;
+        counts = ap (λ (fs : Frames). fs.unmovable) frames_are;
         entries = entries;
         frames_same = refl;
         size_same = refl;

@@ -19,7 +19,7 @@ use Rattle.zone_tables.specs.declared.note.PageNote.{PageNote}
 use Rattle.zone_tables.specs.declared.zone.ZoneTables.TheInside.{Inside}
 use Rattle.state_core.specs.declared.placement.Placement.{Placement}
 use Rattle.state_core.specs.declared.placement.Placement.TheVariants.{At, Moving}
-use Rattle.zone_tables.specs.Fits.{entry_for, EntriesFit, NoteFits, NotesFit, MovesFit}
+use Rattle.zone_tables.specs.Fits.{UnmovableFit, entry_for, EntriesFit, NoteFits, NotesFit, MovesFit}
 use Rattle.state_core.specs.ZoneState.{words_frame, ZoneState, frame_count, takes_up}
 use Rattle.std.specs.FinSet as set
 use Rattle.state_core.specs.Pairs.{can_move}
@@ -37,6 +37,7 @@ use Rattle.zone_tables.proofs.SearchesAndCounts.{get_placements}
 use Rattle.state_core.proofs.Facts.{takes_own}
 use Rattle.state_core.proofs.Placed.{clash}
 use Rattle.zone_tables.proofs.NotedPages.{unmovable_kept, placements_put}
+use Rattle.zone_tables.proofs.UnmovablePages.{unmovable_moved}
 use Rattle.zone_tables.proofs.Placement.{GetsPlace, LeavesOthers, FramesPlaced, MovablePlaced, WordsPlaced, frames_fit, movable_fit, words_fit, notes_fit}
 use Rattle.state_core.proofs.Settled.{CanSettle, IsRecorded, IsStill, at_page, at_other, not_old, valid_settled}
 
@@ -120,6 +121,8 @@ pub record Settling {W : ℕ} (z changed : Inside W) (v : ZoneState) (page : ℕ
   pub notes : changed.notes ≡ slice_set z.notes page (record note { placement = Some new })
   pub moves : MovesFit changed.moves (entry ∷ v.records)
   pub movable : MovableSettled z.frames.movable changed.frames.movable (can_move v page) new
+  pub fixed : set.contains v.unmovable page ≡ false
+  pub counts : changed.frames.unmovable ≡ z.frames.unmovable
   pub fingers_are : changed.fingers ≡ record { migrate = migrate_new; free = free_new }
   pub fingers : (migrate_new ≤ free_new) × (free_new ≤ frame_count v)
   pub swept : SweptIfQuiet (record (relocated v entry page new) { migrate = migrate_new; free = free_new })
@@ -195,6 +198,8 @@ module _ {W : ℕ} {z changed : Inside W} {v : ZoneState} {page : ℕ} {old new 
         claimed = subst (λ (y : Inside W). frame_count v ≤ y.claimed.bound) (sym known.rest_same) sound.claimed;
         frames = frames_fit v after page (Some old) (Some new) gets z.frames.states changed.frames.states sound.frames known.frames;
         movable = movable_fit v after page (Some old) (Some new) gets z.frames.movable changed.frames.movable (can_move v page) sound.movable known.movable (sym (can_still page)) (λ q ne. can_still q);
+        unmovable = subst (λ (counts : List ℕ). UnmovableFit counts after) (sym known.counts)
+            (unmovable_moved v after page z.frames.unmovable sound.unmovable refl (λ q ne. refl) (at_other v page old new known.can entry) known.fixed known.fixed);
         entries = record { each = entries.each };
         words = words_fit v after page (Some old) (Some new) gets z.words changed.words sound.words words_changed leaves;
         notes = subst (λ (ns : List PageNote). NotesFit ns after) (sym known.notes)

@@ -34,6 +34,7 @@ begun_sound z v sound start here as_calm = record {
   };
   moves = sound.moves;
   movable = record { count = sound.movable.count; each = sound.movable.each };
+  unmovable = record { count = sound.unmovable.count; each = sound.unmovable.each; rest = sound.unmovable.rest };
 }
 
 -- a calm zone is swept where its fingers are at its ends

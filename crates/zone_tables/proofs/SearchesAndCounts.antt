@@ -1,24 +1,28 @@
 -- What searches and counts in the tables of a zone answer.
-use Rattle.std.proofs.Common.{◌≡◌, ℕ, zero, suc, ◌*◌, ◌<◌, ◌≤◌, Bool, true, false, not, List, length, refl, sym, ap, ◌∙◌, arith}
-use Rattle.std.specs.Prelude.{Option, Some, None, IsSome, IfSome, is_some, is_none, nat_eq, if◌then◌else◌, ◌&&◌, ◌||◌}
-use Rattle.std.specs.Option.{option_and_then}
+use Rattle.std.proofs.Common.{◌≡◌, ℕ, zero, suc, ◌*◌, ◌/◌, ◌<◌, ◌≤◌, Bool, true, false, not, List, length, refl, sym, ap, ◌∙◌, lt-ltb, le-ltb, arith}
+use Rattle.std.specs.Prelude.{Option, Some, None, IsSome, IfSome, is_some, is_none, nat_eq, nat_lt, if◌then◌else◌, ◌&&◌, ◌||◌}
+use Rattle.std.specs.Option.{option_and_then, option_or}
 use Rattle.std.specs.FinMap.{get}
 use Rattle.std.proofs.lemmas.Option.{slice_get_past}
-use Rattle.frame_core.proofs.Searches.{some_one, lowest_same, count_same, count_from_same}
-use Rattle.frame_core.specs.Below.{lowest, highest, count_below}
+use Rattle.frame_core.proofs.Searches.{some_none, some_one, some_same, lowest_same, count_none, count_same, count_some, count_from_same}
+use Rattle.frame_core.specs.Below.{lowest, highest, count_below, some_below}
 use Rattle.frame_core.specs.declared.state.FrameState.{FrameState}
 use Rattle.frame_core.specs.declared.state.FrameState.TheVariants.{Holds, Source, Target}
 use Rattle.zone_tables.specs.declared.note.PageNote.{PageNote}
 use Rattle.zone_tables.specs.declared.zone.ZoneTables.TheInside.{Inside}
 use Rattle.state_core.specs.declared.placement.Placement.{Placement}
 use Rattle.state_core.specs.declared.placement.Placement.TheVariants.{At, Moving}
-use Rattle.zone_tables.specs.Fits.{state_by, FramesFit}
+use Rattle.zone_tables.specs.Fits.{state_by, FramesFit, UnmovableFit}
 use Rattle.zone_tables.specs.Sound.{state_of}
-use Rattle.state_core.specs.ZoneState.{ZoneState, frame_count, takes_up, is_used, is_held, is_free, highest_free_frame, lowest_free_frame, lowest_unused_page, is_whole as whole_block}
-use Rattle.scan_core.specs.Frames.{free_at, is_free_state, free_frames, is_whole, blocks_of}
+use Rattle.state_core.specs.ZoneState.{ZoneState, frame_count, takes_up, is_used, is_held, is_free, free_in_block, frame_for, frame_with_unmovable, frame_without_unmovable, has_unmovable as zone_has_unmovable, is_emptiest as zone_emptiest, is_unmovable_in, lowest_free_frame, lowest_free_where, lowest_unused_page, is_whole as whole_block}
+use Rattle.scan_core.specs.Apart.{frame_apart, has_unmovable, is_emptiest, lowest_where}
+use Rattle.scan_core.specs.FrameCounts.{count_in_block}
+use Rattle.scan_core.specs.FrameSet.{all_of_block}
+use Rattle.scan_core.specs.Frames.{Frames, free_at, is_free_state, free_frames, is_whole, blocks_of}
 use Rattle.zone_tables.specs.Notes.{placement_of, is_in_use}
 use Rattle.zone_tables.specs.HandedOut.{order_of}
 use Rattle.zone_tables.specs.Tabulated.{tabulated}
+use Rattle.zone_tables.proofs.UnmovablePages.{unmovable_read}
 use Rattle.zone_tables.proofs.Tabulating.{get_tabulated_all}
 use Rattle.std.proofs.lemmas.Bool.{and_right}
 
@@ -69,10 +73,49 @@ highest_same p r (suc n) same =
     let rest : highest p n ≡ highest r n = highest_same p r n (λ k h. same k (omega (arith, h))) in
     λ i. if here i then Some n else rest i
 
-pub highest_free_seen : (frames : List (FrameState ℕ)) (v : ZoneState) → FramesFit frames v → highest (free_at frames) (length frames) ≡ highest_free_frame v
-highest_free_seen frames v fit =
-    highest_same (free_at frames) (is_free v) (length frames) (λ frame h. free_seen frames v fit frame (omega (arith, h, fit.count)))
-    ∙ ap (highest (is_free v)) fit.count
+-- whether some number passes is whether any are counted
+some_counted : (p : ℕ → Bool) (n : ℕ) → nat_lt 0 (count_below p n) ≡ some_below p n
+some_counted p n = by (some_below p n) refl where
+  by : (b : Bool) → some_below p n ≡ b → nat_lt 0 (count_below p n) ≡ some_below p n
+  by true e = let one = some_one p n e in lt-ltb 0 (count_below p n) (count_some p n one.0 one.1 one.2) ∙ sym e
+  by false e = le-ltb 0 (count_below p n) (omega (arith, count_none p n (some_none p n e))) ∙ sym e
+
+-- the searches by pageblocks find the same in the tables as in the state
+module _ (frames : Frames) (v : ZoneState) (fit : FramesFit frames.states v) (counted : UnmovableFit frames.unmovable v) where
+  free_count_seen : (block : ℕ) → block < v.blocks → count_in_block (free_at frames.states) block ≡ free_in_block v block
+  free_count_seen block low = count_from_same (free_at frames.states) (is_free v) (512 * block) 512 (λ frame from to. free_seen frames.states v fit frame (omega (arith, to, low)))
+
+  unmovable_seen : (block : ℕ) → block < v.blocks → has_unmovable frames.unmovable block ≡ zone_has_unmovable v block
+  unmovable_seen block low = ap (nat_lt 0) (unmovable_read v frames.unmovable counted block low) ∙ some_counted (is_unmovable_in v block) (frame_count v)
+
+  as_many_blocks : length frames.states / 512 ≡ v.blocks
+  as_many_blocks = omega (arith, fit.count)
+
+  emptiest_seen : (block : ℕ) → block < v.blocks → is_emptiest (free_at frames.states) (length frames.states / 512) block ≡ zone_emptiest v block
+  emptiest_seen block low =
+      ap (λ n. is_emptiest (free_at frames.states) n block) as_many_blocks
+      ∙ ap not (sym (some_same (λ other. nat_lt (count_in_block (free_at frames.states) block) (count_in_block (free_at frames.states) other)) (λ other. nat_lt (free_in_block v block) (free_in_block v other)) v.blocks
+      (λ other h i. nat_lt (free_count_seen block low i) (free_count_seen other h i))))
+
+  where_seen : (p q : ℕ → Bool) → ((block : ℕ) → block < v.blocks → p block ≡ q block) → lowest_where (free_at frames.states) p (length frames.states) ≡ lowest_free_where v q
+  where_seen p q same =
+      lowest_same (λ frame. free_at frames.states frame && p (frame / 512)) (λ frame. is_free v frame && q (frame / 512)) (length frames.states)
+      (λ frame h i. free_seen frames.states v fit frame (omega (arith, h, fit.count)) i && same (frame / 512) (omega (arith, h, fit.count)) i)
+      ∙ ap (lowest (λ frame. is_free v frame && q (frame / 512))) fit.count
+
+  abbrev not_whole : ℕ → Bool
+  not_whole block = not (all_of_block (free_at frames.states) block) && not (has_unmovable frames.unmovable block)
+
+  abbrev zone_not_whole : ℕ → Bool
+  zone_not_whole block = not (whole_block v block) && not (zone_has_unmovable v block)
+
+  pub apart_seen : (unmovable : Bool) → v.apart ≡ true → frame_apart frames unmovable ≡ frame_for v unmovable
+  apart_seen unmovable apart = by unmovable where
+    by : (b : Bool) → frame_apart frames b ≡ frame_for v b
+    by true = (λ i. option_or (where_seen (has_unmovable frames.unmovable) (zone_has_unmovable v) unmovable_seen i) (where_seen (is_emptiest (free_at frames.states) (length frames.states / 512)) (zone_emptiest v) emptiest_seen i))
+        ∙ sym (ap (λ a. if not a then lowest_free_frame v else frame_with_unmovable v) apart)
+    by false = (λ i. option_or (where_seen not_whole zone_not_whole (λ block low j. not (nat_eq (free_count_seen block low j) 512) && not (unmovable_seen block low j)) i) (lowest_free_seen frames.states v fit i))
+        ∙ sym (ap (λ a. if not a then lowest_free_frame v else frame_without_unmovable v) apart)
 
 pub placements_seen : {W : ℕ} (z : Inside W) → get (state_of z).placement ≡ placement_of z.notes
 placements_seen z = λ i page. get_placements z.notes page i

@@ -38,6 +38,7 @@ sharing z v sound view client address alias page frame can note tables history n
       fits = record { dirty = before.dirty; pins = before.pins; maps = omega (arith, before.maps, maps_one_more v client address alias page frame can) };
       states = refl;
       movable = record { count = sound.movable.count; each = sound.movable.each };
+      counts = refl;
       entries = entries_changed v next z.tables.entries tables.entries alias (Present frame) sound.entries changes
           (λ a e. sym (ap entry_for (ap (option_and_then (map.get v.placement)) (named_here v client address alias page frame can a e) ∙ can.at)))
           (λ a e. ap (option_and_then (map.get v.placement)) (named_there v client address alias page frame can a e));

@@ -1,8 +1,9 @@
 -- An address is taken from a page, and with its last one the page goes out of use: the tables still stand for the zone.
-use Rattle.std.proofs.Common.{◌≡◌, ◌≢◌, ℕ, ◌-◌, ◌<◌, List, not, length, false, refl, sym, ap, ◌∙◌, arith, nat_eq}
+use Rattle.std.proofs.Common.{◌≡◌, ◌≢◌, ℕ, ◌-◌, ◌/◌, ◌<◌, Bool, List, not, length, false, refl, sym, ap, ◌∙◌, arith, nat_eq}
 use Rattle.std.specs.Prelude.{Some, None, slice_get, slice_set, ◌&&◌}
 use Rattle.std.specs.Option.{option_and_then}
 use Rattle.std.specs.FinMap as map
+use Rattle.std.specs.FinSet as set
 use Rattle.std.proofs.lemmas.Bool.{eq-eqb, eqb-true}
 use Rattle.std.proofs.lemmas.List.{length-set}
 use Rattle.frame_core.proofs.Lists.{slice_get_set_same, slice_get_set_other}
@@ -12,11 +13,12 @@ use Rattle.frame_core.specs.declared.record.Record.TheVariants.{Unmap}
 use Rattle.frame_core.specs.History.{same_address, maps, pins}
 use Rattle.table_core.specs.declared.entry.Entry.TheVariants.{Absent}
 use Rattle.table_core.specs.Tables.{Tables, ChangesOnly}
+use Rattle.scan_core.specs.FrameCounts.{recounted}
 use Rattle.scan_core.specs.Frames.{Frames}
 use Rattle.state_core.specs.declared.placement.Placement.TheVariants.{At}
 use Rattle.state_core.specs.Unmapping.{without_page}
 use Rattle.state_core.specs.ZoneState.{ZoneState, noted, placement_at}
-use Rattle.state_core.proofs.Entries.{get_remove_same, get_remove_other, contains_remove_other}
+use Rattle.state_core.proofs.Entries.{get_remove_same, get_remove_other, contains_remove_other, contains_remove_same}
 use Rattle.state_core.proofs.Facts.{not_none, frame_within}
 use Rattle.state_core.proofs.Placed.{untrue}
 use Rattle.state_core.proofs.Unmapping.{CanUnmap, named_here, named_there, maps_one_less, maps_others, none_left, valid_still, valid_gone}
@@ -28,6 +30,7 @@ use Rattle.zone_tables.specs.Notes.{unused_note}
 use Rattle.zone_tables.specs.Sound.{state_of, IsSound}
 use Rattle.zone_tables.proofs.Entries.{entries_changed, placement_same}
 use Rattle.zone_tables.proofs.Noting.{Noting}
+use Rattle.zone_tables.proofs.UnmovablePages.{unmovable_gone}
 use Rattle.zone_tables.proofs.Placement.{GetsPlace, LeavesOthers, frames_fit, movable_fit, words_fit, notes_fit}
 use Rattle.zone_tables.proofs.Tables.{note_seen}
 use Rattle.zone_tables.proofs.NotedPages.{placements_put, unmovable_put}
@@ -44,9 +47,9 @@ pub record Unmapping {W : ℕ} (z : Inside W) (v : ZoneState) (client : ℕ) (ad
   pub history_is : history ≡ told z.history (Unmap client address)
 
 -- the fields of a zone after the last address of a page was taken
-abbrev pub after_last : {W : ℕ} → Inside W → ℕ → ℕ → Tables → History → Inside W
-after_last z page frame tables history = record z {
-  frames = record z.frames { states = slice_set z.frames.states frame Free };
+abbrev pub after_last : {W : ℕ} → Inside W → Bool → ℕ → ℕ → Tables → History → Inside W
+after_last z unmovable page frame tables history = record z {
+  frames = record z.frames { states = slice_set z.frames.states frame Free; unmovable = recounted unmovable false z.frames.unmovable (frame / 512) };
   tables = tables;
   notes = slice_set z.notes page unused_note;
   history = history;
@@ -77,6 +80,7 @@ module _ {W : ℕ} (z : Inside W) (v : ZoneState) (client : ℕ) (address : Addr
         fits = record { dirty = before.dirty; pins = before.pins; maps = omega (arith, before.maps, maps_one_less v client address page frame can) };
         states = refl;
         movable = record { count = sound.movable.count; each = sound.movable.each };
+        counts = refl;
         entries = entries_changed v next z.tables.entries tables.entries address Absent sound.entries known.changes
             (λ a e. sym (ap entry_for (ap (option_and_then (map.get v.placement)) (named_here v client address page frame can a e))))
             (λ a e. ap (option_and_then (map.get v.placement)) (named_there v client address page frame can a e));
@@ -85,7 +89,7 @@ module _ {W : ℕ} (z : Inside W) (v : ZoneState) (client : ℕ) (address : Addr
         history_is = known.history_is;
       }
 
-  module _ (one : maps v.records page ≡ 1) where
+  module _ (one : maps v.records page ≡ 1) (unmovable : Bool) (is : set.contains v.unmovable page ≡ unmovable) where
     abbrev gone : ZoneState
     gone = without_page next page
 
@@ -114,7 +118,7 @@ module _ {W : ℕ} (z : Inside W) (v : ZoneState) (client : ℕ) (address : Addr
     note_within : page < length z.notes
     note_within = omega (arith, can.valid.pages.numbered page (not_none _ (At frame) can.at), known.sound.notes.count)
 
-    pub last_sound : IsSound (after_last z page frame tables history) gone
+    pub last_sound : IsSound (after_last z unmovable page frame tables history) gone
     last_sound =
         let sound = known.sound in
         let spare = can.spare in
@@ -135,6 +139,7 @@ module _ {W : ℕ} (z : Inside W) (v : ZoneState) (client : ℕ) (address : Addr
           });
           movable = movable_fit v gone page (Some (At frame)) None gets z.frames.movable z.frames.movable _ sound.movable (record { count = refl; here = λ g e. cc; kept = λ g off. refl }) refl
               (λ q ne. ap (λ b. nat_eq (pins v.records q) 0 && not b) (contains_remove_other v.unmovable page q ne));
+          unmovable = unmovable_gone v gone page z.frames.unmovable sound.unmovable refl (λ q ne. contains_remove_other v.unmovable page q ne) (λ q ne. get_remove_other v.placement page q ne) unmovable frame (omega (arith, note_within, sound.notes.count)) (omega (arith, within, sound.frames.count)) is can.at (contains_remove_same v.unmovable page page refl);
           entries = entries_changed v gone z.tables.entries tables.entries address Absent sound.entries known.changes
               (λ a e. sym (ap entry_for (ap (option_and_then (map.get gone.placement)) (named_here v client address page frame can a e))))
               placement_there;
@@ -143,13 +148,13 @@ module _ {W : ℕ} (z : Inside W) (v : ZoneState) (client : ℕ) (address : Addr
           moves = record { isolated = sound.moves.isolated; moved = sound.moves.moved; back = sound.moves.back };
         }
 
-    pub last_view : state_of (after_last z page frame tables history) ≡ gone
+    pub last_view : state_of (after_last z unmovable page frame tables history) ≡ gone
     last_view =
         let p = placements_put z.notes page unused_note note_within in
         let u = unmovable_put z.notes page unused_note note_within false refl in
-        let here : state_of (after_last z page frame tables history) ≡ without_page (noted (state_of z) (Unmap client address)) page =
+        let here : state_of (after_last z unmovable page frame tables history) ≡ without_page (noted (state_of z) (Unmap client address)) page =
         λ i. record (state_of z) { records = (known.history_is i).records; room = (known.history_is i).room; round = (known.history_is i).round; placement = p i; unmovable = u i } in
         here ∙ ap (λ (s : ZoneState). without_page (noted s (Unmap client address)) page) known.view
 
-    pub last_holds : {frames : Frames} {notes : List PageNote} → frames ≡ record z.frames { states = slice_set z.frames.states frame Free } → notes ≡ slice_set z.notes page unused_note → Becomes (record z { frames = frames; tables = tables; notes = notes; history = history }) gone
-    last_holds frames_are notes_are = becomes {ideal = after_last z page frame tables history} (λ i. record z { frames = frames_are i; tables = tables; notes = notes_are i; history = history }) last_view last_sound
+    pub last_holds : {frames : Frames} {notes : List PageNote} → frames ≡ record z.frames { states = slice_set z.frames.states frame Free; unmovable = recounted unmovable false z.frames.unmovable (frame / 512) } → notes ≡ slice_set z.notes page unused_note → Becomes (record z { frames = frames; tables = tables; notes = notes; history = history }) gone
+    last_holds frames_are notes_are = becomes {ideal = after_last z unmovable page frame tables history} (λ i. record z { frames = frames_are i; tables = tables; notes = notes_are i; history = history }) last_view last_sound

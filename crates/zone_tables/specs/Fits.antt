@@ -1,6 +1,8 @@
 -- How the tables of a zone stand for its state.
 use Rattle.std.specs.Prelude.{◌≡◌, ℕ, ◌<◌, Bool, true, List, length, nat_eq, if◌then◌else◌, slice_get, Option, Some, None, IsSome}
 use Rattle.std.specs.FinMap as map
+use Rattle.std.specs.FinSet as set
+use Rattle.frame_core.specs.Below.{count_below}
 use Rattle.frame_core.specs.Address.{InRange}
 use Rattle.frame_core.specs.declared.place.Address.{Address}
 use Rattle.frame_core.specs.declared.state.FrameState.{FrameState}
@@ -18,7 +20,7 @@ use Rattle.zone_tables.specs.declared.note.PageNote.{PageNote}
 use Rattle.state_core.specs.declared.placement.Placement.{Placement}
 use Rattle.state_core.specs.declared.placement.Placement.TheVariants.{At, Moving}
 use Rattle.state_core.specs.Pairs.{can_move}
-use Rattle.state_core.specs.ZoneState.{ZoneState, frame_count, is_free, is_held, placement_at, words_frame}
+use Rattle.state_core.specs.ZoneState.{ZoneState, frame_count, is_free, is_held, is_unmovable_in, placement_at, words_frame}
 
 -- the state that a page with this number and placement gives to a frame, if it takes the frame up
 abbrev pub state_by : ℕ → Option Placement → ℕ → Option (FrameState ℕ)
@@ -69,6 +71,12 @@ pub record NotesFit (notes : List PageNote) (v : ZoneState) : Type 0 where
 pub record MovableFit (movable : List Bool) (v : ZoneState) : Type 0 where
   pub count : length movable ≡ frame_count v
   pub each : (page frame : ℕ) → map.get v.placement page ≡ Some (At frame) → slice_get movable frame ≡ Some (can_move v page)
+
+-- the unmovable pages of each pageblock are counted, and each unmovable page rests in its frame
+pub record UnmovableFit (counts : List ℕ) (v : ZoneState) : Type 0 where
+  pub count : length counts ≡ v.blocks
+  pub each : (block : ℕ) → block < v.blocks → slice_get counts block ≡ Some (count_below (is_unmovable_in v block) (frame_count v))
+  pub rest : (page : ℕ) → set.contains v.unmovable page ≡ true → (frame : ℕ) × (map.get v.placement page ≡ Some (At frame))
 
 -- the moves are counted as the journal tells of them
 pub record MovesFit (moves : Moves) (records : List Record) : Type 0 where

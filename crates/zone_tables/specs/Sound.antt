@@ -4,7 +4,7 @@ use Rattle.zone_tables.specs.declared.zone.ZoneTables.TheInside.{Inside}
 use Rattle.state_core.specs.ZoneState.{ZoneState, frame_count}
 use Rattle.state_core.specs.Valid.{IsValidZone}
 use Rattle.zone_tables.specs.Contents.{contents_at}
-use Rattle.zone_tables.specs.Fits.{table_size, FramesFit, EntriesFit, WordsFit, NotesFit, MovesFit, MovableFit}
+use Rattle.zone_tables.specs.Fits.{table_size, FramesFit, EntriesFit, WordsFit, NotesFit, MovesFit, MovableFit, UnmovableFit}
 use Rattle.zone_tables.specs.HandedOut.{order_of}
 use Rattle.zone_tables.specs.Notes.{placement_of, is_unmovable_of}
 use Rattle.scan_core.specs.Frames.{true_at}
@@ -42,6 +42,7 @@ pub record IsSound {W : ℕ} (z : Inside W) (v : ZoneState) : Type 0 where
   pub claimed : frame_count v ≤ z.claimed.bound
   pub frames : FramesFit z.frames.states v
   pub movable : MovableFit z.frames.movable v
+  pub unmovable : UnmovableFit z.frames.unmovable v
   pub tables : z.tables.frames ≡ frame_count v
   pub size : z.tables.entries.size ≡ table_size v
   pub entries : EntriesFit z.tables.entries v

@@ -79,8 +79,8 @@ impl<const W: usize> ZoneTables<W> {
     {
         let serial = self.moves.isolate();
         self.moves.arrive();
-        self.frames.empty(source);
-        self.frames.fill(target, page, true);
+        self.frames.empty(source, false);
+        self.frames.fill(target, page, true, false);
         self.tables.to_migration(source);
         self.tables.to_present(source, target);
         self.words.copy(source, target);

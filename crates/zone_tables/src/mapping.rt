@@ -46,16 +46,15 @@ impl<const W: usize> ZoneTables<W> {
         self.frames.is_free(frame)
     }
 
-    /// The frame that a page is mapped to, if one is free: the lowest one, or the highest where the page is unmovable and such pages are
-    /// mapped apart.
+    /// The frame that a page is mapped to, if one is free: the lowest one, or one by its pageblock where unmovable pages are mapped apart.
     pub fn frame_for(&self, unmovable: bool) -> Option<FrameNo>
         ensures frame { result ≡ frame_for self.now unmovable }
         ensures none { is_none result ≡ is_none (lowest_free_frame self.now) }
         ensures free { IfSome result (λ frame. IsTrue (is_free self.now frame)) }
         ensures within { IfSome result (λ frame. frame < frame_count self.now) }
     {
-        if unmovable && self.apart {
-            return self.frames.highest_free();
+        if self.apart {
+            return self.frames.frame_apart(unmovable);
         }
         self.frames.lowest_free()
     }
@@ -99,7 +98,7 @@ impl<const W: usize> ZoneTables<W> {
     {
         let named = address;
         let page = self.unused_page();
-        self.frames.fill(frame, page, !unmovable);
+        self.frames.fill(frame, page, !unmovable, unmovable);
         self.tables.set(named, frame);
         self.words.blank(frame);
         self.notes.add(page, PageNote::fresh(frame, unmovable));

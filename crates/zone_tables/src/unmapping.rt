@@ -56,7 +56,8 @@ impl<const W: usize> ZoneTables<W> {
     {
         let named = address;
         self.tables.clear(named);
-        self.frames.empty(frame);
+        let unmovable = self.notes.get(page).unmovable;
+        self.frames.empty(frame, unmovable);
         self.notes.remove(page);
         self.history.note(Record::Unmap { client, address });
     }

@@ -20,6 +20,7 @@ use Rattle.state_core.specs.ZoneState.{ZoneState}
 use Rattle.state_core.proofs.Facts.{not_none}
 use Rattle.state_core.proofs.Settled.{can_move_on, moved_recorded, frames_apart, source_within, target_in, swept_if_moved}
 use Rattle.zone_tables.proofs.MoveEnds.{moved_frames, moved_words, kept_movable, left_settled, target_still, source_on_way, source_left, source_listed, target_left, target_listed, source_row, target_row, target_unheld, two_frames, moved_settled, some_on_the_way, ending_room}
+use Rattle.zone_tables.proofs.UnmovablePages.{moving_movable}
 use Rattle.zone_tables.proofs.Relocation.{Settling, FramesSettled, MovableSettled, WordsSettled, settle_invariant, settle_view}
 use Rattle.zone_tables.proofs.zone.ZoneTables.arrive_with.Given.{Over}
 use Rattle.zone_tables.proofs.zone.ZoneTables.arrive_with.Goals as goal
@@ -62,7 +63,7 @@ after c = record c.self.inside {
   history = c.note.new.self;
 }
 
-frames_are : {g : Over} (c : After-note g) → c.settle.new.self ≡ record { states = slice_set (slice_set c.self.inside.frames.states c.args.way.now.source Free) c.args.way.now.target (Holds c.args.way.now.page); movable = slice_set c.self.inside.frames.movable c.args.way.now.target c.can_move.result }
+frames_are : {g : Over} (c : After-note g) → c.settle.new.self ≡ record { states = slice_set (slice_set c.self.inside.frames.states c.args.way.now.source Free) c.args.way.now.target (Holds c.args.way.now.page); movable = slice_set c.self.inside.frames.movable c.args.way.now.target c.can_move.result; unmovable = c.self.inside.frames.unmovable }
 frames_are c = left_settled c.self.inside.frames c.leave.new.self c.settle.new.self _ _ _ _ c.leave.ensures.state c.settle.ensures.page
 
 settling : {g : Over} (c : After-note g) → Settling c.self.inside (after c) c.args.self.now c.args.way.now.page (Moving c.args.way.now.serial c.args.way.now.source c.args.way.now.target) (At c.args.way.now.target) (Moved c.args.way.now.serial) c.get-note.result c.args.self.now.migrate c.args.self.now.free
@@ -87,6 +88,8 @@ settling {g = g} c =
       movable = subst (λ (fs : Frames). MovableSettled z.frames.movable fs.movable (can_move v way.page) (At way.target)) (sym (frames_are c))
           (kept_movable z.frames.movable (can_move v way.page) c.can_move.result way.target (omega (arith, target_here, sound.movable.count))
           (c.can_move.ensures ∙ movable_seen z v way.page c.get-note.result (note_seen c.self.view_is sound (not_none _ (Moving way.serial way.source way.target) at) c.get-note.ensures)));
+      fixed = moving_movable v z.frames.unmovable sound.unmovable way.page way.serial way.source way.target at;
+      counts = ap (λ (fs : Frames). fs.unmovable) (frames_are c);
       tables = c.to_present.ensures.replaced;
       words = subst (λ (rows : List (List ℕ)). WordsSettled v.page_size z.words rows (Moving way.serial way.source way.target) (At way.target)) (sym c.fill_target.ensures)
           (moved_words z.words (words_of z.words way.source) way.serial way.source way.target (omega (arith, target_here, sound.words.count)) refl (sound.words.sized way.source source_in));

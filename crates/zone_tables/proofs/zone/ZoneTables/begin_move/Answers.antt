@@ -18,6 +18,7 @@ use Rattle.state_core.proofs.Facts.{isolated_bound, not_none, room_for_two}
 use Rattle.zone_tables.proofs.Tables.{note_is, note_of, placement_seen}
 use Rattle.zone_tables.proofs.Isolation.{isolated_frames, isolated_words, isolated_movable}
 use Rattle.state_core.proofs.Settled.{can_isolate, isolate_recorded, target_within, swept_if_isolated}
+use Rattle.zone_tables.proofs.UnmovablePages.{movable_only}
 use Rattle.zone_tables.proofs.Relocation.{Settling, FramesSettled, MovableSettled, settle_invariant, settle_view}
 use Rattle.zone_tables.proofs.zone.ZoneTables.begin_move.Given.{Over}
 use Rattle.zone_tables.proofs.zone.ZoneTables.begin_move.Goals as goal
@@ -83,6 +84,8 @@ settling c =
           (isolated_frames z.frames.states pair.page pair.source pair.target (isolated v.records) (λ e. absurd (omega arith)) (omega (arith, target_in, sound.frames.count)) (omega (arith, target_in, sound.frames.count)));
       movable = subst (λ (fs : Frames). MovableSettled z.frames.movable fs.movable (can_move v pair.page) (Moving (isolated v.records) pair.source pair.target)) (sym frames_are)
           (isolated_movable z.frames.movable (can_move v pair.page) (isolated v.records) pair.source pair.target);
+      fixed = movable_only v pair.page is.from.movable;
+      counts = ap (λ (fs : Frames). fs.unmovable) frames_are;
       tables = c.to_migration.ensures.replaced;
       words = isolated_words z.words v sound.words (isolated v.records) pair.source pair.target (omega arith) target_in;
       notes = c.place.ensures _ (noted c) ∙ ap (λ (n : ℕ). slice_set z.notes pair.page (record (note_of z pair.page) { placement = Some (Moving n pair.source pair.target) })) serial;

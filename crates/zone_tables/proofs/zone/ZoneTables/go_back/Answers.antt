@@ -16,6 +16,7 @@ use Rattle.state_core.specs.ZoneState.{ZoneState}
 use Rattle.state_core.proofs.Facts.{not_none}
 use Rattle.state_core.proofs.Settled.{can_go_back, back_recorded, frames_apart, source_within, target_in, swept_if_put_back}
 use Rattle.zone_tables.proofs.MoveEnds.{back_frames, back_words, kept_movable, left_settled, source_still, target_on_way, source_left, source_listed, back_settled, some_on_the_way, ending_room}
+use Rattle.zone_tables.proofs.UnmovablePages.{moving_movable}
 use Rattle.zone_tables.proofs.Relocation.{Settling, FramesSettled, MovableSettled, settle_invariant, settle_view}
 use Rattle.zone_tables.proofs.zone.ZoneTables.go_back.Given.{Over}
 use Rattle.zone_tables.proofs.zone.ZoneTables.go_back.Goals as goal
@@ -46,7 +47,7 @@ after c = record c.self.inside {
   history = c.note.new.self;
 }
 
-frames_are : {g : Over} (c : After-note g) → c.settle.new.self ≡ record { states = slice_set (slice_set c.self.inside.frames.states c.args.way.now.target Free) c.args.way.now.source (Holds c.args.way.now.page); movable = slice_set c.self.inside.frames.movable c.args.way.now.source c.can_move.result }
+frames_are : {g : Over} (c : After-note g) → c.settle.new.self ≡ record { states = slice_set (slice_set c.self.inside.frames.states c.args.way.now.target Free) c.args.way.now.source (Holds c.args.way.now.page); movable = slice_set c.self.inside.frames.movable c.args.way.now.source c.can_move.result; unmovable = c.self.inside.frames.unmovable }
 frames_are c = left_settled c.self.inside.frames c.leave.new.self c.settle.new.self _ _ _ _ c.leave.ensures.state c.settle.ensures.page
 
 settling : {g : Over} (c : After-note g) → Settling c.self.inside (after c) c.args.self.now c.args.way.now.page (Moving c.args.way.now.serial c.args.way.now.source c.args.way.now.target) (At c.args.way.now.source) (Back c.args.cause c.args.way.now.serial) c.get-note.result c.args.self.now.migrate c.args.self.now.free
@@ -71,6 +72,8 @@ settling c =
       movable = subst (λ (fs : Frames). MovableSettled z.frames.movable fs.movable (can_move v way.page) (At way.source)) (sym (frames_are c))
           (kept_movable z.frames.movable (can_move v way.page) c.can_move.result way.source (omega (arith, source_in, sound.movable.count))
           (c.can_move.ensures ∙ movable_seen z v way.page c.get-note.result (note_seen c.self.view_is sound (not_none _ (Moving way.serial way.source way.target) at) c.get-note.ensures)));
+      fixed = moving_movable v z.frames.unmovable sound.unmovable way.page way.serial way.source way.target at;
+      counts = ap (λ (fs : Frames). fs.unmovable) (frames_are c);
       tables = c.to_present.ensures.replaced;
       words = back_words z.words v sound.words way.serial way.source way.target source_in;
       notes = c.place.ensures c.get-note.result c.get-note.ensures;

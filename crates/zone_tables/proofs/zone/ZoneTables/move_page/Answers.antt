@@ -22,11 +22,11 @@ isolate-serial-requires g c = away.serial_left c.self.view_is c.self.invariant _
 pub arrive-requires : goal.arrive-requires
 arrive-requires g c = away.some_moving c.self.view_is c.self.invariant _ c.requires.may_move c.requires.accepted c.isolate-serial.new.self c.isolate-serial.ensures.noted
 
-pub empty-requires : goal.empty-requires
-empty-requires g c = away.source_holds c.self.view_is c.self.invariant _ c.requires.may_move c.requires.accepted
+pub empty-requires-clause-page : goal.empty-requires-clause-page
+empty-requires-clause-page g c = away.source_holds c.self.view_is c.self.invariant _ c.requires.may_move c.requires.accepted
 
-pub fill-requires : goal.fill-requires
-fill-requires g c = away.target_free_then c.self.view_is c.self.invariant _ c.requires.may_move c.requires.accepted c.empty.new.self c.empty.ensures.state
+pub fill-requires-clause-free : goal.fill-requires-clause-free
+fill-requires-clause-free g c = away.target_free_then c.self.view_is c.self.invariant _ c.requires.may_move c.requires.accepted c.empty.new.self c.empty.ensures.state
 
 pub to_migration-requires-clause-within : goal.to_migration-requires-clause-within
 to_migration-requires-clause-within g c = away.source_listed c.self.view_is c.self.invariant _ c.requires.may_move c.requires.accepted

@@ -1,4 +1,4 @@
-use Rattle.std.proofs.Common.{◌∙◌, ℕ, ap, sym, arith}
+use Rattle.std.proofs.Common.{◌∙◌, ◌/◌, ℕ, ap, sym, arith}
 use Rattle.std.specs.Prelude.{is_some, slice_set, unwrap_or}
 use Rattle.state_core.specs.Mapping.{placed}
 use Rattle.state_core.proofs.Facts.{in_table, spare}
@@ -10,6 +10,7 @@ use Rattle.zone_tables.proofs.Entries.{in_tables}
 use Rattle.zone_tables.proofs.ListedAddresses.{count_none, none_left}
 use Rattle.zone_tables.proofs.SearchesAndCounts.{free_seen}
 use Rattle.zone_tables.proofs.Tables.{placement_seen}
+use Rattle.zone_tables.proofs.UnmovablePages.{unmovable_few}
 use Rattle.zone_tables.proofs.zone.ZoneTables.place.Given.{Over}
 use Rattle.zone_tables.proofs.zone.ZoneTables.place.Goals as goal
 use Rattle.zone_tables.proofs.zone.ZoneTables.place.Goals.{After-note}
@@ -32,8 +33,13 @@ can c =
       within = c.requires.within;
     }
 
-pub fill-requires : goal.fill-requires
-fill-requires g c =
+pub fill-requires-clause-few : goal.fill-requires-clause-few
+fill-requires-clause-few g c =
+    let sound = is_sound c.self.view_is c.self.invariant in
+    λ e. unmovable_few c.args.self.now c.self.inside.frames.unmovable sound.unmovable (c.args.frame / 512) (omega (arith, c.requires.within)) sound.valid.size.1
+
+pub fill-requires-clause-free : goal.fill-requires-clause-free
+fill-requires-clause-free g c =
     free_seen c.self.inside.frames.states c.args.self.now (is_sound c.self.view_is c.self.invariant).frames c.args.frame c.requires.within ∙ c.requires.free
 
 pub add-requires-clause-within : goal.add-requires-clause-within
