@@ -13,8 +13,8 @@ use Rattle.state_core.specs.declared.error.ZoneError.TheVariants.{JournalFull, N
 use Rattle.state_core.specs.Access.{access_refusal, value_at}
 use Rattle.state_core.specs.Calls.{refusal_of, answer_of, after, record_of}
 use Rattle.state_core.specs.Mapping.{map_refusal, map_at_refusal, mapped}
-use Rattle.state_core.specs.ZoneState.{ZoneState, frame_for, has_address, has_room, highest_free_frame, lowest_free_frame, lowest_unused_page}
-use Rattle.state_core.proofs.Finding.{some_highest}
+use Rattle.state_core.specs.ZoneState.{ZoneState, frame_for, has_address, has_room, lowest_free_frame, lowest_unused_page}
+use Rattle.state_core.proofs.Finding.{frame_for_found}
 use Rattle.client_core.specs.Calls.{HasMade, IsAccepted, leaving, loading, mapping, mapping_free}
 use Rattle.client_core.specs.Receipts.{Client, with_receipt}
 use Rattle.client_core.proofs.ManyCalls.{passes}
@@ -24,17 +24,14 @@ found : (o : Option ℕ) → IsSome o → o ≡ Some (unwrap_or o 0)
 found None some = cc
 found (Some n) some = refl
 
-either_some : (z : ZoneState) → IsSome (lowest_free_frame z) → (apart : Bool) → IsSome (if apart then highest_free_frame z else lowest_free_frame z)
-either_some z some true = some_highest z some
-either_some z some false = some
-
 free_frame : (z : ZoneState) (address : Address) (unmovable : Bool) → map_refusal z address ≡ None → frame_for z unmovable ≡ Some (unwrap_or (frame_for z unmovable) 0)
 free_frame z address unmovable passed =
     let unless_ranged = passes (not (has_address z address)) Range _ passed in
     let unless_full = passes (not (has_room z)) JournalFull _ unless_ranged.1 in
     let unless_occupied = passes (is_some (page_at z.records address)) Occupied _ unless_full.1 in
     let unless_none = passes (is_none (lowest_free_frame z)) NoFrame None unless_occupied.1 in
-    found (frame_for z unmovable) (either_some z (not-false _ unless_none.0) (z.apart && unmovable))
+    let free = frame_for_found z unmovable (not-false _ unless_none.0) in
+    found (frame_for z unmovable) (ap is_some free.1)
 
 module _ {W : ℕ} (old new : Client) (answer : ZoneAnswer) where
   -- a valid zone accepted a call that was made, and is what the call leaves

@@ -1,6 +1,6 @@
 -- The groups of pageblocks, as they are opened and after a change of one pageblock.
 use Rattle.std.proofs.Common.{◌≡◌, ◌≢◌, ℕ, ◌<◌, ◌≤◌, Bool, true, false, List, length, inl, inr, refl, sym, ap, ◌∙◌, eq-eqb, replicate, slice_index, arith}
-use Rattle.std.specs.Prelude.{nat_eq, nat_lt, if◌then◌else◌}
+use Rattle.std.specs.Prelude.{◌&&◌, nat_eq, nat_lt, if◌then◌else◌}
 use Rattle.std.specs.FinSet as set
 use Rattle.std.specs.Ordering.{nat_cmp}
 use Rattle.std.proofs.Math.Bool.{and-false}
@@ -9,8 +9,10 @@ use Rattle.std.proofs.lemmas.Bool.Decides.{eqb_tells, leb_tells}
 use Rattle.std.proofs.lemmas.List.{get_or_past, length-replicate}
 use Rattle.scan_core.specs.BlockGroups.{IsGrouped, IsRegrouped, takes_another, takes_unmovable}
 use Rattle.scan_core.specs.declared.block_groups.BlockGroups.{BlockGroups}
+use Rattle.scan_core.proofs.FrameSets.{keep_if}
 use Rattle.scan_core.proofs.Masking.{clash}
 use Rattle.scan_core.proofs.Seeing.{skipped, taken}
+use Rattle.scan_core.proofs.Spanning.{both}
 use Rattle.scan_core.proofs.Tallying.{item_of}
 
 -- an item of a list of equal numbers is 0 or that number
@@ -77,3 +79,17 @@ member_low groups free grouped block =
       λ e. none_free takes_unmovable unmovable free block (no_free unmovable).0 (sym (grouped.with_unmovable block) ∙ e),
       λ e. none_free takes_another unmovable free block (no_free unmovable).1 (sym (grouped.without_unmovable block) ∙ e),
     )
+
+-- a pageblock that is neither full nor whole before and after a change stays in its groups
+partly_alike : (unmovable before free : ℕ) → (nat_lt 0 before && nat_lt before 512) ≡ true → (nat_lt 0 free && nat_lt free 512) ≡ true → (takes_unmovable unmovable before ≡ takes_unmovable unmovable free) × (takes_another unmovable before ≡ takes_another unmovable free)
+partly_alike unmovable before free was is = (ap (λ b. nat_lt 0 unmovable && b) ((both (nat_lt 0 before) (nat_lt before 512) was).0 ∙ sym (both (nat_lt 0 free) (nat_lt free 512) is).0), ap (λ b. nat_eq unmovable 0 && b) (was ∙ sym is))
+
+pub still_grouped : (groups : BlockGroups) (block before free : ℕ) → (nat_lt 0 before && nat_lt before 512) ≡ true → (nat_lt 0 free && nat_lt free 512) ≡ true → set.contains groups.with_unmovable.members block ≡ takes_unmovable (slice_index groups.unmovable.items block) before
+    → set.contains groups.without_unmovable.members block ≡ takes_another (slice_index groups.unmovable.items block) before → IsRegrouped groups groups block (slice_index groups.unmovable.items block) free
+still_grouped groups block before free was is with_one without_one =
+    let alike = partly_alike (slice_index groups.unmovable.items block) before free was is in
+    record {
+      room = λ blocks room. room;
+      with_unmovable = λ n. keep_if n block (set.contains groups.with_unmovable.members) _ (with_one ∙ alike.0);
+      without_unmovable = λ n. keep_if n block (set.contains groups.without_unmovable.members) _ (without_one ∙ alike.1);
+    }

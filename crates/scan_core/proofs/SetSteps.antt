@@ -41,9 +41,10 @@ module _ (s : Inside) (sound : IsCounted s) (numbers : Numbers) (first number m 
     pub more_room : slice_index s.blocks (number / 512) + m ≤ 512
     more_room = omega (arith, room_more _ _ first m within adds s.blocks block_low sound.counts.each, ap (λ n. slice_index s.blocks (n / 512)) at)
 
-    pub set_more : (blocks : List ℕ) → numbers.bound ≡ s.numbers.bound → blocks ≡ with_more s.blocks (number / 512) m → (runs : WholeRuns) → IsOpen runs → runs.blocks ≡ s.runs.blocks → HasWholeRuns runs (set.contains numbers.members) → (groups : BlockGroups) (block free : ℕ) → block ≡ first / 512 → IsCountGrouped s.groups groups blocks block free → IsCounted (record s { numbers = numbers; count = s.count + m; blocks = blocks; runs = runs; groups = groups })
-    set_more blocks same are runs runs_open as_many whole groups block free here step =
+    pub set_more : (blocks : List ℕ) → numbers.bound ≡ s.numbers.bound → blocks ≡ with_more s.blocks (number / 512) m → (runs : WholeRuns) → IsOpen runs → runs.blocks ≡ s.runs.blocks → HasWholeRuns runs (set.contains numbers.members) → (groups : BlockGroups) (block before : ℕ) → block ≡ first / 512 → before ≡ slice_index s.blocks block → groups.unmovable ≡ s.groups.unmovable → IsRegrouped s.groups groups block (slice_index s.groups.unmovable.items block) (before + m) → IsCounted (record s { numbers = numbers; count = s.count + m; blocks = blocks; runs = runs; groups = groups })
+    set_more blocks same are runs runs_open as_many whole groups block before here was kept step =
         let now : blocks ≡ with_more s.blocks (first / 512) m = are ∙ ap (λ n. with_more s.blocks (n / 512) m) at in
+        let count : before + m ≡ slice_index blocks block = omega (arith, was, ap (slice_index s.blocks) here, ap (λ (xs : List ℕ). slice_index xs block) now, ap (slice_index (with_more s.blocks (first / 512) m)) here, get_or-set_same s.blocks (first / 512) (slice_index s.blocks (first / 512) + m) 0 block_low) in
         let long : length blocks ≡ length s.blocks = ap length now ∙ length-set s.blocks (first / 512) (slice_index s.blocks (first / 512) + m) in
         record {
           counts = subst (λ (bs : List ℕ). Counts (s.count + m) bs (set.contains numbers.members)) (sym now) (counts_more _ _ first m within adds s.blocks block_low s.count sound.counts);
@@ -52,7 +53,7 @@ module _ (s : Inside) (sound : IsCounted s) (numbers : Numbers) (first number m 
           runs_open = runs_open;
           runs_blocks = as_many ∙ sound.runs_blocks ∙ sym long;
           runs = whole;
-          groups = groups_after s.groups groups s.blocks blocks (first / 512) _ block free sound.groups now here step;
+          groups = groups_after s.groups groups s.blocks blocks (first / 512) _ block (before + m) sound.groups now here (record { count = count; unmovable = kept; regrouped = step });
         }
 
   module _ (adds : Adds (set.contains numbers.members) (set.contains s.numbers.members) first m) where
@@ -62,9 +63,10 @@ module _ (s : Inside) (sound : IsCounted s) (numbers : Numbers) (first number m 
     pub fewer_room : m ≤ slice_index s.blocks (number / 512)
     fewer_room = omega (arith, room_fewer _ _ first m within adds s.blocks block_low sound.counts.each, ap (λ n. slice_index s.blocks (n / 512)) at)
 
-    pub set_fewer : (blocks : List ℕ) → numbers.bound ≡ s.numbers.bound → blocks ≡ with_fewer s.blocks (number / 512) m → (runs : WholeRuns) → IsOpen runs → runs.blocks ≡ s.runs.blocks → HasWholeRuns runs (set.contains numbers.members) → (groups : BlockGroups) (block free : ℕ) → block ≡ first / 512 → IsCountGrouped s.groups groups blocks block free → IsCounted (record s { numbers = numbers; count = s.count - m; blocks = blocks; runs = runs; groups = groups })
-    set_fewer blocks same are runs runs_open as_many whole groups block free here step =
+    pub set_fewer : (blocks : List ℕ) → numbers.bound ≡ s.numbers.bound → blocks ≡ with_fewer s.blocks (number / 512) m → (runs : WholeRuns) → IsOpen runs → runs.blocks ≡ s.runs.blocks → HasWholeRuns runs (set.contains numbers.members) → (groups : BlockGroups) (block before : ℕ) → block ≡ first / 512 → before ≡ slice_index s.blocks block → groups.unmovable ≡ s.groups.unmovable → IsRegrouped s.groups groups block (slice_index s.groups.unmovable.items block) (before - m) → IsCounted (record s { numbers = numbers; count = s.count - m; blocks = blocks; runs = runs; groups = groups })
+    set_fewer blocks same are runs runs_open as_many whole groups block before here was kept step =
         let now : blocks ≡ with_fewer s.blocks (first / 512) m = are ∙ ap (λ n. with_fewer s.blocks (n / 512) m) at in
+        let count : before - m ≡ slice_index blocks block = omega (arith, was, ap (slice_index s.blocks) here, ap (λ (xs : List ℕ). slice_index xs block) now, ap (slice_index (with_fewer s.blocks (first / 512) m)) here, get_or-set_same s.blocks (first / 512) (slice_index s.blocks (first / 512) - m) 0 block_low) in
         let long : length blocks ≡ length s.blocks = ap length now ∙ length-set s.blocks (first / 512) (slice_index s.blocks (first / 512) - m) in
         record {
           counts = subst (λ (bs : List ℕ). Counts (s.count - m) bs (set.contains numbers.members)) (sym now) (counts_fewer _ _ first m within adds s.blocks block_low s.count sound.counts);
@@ -73,7 +75,7 @@ module _ (s : Inside) (sound : IsCounted s) (numbers : Numbers) (first number m 
           runs_open = runs_open;
           runs_blocks = as_many ∙ sound.runs_blocks ∙ sym long;
           runs = whole;
-          groups = groups_after s.groups groups s.blocks blocks (first / 512) _ block free sound.groups now here step;
+          groups = groups_after s.groups groups s.blocks blocks (first / 512) _ block (before - m) sound.groups now here (record { count = count; unmovable = kept; regrouped = step });
         }
 
 -- the set after the number of unmovable pages of a pageblock changed

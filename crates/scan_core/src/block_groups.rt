@@ -1,8 +1,8 @@
 //! The pageblocks that unmovable pages go to, and those that other pages go to, where these are kept apart.
 
-ghost use Rattle.std.specs.Prelude.{◌≡◌, ℕ, ◌+◌, ◌-◌, ◌<◌, ◌≤◌, length, nat_eq, replicate, slice_index, slice_set, IfOk, if◌then◌else◌};
+ghost use Rattle.std.specs.Prelude.{◌≡◌, ℕ, ◌+◌, ◌-◌, ◌<◌, ◌≤◌, ◌&&◌, length, nat_eq, nat_lt, replicate, slice_index, slice_set, IfOk, if◌then◌else◌};
 ghost use Rattle.std.specs.FinSet as set;
-ghost use Rattle.scan_core.specs.BlockGroups.{HasRoom, IsGrouped, IsRegrouped};
+ghost use Rattle.scan_core.specs.BlockGroups.{HasRoom, IsGrouped, IsRegrouped, takes_another, takes_unmovable};
 
 use frame_core::FixedVec;
 use number_set::NumberSet;
@@ -34,9 +34,24 @@ impl BlockGroups {
         })
     }
 
-    /// A pageblock has this many free frames now.
+    /// A pageblock that had so many free frames before has so many now. Its groups change only where it was full or whole, or is now.
     #[inline(always)]
-    pub(crate) fn regroup(&mut self, block: u32, free: u32)
+    pub(crate) fn regroup(&mut self, block: u32, before: u32, free: u32)
+        requires room { (blocks : ℕ) × HasRoom self.old blocks × (block < blocks) }
+        requires with_unmovable { set.contains self.old.with_unmovable.members block ≡ takes_unmovable (slice_index self.old.unmovable.items block) before }
+        requires without_unmovable { set.contains self.old.without_unmovable.members block ≡ takes_another (slice_index self.old.unmovable.items block) before }
+        ensures unmovable { self.new.unmovable ≡ self.old.unmovable }
+        ensures regrouped { IsRegrouped self.old self.new block (slice_index self.old.unmovable.items block) free }
+    {
+        if is_partly_free(before) && is_partly_free(free) {
+            return;
+        }
+        self.put(block, free);
+    }
+
+    /// Puts a pageblock with this many free frames into its groups.
+    #[inline(never)]
+    fn put(&mut self, block: u32, free: u32)
         requires room { (blocks : ℕ) × HasRoom self.old blocks × (block < blocks) }
         ensures unmovable { self.new.unmovable ≡ self.old.unmovable }
         ensures regrouped { IsRegrouped self.old self.new block (slice_index self.old.unmovable.items block) free }
@@ -56,7 +71,7 @@ impl BlockGroups {
         ensures regrouped { IsRegrouped self.old self.new block (slice_index self.old.unmovable.items block + 1) free }
     {
         self.unmovable[block as usize] += 1;
-        self.regroup(block, free);
+        self.put(block, free);
     }
 
     /// A pageblock has one unmovable page less. This many of its frames are free.
@@ -67,8 +82,16 @@ impl BlockGroups {
         ensures regrouped { IsRegrouped self.old self.new block (slice_index self.old.unmovable.items block - 1) free }
     {
         self.unmovable[block as usize] -= 1;
-        self.regroup(block, free);
+        self.put(block, free);
     }
+}
+
+/// Whether a pageblock with this many free frames is neither full nor whole.
+#[inline(always)]
+fn is_partly_free(free: u32) -> bool
+    ensures { result ≡ (nat_lt 0 free && nat_lt free 512) }
+{
+    0 < free && free < 512
 }
 
 /// Puts a number into a set, or takes it out.

@@ -92,12 +92,13 @@ impl FrameSet {
         requires none { set.contains self.old.members frame ≡ false }
         ensures { self.new ≡ record self.old { members = set.insert self.old.members frame } }
     {
+        let block = frame.get() / 512;
+        let before = self.blocks.get(block);
         self.numbers.insert(frame.get());
         self.count += 1;
         self.blocks.more(frame.get() / 512, 1);
         self.runs.insert_frame(&self.numbers, frame.get());
-        let block = frame.get() / 512;
-        self.groups.regroup(block, self.blocks.get(block));
+        self.groups.regroup(block, before, before + 1);
     }
 
     /// Takes out a frame that is a member.
@@ -106,12 +107,13 @@ impl FrameSet {
         requires member { set.contains self.old.members frame ≡ true }
         ensures { self.new ≡ record self.old { members = set.remove self.old.members frame } }
     {
+        let block = frame.get() / 512;
+        let before = self.blocks.get(block);
         self.runs.remove_frame(&self.numbers, frame.get());
         self.numbers.remove(frame.get());
         self.count -= 1;
         self.blocks.fewer(frame.get() / 512, 1);
-        let block = frame.get() / 512;
-        self.groups.regroup(block, self.blocks.get(block));
+        self.groups.regroup(block, before, before - 1);
     }
 
     /// Puts in the frames of a block of this order, none of which is a member.
@@ -123,13 +125,14 @@ impl FrameSet {
         ensures bound { self.new.bound ≡ self.old.bound }
         ensures unmovable { self.new.unmovable ≡ self.old.unmovable }
     {
+        let block = first.get() / 512;
+        let before = self.blocks.get(block);
         let frames = order.frames();
         self.numbers.insert_run(first.get(), order.get());
         self.count += frames;
         self.blocks.more(first.get() / 512, frames);
         self.runs.insert(first.get(), order.get());
-        let block = first.get() / 512;
-        self.groups.regroup(block, self.blocks.get(block));
+        self.groups.regroup(block, before, before + frames);
     }
 
     /// Takes out the frames of a block of this order, all of which are members.
@@ -141,13 +144,14 @@ impl FrameSet {
         ensures bound { self.new.bound ≡ self.old.bound }
         ensures unmovable { self.new.unmovable ≡ self.old.unmovable }
     {
+        let block = first.get() / 512;
+        let before = self.blocks.get(block);
         let frames = order.frames();
         self.numbers.remove_run(first.get(), order.get());
         self.count -= frames;
         self.blocks.fewer(first.get() / 512, frames);
         self.runs.remove(first.get(), order.get());
-        let block = first.get() / 512;
-        self.groups.regroup(block, self.blocks.get(block));
+        self.groups.regroup(block, before, before - frames);
     }
 
     /// A page comes to a frame. The pageblock has an unmovable page more, where it is unmovable.

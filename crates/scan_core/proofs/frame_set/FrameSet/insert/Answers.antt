@@ -35,4 +35,4 @@ invariant_of-self c =
     set_more c.self.inside c.self.invariant c.insert.new.self c.args.frame c.get-2.result 1 low (omega arith) c.get-2.ensures.value adds c.more.new.self (ap (λ (s : Numbers). s.bound) c.insert.ensures) c.more.ensures c.insert_frame.new.self c.insert_frame.ensures.open c.insert_frame.ensures.blocks
     (c.insert_frame.ensures.whole (set.contains c.self.inside.numbers.members) c.self.invariant.runs (λ k. ap (λ (s : Numbers). set.contains s.members k) c.insert.ensures ∙ member_insert c.self.inside.numbers.members c.get.result k
     ∙ ap (λ n. nat_eq k n || set.contains c.self.inside.numbers.members k) (c.get.ensures.value ∙ sym c.get-3.ensures.value)))
-    c.regroup.new.self (c.get-block.result / 512) c.get-4.result (ap (λ n. n / 512) c.get-block.ensures.value) (record { count = c.get-4.ensures.count; unmovable = c.regroup.ensures.unmovable; regrouped = c.regroup.ensures.regrouped })
+    c.regroup.new.self (c.get-block.result / 512) c.get-before.result (ap (λ n. n / 512) c.get-block.ensures.value) c.get-before.ensures.count c.regroup.ensures.unmovable c.regroup.ensures.regrouped

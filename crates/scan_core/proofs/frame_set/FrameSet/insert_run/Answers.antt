@@ -61,4 +61,4 @@ invariant_of-self c =
     (c.insert.ensures.whole (set.contains c.self.inside.numbers.members) (set.contains c.insert_run.new.self.members) c.self.invariant.runs
     (subst (λ (f : ℕ). Fills (set.contains c.self.inside.numbers.members) (set.contains c.insert_run.new.self.members) f (2 ^ c.get-5.result)) (sym c.get-4.ensures.value) (subst (λ (o : ℕ). Fills (set.contains c.self.inside.numbers.members) (set.contains c.insert_run.new.self.members) c.args.first (2 ^ o)) (sym c.get-5.ensures.value)
     (run_came (set.contains c.self.inside.numbers.members) (set.contains c.insert_run.new.self.members) c.args.first c.args.order (λ k. c.insert_run.ensures.run k ∙ (λ i. in_run (c.get.ensures.value i) (2 ^ c.get-2.ensures.value i) k || set.contains c.self.inside.numbers.members k))))))
-    c.regroup.new.self (c.get-block.result / 512) c.get-6.result (ap (λ n. n / 512) c.get-block.ensures.value) (record { count = c.get-6.ensures.count; unmovable = c.regroup.ensures.unmovable; regrouped = c.regroup.ensures.regrouped })
+    c.regroup.new.self (c.get-block.result / 512) c.get-before.result (ap (λ n. n / 512) c.get-block.ensures.value) c.get-before.ensures.count c.regroup.ensures.unmovable c.regroup.ensures.regrouped

@@ -1,5 +1,5 @@
-use Rattle.std.proofs.Common.{◌/◌, ℕ, subst, ◌<◌, ◌≤◌, ◌+◌, ◌*◌, ◌%◌, ◌^◌, length, ap, sym, ◌∙◌, arith}
-use Rattle.std.specs.Prelude.{not, ◌&&◌}
+use Rattle.std.proofs.Common.{◌≡◌, ◌/◌, ℕ, subst, ◌<◌, ◌≤◌, ◌+◌, ◌*◌, ◌%◌, ◌^◌, length, ap, sym, ◌∙◌, arith}
+use Rattle.std.specs.Prelude.{slice_index, not, ◌&&◌}
 use Rattle.std.specs.FinSet as set
 use Rattle.scan_core.specs.FrameSet.{FrameNumbers}
 use Rattle.frame_core.specs.Order.{is_aligned}
@@ -40,6 +40,18 @@ fewer-requires-clause-counted c =
     (λ k. c.remove_run.ensures.run k ∙ ap (λ m. not (in_run c.get.result m k) && set.contains c.self.inside.numbers.members k) count) in
     fewer_room c.self.inside c.self.invariant c.remove_run.new.self c.args.first c.get-3.result c.frames-frames.result low within c.get-3.ensures.value adds
 
+pub overflow_sub-before : goal.overflow_sub-before
+overflow_sub-before c =
+    let low : c.args.first < 512 * length c.self.inside.blocks = omega (arith, ap (λ (s : FrameNumbers). s.bound) c.self.view_is, c.requires.within, some_frames c.args.order c.frames-frames.ensures.low c.frames-frames.ensures.high) in
+    let within : c.args.first % 512 + c.frames-frames.result ≤ 512 = omega (arith, c.frames-frames.ensures.value, one_block c.args.order c.frames-frames.ensures.low c.frames-frames.ensures.high c.args.first c.requires.aligned) in
+    let count = ap (λ o. 2 ^ o) c.get-2.ensures.value ∙ sym c.frames-frames.ensures.value in
+    let adds = removes_run c.self.inside.numbers.members c.remove_run.new.self.members c.args.first c.get.result c.frames-frames.result c.get.ensures.value
+    (λ k e. ap (λ (s : FrameNumbers). set.contains s.members k) c.self.view_is ∙ c.requires.all k (ap (λ m. in_run c.args.first m k) (sym c.frames-frames.ensures.value) ∙ e))
+    (λ k. c.remove_run.ensures.run k ∙ ap (λ m. not (in_run c.get.result m k) && set.contains c.self.inside.numbers.members k) count) in
+    let room = fewer_room c.self.inside c.self.invariant c.remove_run.new.self c.args.first c.get-3.result c.frames-frames.result low within c.get-3.ensures.value adds in
+    let at : c.get-before.result ≡ slice_index c.self.inside.blocks (c.get-3.result / 512) = c.get-before.ensures.count ∙ ap (λ n. slice_index c.self.inside.blocks (n / 512)) (c.get-block.ensures.value ∙ sym c.get-3.ensures.value) in
+    omega (arith, room, at)
+
 pub remove-requires : goal.remove-requires
 remove-requires c =
     record {
@@ -61,4 +73,4 @@ invariant_of-self c =
     (c.remove.ensures.whole (set.contains c.self.inside.numbers.members) (set.contains c.remove_run.new.self.members) c.self.invariant.runs
     (subst (λ (f : ℕ). Empties (set.contains c.self.inside.numbers.members) (set.contains c.remove_run.new.self.members) f (2 ^ c.get-5.result)) (sym c.get-4.ensures.value) (subst (λ (o : ℕ). Empties (set.contains c.self.inside.numbers.members) (set.contains c.remove_run.new.self.members) c.args.first (2 ^ o)) (sym c.get-5.ensures.value)
     (run_went (set.contains c.self.inside.numbers.members) (set.contains c.remove_run.new.self.members) c.args.first c.args.order (λ k inside. ap (λ (s : FrameNumbers). set.contains s.members k) c.self.view_is ∙ c.requires.all k inside) (λ k. c.remove_run.ensures.run k ∙ (λ i. not (in_run (c.get.ensures.value i) (2 ^ c.get-2.ensures.value i) k) && set.contains c.self.inside.numbers.members k))))))
-    c.regroup.new.self (c.get-block.result / 512) c.get-6.result (ap (λ n. n / 512) c.get-block.ensures.value) (record { count = c.get-6.ensures.count; unmovable = c.regroup.ensures.unmovable; regrouped = c.regroup.ensures.regrouped })
+    c.regroup.new.self (c.get-block.result / 512) c.get-before.result (ap (λ n. n / 512) c.get-block.ensures.value) c.get-before.ensures.count c.regroup.ensures.unmovable c.regroup.ensures.regrouped
