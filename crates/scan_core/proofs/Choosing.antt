@@ -1,22 +1,25 @@
 -- Which frame the searches by pageblocks find.
-use Rattle.std.proofs.Common.{◌≡◌, ℕ, ◌*◌, ◌/◌, ◌<◌, ◌≤◌, Bool, true, false, not, List, length, inl, inr, refl, sym, ap, ◌∙◌, slice_index, le-ltb, ltb-true, lt-ltb, arith}
+use Rattle.std.proofs.Common.{◌≡◌, ℕ, ◌*◌, ◌/◌, ◌<◌, ◌≤◌, Bool, true, false, not, List, length, inl, inr, refl, sym, ap, ◌∙◌, slice_index, eq-eqb, le-ltb, ltb-true, lt-ltb, arith}
+use Rattle.std.proofs.lemmas.Bool.{and_from, both_ways, eqb-true, false_from_ne_true}
 use Rattle.std.specs.Prelude.{Option, Some, None, MatchOption, nat_eq, nat_lt, ◌&&◌}
 use Rattle.std.specs.FinSet as set
 use Rattle.std.specs.Option.{option_or}
 use Rattle.std.proofs.Math.Bool.{and-false}
 use Rattle.std.proofs.lemmas.Bool.Decides.{leb_tells, nat_tests}
 use Rattle.frame_core.specs.Below.{lowest}
-use Rattle.frame_core.proofs.Searches.{count_from_most, lowest_is, lowest_none, none_some, some_at}
+use Rattle.frame_core.specs.Order.{is_aligned}
+use Rattle.frame_core.proofs.Searches.{count_from_most, lowest_before, lowest_is, lowest_none, lowest_some, no_lowest, none_some, some_at}
 use Rattle.number_set.specs.Finds.{IsFirst, IsFrom, NoneAtAll, NoneFrom}
-use Rattle.scan_core.specs.Apart.{frame_with_unmovable, frame_without_unmovable, has_unmovable, is_emptiest, lowest_where}
+use Rattle.scan_core.specs.Apart.{frame_with_unmovable, frame_without_unmovable, has_unmovable, is_begun, is_emptiest, lowest_where}
 use Rattle.scan_core.specs.BlockGroups.{IsGrouped, takes_another, takes_unmovable}
 use Rattle.scan_core.specs.FrameCounts.{IsFullest, count_in_block}
-use Rattle.scan_core.specs.FrameSet.{Counts, all_of_block}
+use Rattle.scan_core.specs.FrameSet.{Counts, all_of_block, is_run_of}
+use Rattle.scan_core.specs.NumberSet.{all_from}
 use Rattle.scan_core.specs.declared.block_groups.BlockGroups.{BlockGroups}
-use Rattle.scan_core.proofs.FrameSets.{below_bound, some_from}
+use Rattle.scan_core.proofs.FrameSets.{all_pass, below_bound, some_from}
 use Rattle.scan_core.proofs.Masking.{clash}
 use Rattle.scan_core.proofs.RunCounts.{counted, counted_some}
-use Rattle.scan_core.proofs.Spanning.{both}
+use Rattle.scan_core.proofs.Spanning.{both, is_in_run}
 
 -- what the two tests of a pageblock's numbers say
 unmovable_there : (unmovable free : ℕ) → takes_unmovable unmovable free ≡ true → (nat_lt 0 unmovable ≡ true) × (0 < free)
@@ -32,6 +35,31 @@ another_there unmovable free e =
 
 no_another : (unmovable free : ℕ) → free ≤ 512 → takes_another unmovable free ≡ false → 0 < free → (not (nat_eq free 512) && not (nat_lt 0 unmovable)) ≡ false
 no_another unmovable free most e some = grind (arith, nat_tests, most, e, some)
+
+-- the lowest whole pageblock begins with the lowest frame of whole pageblocks
+module _ (p : ℕ → Bool) (frames : ℕ) where
+  run_whole : (first : ℕ) → is_run_of p 9 first ≡ true → (p first && all_of_block p (first / 512)) ≡ true
+  run_whole first run =
+      let parts = both (is_aligned 9 first) (all_from p first 512) run in
+      let at : first ≡ 512 * (first / 512) = omega (arith, eqb-true (first / 512 * 512) first parts.0) in
+      and_from (p first) (all_of_block p (first / 512)) (all_pass p first 512 parts.1 first (is_in_run first 512 first (omega arith) (omega arith))) (sym (ap (λ k. all_from p k 512) at) ∙ parts.1)
+
+  pub run_passes : (first : ℕ) → lowest (is_run_of p 9) frames ≡ Some first → p first ≡ true
+  run_passes first e = (both (p first) (all_of_block p (first / 512)) (run_whole first (lowest_some (is_run_of p 9) frames first e).1)).0
+
+  whole_run : (frame : ℕ) → (p frame && all_of_block p (frame / 512)) ≡ true → is_run_of p 9 (512 * (frame / 512)) ≡ true
+  whole_run frame whole =
+      and_from (is_aligned 9 (512 * (frame / 512))) (all_from p (512 * (frame / 512)) 512) (eq-eqb (512 * (frame / 512) / 512 * 512) (512 * (frame / 512)) (omega arith))
+      (both (p frame) (all_of_block p (frame / 512)) whole).1
+
+  pub lowest_of_whole : (run : Option ℕ) → lowest (is_run_of p 9) frames ≡ run → run ≡ lowest_where p (all_of_block p) frames
+  lowest_of_whole None e =
+      sym (lowest_none (λ frame. p frame && all_of_block p (frame / 512)) frames (λ frame h. false_from_ne_true _ (λ whole.
+      both_ways _ (no_lowest (is_run_of p 9) frames (512 * (frame / 512)) e (omega (arith, h))) (whole_run frame whole))))
+  lowest_of_whole (Some first) e =
+      let found = lowest_some (is_run_of p 9) frames first e in
+      sym (lowest_is (λ frame. p frame && all_of_block p (frame / 512)) frames first found.0 (run_whole first found.1) (λ frame h. false_from_ne_true _ (λ whole.
+      both_ways _ (lowest_before (is_run_of p 9) frames first (512 * (frame / 512)) e (omega (arith, h))) (whole_run frame whole))))
 
 module _ (p : ℕ → Bool) (count : ℕ) (counts : List ℕ) (right : Counts count counts p) where
   -- a frame that passes is counted
@@ -112,7 +140,7 @@ module _ (p : ℕ → Bool) (count : ℕ) (counts : List ℕ) (right : Counts co
         gone : lowest_where p (has_unmovable groups.unmovable.items) (512 * length counts) ≡ None
         gone = no_where (has_unmovable groups.unmovable.items) (λ k h some. no_unmovable (unmovable k) (slice_index counts k) (sym (grouped.with_unmovable k) ∙ none k) some)
 
-    another_gone : (k : ℕ) → k < length counts → 0 < slice_index counts k → set.contains groups.without_unmovable.members k ≡ false → (not (all_of_block p k) && not (has_unmovable groups.unmovable.items k)) ≡ false
+    another_gone : (k : ℕ) → k < length counts → 0 < slice_index counts k → set.contains groups.without_unmovable.members k ≡ false → is_begun p groups.unmovable.items k ≡ false
     another_gone k h some none =
         ap (λ n. not (nat_eq n 512) && not (nat_lt 0 (unmovable k))) (sym (counted counts p k right.each h))
         ∙ no_another (unmovable k) (slice_index counts k) (few k h) (sym (grouped.without_unmovable k) ∙ none) some
@@ -120,11 +148,16 @@ module _ (p : ℕ → Bool) (count : ℕ) (counts : List ℕ) (right : Counts co
     pub without_unmovable_first : (block : ℕ) (o : Option ℕ) → block < length counts → IsFirst (set.contains groups.without_unmovable.members) block → MatchOption o (NoneFrom p (512 * block)) (IsFrom p (512 * block)) → o ≡ frame_without_unmovable p groups.unmovable.items (512 * length counts)
     without_unmovable_first block o low first from =
         let there = another_there (unmovable block) (slice_index counts block) (sym (grouped.without_unmovable block) ∙ first.passes) in
-        found_first (λ k. not (all_of_block p k) && not (has_unmovable groups.unmovable.items k)) block low
+        found_first (is_begun p groups.unmovable.items) block low
         (ap (λ n. not (nat_eq n 512) && not (nat_lt 0 (unmovable block))) (sym (counted counts p block right.each low)) ∙ there.0)
         (λ k under some. another_gone k (omega (arith, under, low)) some (first.before k under))
         o _ from there.1
 
-    pub without_unmovable_none : NoneAtAll (set.contains groups.without_unmovable.members) → lowest p (512 * length counts) ≡ frame_without_unmovable p groups.unmovable.items (512 * length counts)
-    without_unmovable_none none =
-        sym (ap (λ found. option_or found (lowest p (512 * length counts))) (no_where (λ k. not (all_of_block p k) && not (has_unmovable groups.unmovable.items k)) (λ k h some. another_gone k h some (none k))))
+    pub without_unmovable_none : NoneAtAll (set.contains groups.without_unmovable.members) → (run : Option ℕ) → lowest (is_run_of p 9) (512 * length counts) ≡ run
+        → option_or run (lowest p (512 * length counts)) ≡ frame_without_unmovable p groups.unmovable.items (512 * length counts)
+    without_unmovable_none none run e =
+        ap (λ found. option_or found (lowest p (512 * length counts))) (lowest_of_whole p (512 * length counts) run e)
+        ∙ sym (ap (λ found. option_or found (option_or (lowest_where p (all_of_block p) (512 * length counts)) (lowest p (512 * length counts)))) gone)
+      where
+        gone : lowest_where p (is_begun p groups.unmovable.items) (512 * length counts) ≡ None
+        gone = no_where (is_begun p groups.unmovable.items) (λ k h some. another_gone k h some (none k))

@@ -36,7 +36,7 @@ not_held : (o : Option (FrameState ℕ)) → is_leaving_state (seen_state true o
 not_held None = refl
 not_held (Some state) = refl
 
--- a test that is none of three holds one of them
+-- where one of three tests holds, and each of them rules out a fourth, the fourth doesn't hold
 inside_one : (h f s t : Bool) → (h ≡ true → t ≡ false) → (f ≡ true → t ≡ false) → (s ≡ true → t ≡ false) → not (h || f || s) ≡ false → t ≡ false
 inside_one true f s t a b c e = a refl
 inside_one false true s t a b c e = b refl

@@ -23,10 +23,14 @@ is_emptiest free blocks block = not (some_below (λ other. nat_lt (count_in_bloc
 abbrev pub frame_with_unmovable : (ℕ → Bool) → List ℕ → ℕ → Option ℕ
 frame_with_unmovable free unmovable frames = option_or (lowest_where free (has_unmovable unmovable) frames) (lowest_where free (is_emptiest free (frames / 512)) frames)
 
--- for another page: in a pageblock without an unmovable page that isn't whole, and else the lowest
+-- whether a pageblock isn't whole and has no unmovable page
+abbrev pub is_begun : (ℕ → Bool) → List ℕ → ℕ → Bool
+is_begun free unmovable block = not (all_of_block free block) && not (has_unmovable unmovable block)
+
+-- for another page: in a pageblock without an unmovable page, one that isn't whole before one that is, and else the lowest
 abbrev pub frame_without_unmovable : (ℕ → Bool) → List ℕ → ℕ → Option ℕ
 frame_without_unmovable free unmovable frames =
-    option_or (lowest_where free (λ block. not (all_of_block free block) && not (has_unmovable unmovable block)) frames) (lowest free frames)
+    option_or (lowest_where free (is_begun free unmovable) frames) (option_or (lowest_where free (all_of_block free) frames) (lowest free frames))
 
 -- the frame for a page that is unmovable or not, of the frames of a zone
 abbrev pub frame_apart : Frames → Bool → Option ℕ

@@ -260,8 +260,11 @@ impl FrameSet {
         ensures lowest { result ≡ frame_without_unmovable (set.contains self.now.members) self.now.unmovable self.now.bound }
         ensures member { IfSome result (λ frame. set.contains self.now.members frame ≡ true) }
     {
-        match self.groups.without_unmovable.first() {
-            Some(block) => self.lowest_from(block),
+        if let Some(block) = self.groups.without_unmovable.first() {
+            return self.lowest_from(block);
+        }
+        match self.first_run(Order::of_pageblock()) {
+            Some(first) => Some(first),
             None => self.lowest(),
         }
     }

@@ -236,8 +236,8 @@ impl Frames {
         FrameNo::in_any_zone(frame)
     }
 
-    /// The lowest frame from one on that a page is leaving, if there is one. For each 64 frames it looks at a word of three sets, and of the
-    /// frames that are in none of them at each one's state.
+    /// The lowest frame from one on that a page is leaving, if there is one. For each 64 frames it looks at a word of three sets, and at the
+    /// state of each frame that is in none of them.
     pub fn next_leaving(&self, from: FrameNo) -> Option<FrameNo>
         ensures next { MatchOption result (NoneFrom (leaving_at self.now.states) from) (IsFrom (leaving_at self.now.states) from) }
         ensures within { IfSome result (λ frame. frame < length self.now.states) }

@@ -8,7 +8,7 @@ use Rattle.std.proofs.lemmas.Bool.Decides.{leb_tells}
 use Rattle.frame_core.proofs.Searches.{below_suc, lowest_some, lowest_before, no_lowest, count_all, count_none, count_some, none_some, some_none, some_one}
 use Rattle.frame_core.specs.Below.{count_below, count_from, some_below}
 use Rattle.state_core.specs.Valid.{IsValidZone}
-use Rattle.state_core.specs.ZoneState.{ZoneState, frame_count, free_in_block, is_free, is_whole, has_unmovable, is_emptiest, lowest_free_where, frame_for, frame_with_unmovable, frame_without_unmovable, lowest_free_frame, lowest_unused_page}
+use Rattle.state_core.specs.ZoneState.{ZoneState, frame_count, free_in_block, is_free, is_whole, is_begun, has_unmovable, is_emptiest, lowest_free_where, frame_for, frame_with_unmovable, frame_without_unmovable, lowest_free_frame, lowest_unused_page}
 use Rattle.state_core.proofs.Facts.{none_is, some_is}
 
 -- where a frame is free, a page number is unused
@@ -37,14 +37,22 @@ greatest f zero = (0, omega arith, λ j h. let at : j ≡ 0 = omega (arith, h) i
 greatest f (suc n) =
     let rest = greatest f n in
     elim (leb_tells (f (suc n)) (f rest.0)) [
-      | inl more ↦ (rest.0, omega (arith, rest.1), λ j h. elim (below_suc j (suc n) h) [
+      | inl more ↦ (
+        rest.0,
+        omega (arith, rest.1),
+        λ j h. elim (below_suc j (suc n) h) [
           | inl under ↦ rest.2 j under
           | inr at ↦ omega (arith, ap f at, more.1)
-        ])
-      | inr fewer ↦ (suc n, omega arith, λ j h. elim (below_suc j (suc n) h) [
+        ],
+      )
+      | inr fewer ↦ (
+        suc n,
+        omega arith,
+        λ j h. elim (below_suc j (suc n) h) [
           | inl under ↦ omega (arith, rest.2 j under, fewer.1)
           | inr at ↦ omega (arith, ap f at)
-        ])
+        ],
+      )
     ]
 
 -- a frame that passes is counted in its pageblock, and a pageblock that has one counted has a frame that passes
@@ -109,7 +117,7 @@ module _ (v : ZoneState) where
     by : (apart unmovable : Bool) → IsFound v (if not apart then lowest_free_frame v else if unmovable then frame_with_unmovable v else frame_without_unmovable v)
     by false unmovable = lowest_found some
     by true true = let low = lowest_found some in or_found (lowest_free_where v (has_unmovable v)) _ (found_free (has_unmovable v)) (emptiest_found low.0 low.2 low.3)
-    by true false = or_found (lowest_free_where v (λ block. not (is_whole v block) && not (has_unmovable v block))) _ (found_free (λ block. not (is_whole v block) && not (has_unmovable v block))) (lowest_found some)
+    by true false = or_found (lowest_free_where v (is_begun v)) _ (found_free (is_begun v)) (or_found (lowest_free_where v (is_whole v)) _ (found_free (is_whole v)) (lowest_found some))
 
   either : (o r : Option ℕ) (frame : ℕ) → option_or o r ≡ Some frame → (o ≡ Some frame) ⊎ (r ≡ Some frame)
   either None r frame e = inr e
@@ -127,9 +135,13 @@ module _ (v : ZoneState) where
       | inl there ↦ found_free (has_unmovable v) frame there
       | inr other ↦ found_free (is_emptiest v) frame other
     ]
-    by true false e = elim (either (lowest_free_where v (λ block. not (is_whole v block) && not (has_unmovable v block))) (lowest_free_frame v) frame e) [
-      | inl there ↦ found_free (λ block. not (is_whole v block) && not (has_unmovable v block)) frame there
-      | inr other ↦ low other
+    by true false e = elim (either (lowest_free_where v (is_begun v)) (option_or (lowest_free_where v (is_whole v)) (lowest_free_frame v)) frame e) [
+      | inl there ↦ found_free (is_begun v) frame there
+      | inr other ↦
+        elim (either (lowest_free_where v (is_whole v)) (lowest_free_frame v) frame other) [
+          | inl whole ↦ found_free (is_whole v) frame whole
+          | inr any ↦ low any
+        ]
     ]
 
   -- a page is mapped to no frame just where none is free

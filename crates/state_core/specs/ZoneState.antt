@@ -129,9 +129,13 @@ lowest_free_where z passes = lowest (λ frame. is_free z frame && passes (frame 
 abbrev pub frame_with_unmovable : ZoneState → Option ℕ
 frame_with_unmovable z = option_or (lowest_free_where z (has_unmovable z)) (lowest_free_where z (is_emptiest z))
 
--- the frame for another page then: in a pageblock without an unmovable page that isn't whole, and else the lowest
+-- whether a pageblock isn't whole and has no unmovable page
+abbrev pub is_begun : ZoneState → ℕ → Bool
+is_begun z block = not (is_whole z block) && not (has_unmovable z block)
+
+-- the frame for another page then: in a pageblock without an unmovable page, one that isn't whole before one that is, and else the lowest
 abbrev pub frame_without_unmovable : ZoneState → Option ℕ
-frame_without_unmovable z = option_or (lowest_free_where z (λ block. not (is_whole z block) && not (has_unmovable z block))) (lowest_free_frame z)
+frame_without_unmovable z = option_or (lowest_free_where z (is_begun z)) (option_or (lowest_free_where z (is_whole z)) (lowest_free_frame z))
 
 -- the frame that a page is mapped to: the lowest free one, where unmovable pages aren't mapped apart
 abbrev pub frame_for : ZoneState → Bool → Option ℕ

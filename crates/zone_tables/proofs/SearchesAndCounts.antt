@@ -14,8 +14,8 @@ use Rattle.state_core.specs.declared.placement.Placement.{Placement}
 use Rattle.state_core.specs.declared.placement.Placement.TheVariants.{At, Moving}
 use Rattle.zone_tables.specs.Fits.{state_by, FramesFit, UnmovableFit}
 use Rattle.zone_tables.specs.Sound.{state_of}
-use Rattle.state_core.specs.ZoneState.{ZoneState, frame_count, takes_up, is_used, is_held, is_free, free_in_block, frame_for, frame_with_unmovable, frame_without_unmovable, has_unmovable as zone_has_unmovable, is_emptiest as zone_emptiest, is_unmovable_in, lowest_free_frame, lowest_free_where, lowest_unused_page, is_whole as whole_block}
-use Rattle.scan_core.specs.Apart.{frame_apart, has_unmovable, is_emptiest, lowest_where}
+use Rattle.state_core.specs.ZoneState.{ZoneState, frame_count, takes_up, is_used, is_held, is_free, free_in_block, frame_for, frame_with_unmovable, frame_without_unmovable, has_unmovable as zone_has_unmovable, is_begun as zone_begun, is_emptiest as zone_emptiest, is_unmovable_in, lowest_free_frame, lowest_free_where, lowest_unused_page, is_whole as whole_block}
+use Rattle.scan_core.specs.Apart.{frame_apart, has_unmovable, is_begun, is_emptiest, lowest_where}
 use Rattle.scan_core.specs.FrameCounts.{count_in_block}
 use Rattle.scan_core.specs.FrameSet.{all_of_block}
 use Rattle.scan_core.specs.Frames.{Frames, free_at, is_free_state, free_frames, is_whole, blocks_of}
@@ -103,18 +103,19 @@ module _ (frames : Frames) (v : ZoneState) (fit : FramesFit frames.states v) (co
       (λ frame h i. free_seen frames.states v fit frame (omega (arith, h, fit.count)) i && same (frame / 512) (omega (arith, h, fit.count)) i)
       ∙ ap (lowest (λ frame. is_free v frame && q (frame / 512))) fit.count
 
-  abbrev not_whole : ℕ → Bool
-  not_whole block = not (all_of_block (free_at frames.states) block) && not (has_unmovable frames.unmovable block)
+  whole_seen : (block : ℕ) → block < v.blocks → all_of_block (free_at frames.states) block ≡ whole_block v block
+  whole_seen block low = ap (λ n. nat_eq n 512) (free_count_seen block low)
 
-  abbrev zone_not_whole : ℕ → Bool
-  zone_not_whole block = not (whole_block v block) && not (zone_has_unmovable v block)
+  begun_seen : (block : ℕ) → block < v.blocks → is_begun (free_at frames.states) frames.unmovable block ≡ zone_begun v block
+  begun_seen block low = λ i. not (whole_seen block low i) && not (unmovable_seen block low i)
 
   pub apart_seen : (unmovable : Bool) → v.apart ≡ true → frame_apart frames unmovable ≡ frame_for v unmovable
   apart_seen unmovable apart = by unmovable where
     by : (b : Bool) → frame_apart frames b ≡ frame_for v b
     by true = (λ i. option_or (where_seen (has_unmovable frames.unmovable) (zone_has_unmovable v) unmovable_seen i) (where_seen (is_emptiest (free_at frames.states) (length frames.states / 512)) (zone_emptiest v) emptiest_seen i))
         ∙ sym (ap (λ a. if not a then lowest_free_frame v else frame_with_unmovable v) apart)
-    by false = (λ i. option_or (where_seen not_whole zone_not_whole (λ block low j. not (nat_eq (free_count_seen block low j) 512) && not (unmovable_seen block low j)) i) (lowest_free_seen frames.states v fit i))
+    by false = (λ i. option_or (where_seen (is_begun (free_at frames.states) frames.unmovable) (zone_begun v) begun_seen i)
+        (option_or (where_seen (all_of_block (free_at frames.states)) (whole_block v) whole_seen i) (lowest_free_seen frames.states v fit i)))
         ∙ sym (ap (λ a. if not a then lowest_free_frame v else frame_without_unmovable v) apart)
 
 pub placements_seen : {W : ℕ} (z : Inside W) → get (state_of z).placement ≡ placement_of z.notes

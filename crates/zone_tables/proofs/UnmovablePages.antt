@@ -85,9 +85,9 @@ module _ (v w : ZoneState) (page : ℕ) (counts : List ℕ) (fit : UnmovableFit 
   unmovable_moved was is = record {
     count = fit.count ∙ sym blocks;
     each = λ block h. fit.each block (omega (arith, h, blocks)) ∙ ap Some (count_same (is_unmovable_in v block) (is_unmovable_in w block) (frame_count v) (λ q l. elim (eqb_tells q page) [
-          | inl same ↦ (ap (is_unmovable_in v block) same.1 ∙ never v was false 0 block ∙ sym (ap (is_unmovable_in w block) same.1 ∙ never w is false 0 block))
-          | inr away ↦ sym (others_in block q away.1)
-        ]) ∙ ap (λ n. count_below (is_unmovable_in w block) (512 * n)) (sym blocks));
+      | inl same ↦ (ap (is_unmovable_in v block) same.1 ∙ never v was false 0 block ∙ sym (ap (is_unmovable_in w block) same.1 ∙ never w is false 0 block))
+      | inr away ↦ sym (others_in block q away.1)
+    ]) ∙ ap (λ n. count_below (is_unmovable_in w block) (512 * n)) (sym blocks));
     rest = rest_of (λ e. absurd (both_ways (set.contains w.unmovable page) is e));
   }
 
