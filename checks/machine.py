@@ -73,15 +73,20 @@ class Page:
         self.target = None
 
 
+def is_unmovable(held):
+    return isinstance(held, Page) and held.unmovable
+
+
 class Frames:
     """The frames of a zone. One is free where it is None, or it has a page, the page that is to come, the block that was
-    handed out, or CLAIMED. How many are used, and how many have pages, is counted by pageblock, so that a search passes by those
-    where it finds nothing."""
+    handed out, or CLAIMED. How many are used, and how many have pages and unmovable ones, is counted by pageblock, so that a search
+    passes by those where it finds nothing."""
 
     def __init__(self, blocks):
         self.held = [None] * (blocks * FRAMES_OF_A_PAGEBLOCK)
         self.used = [0] * blocks
         self.with_pages = [0] * blocks
+        self.unmovable = [0] * blocks
 
     def __getitem__(self, frame):
         return self.held[frame]
@@ -94,6 +99,7 @@ class Frames:
         block, before = first // FRAMES_OF_A_PAGEBLOCK, self.held[first]
         self.used[block] += count * ((held is not None) - (before is not None))
         self.with_pages[block] += count * (isinstance(held, Page) - isinstance(before, Page))
+        self.unmovable[block] += count * (is_unmovable(held) - is_unmovable(before))
         self.held[first : first + count] = [held] * count
 
     def free(self, first, count):
@@ -107,8 +113,16 @@ class Frames:
         block = next((block for block, used in enumerate(self.used) if used < FRAMES_OF_A_PAGEBLOCK), None)
         return None if block is None else self.held.index(None, block * FRAMES_OF_A_PAGEBLOCK)
 
-    def highest_free(self):
-        return next((frame for frame in self.downwards(0, len(self.held)) if self.held[frame] is None), None)
+    def frame_apart(self, unmovable):
+        """The lowest free frame of a pageblock that is chosen by whether the page is unmovable."""
+        with_free = [block for block, used in enumerate(self.used) if used < FRAMES_OF_A_PAGEBLOCK]
+        with_unmovable = [block for block in with_free if self.unmovable[block] > 0]
+        others = [block for block in with_free if self.unmovable[block] == 0]
+        if unmovable:
+            chosen = with_unmovable or sorted(with_free, key=lambda block: self.used[block])
+        else:
+            chosen = [block for block in others if self.used[block] > 0] or others or with_free
+        return self.held.index(None, chosen[0] * FRAMES_OF_A_PAGEBLOCK) if chosen else None
 
     def lowest_free_run(self, count):
         """The first frame of the lowest aligned run of so many frames that are all free, if there is one."""
@@ -157,7 +171,7 @@ class Zone:
         self.pages_in_hand, self.copies_in_hand = {}, {}
         self.handed_out = set()  # the first frame and the order of each block
         self.claimed = set()  # frames
-        self.apart = False  # whether unmovable pages are mapped to the highest free frame
+        self.apart = False  # whether unmovable pages are mapped to pageblocks of their own
         self.marks = set()
         self.client = None  # while a client makes calls beside a round
 
@@ -202,11 +216,11 @@ class Zone:
         self.need_frames(block * FRAMES_OF_A_PAGEBLOCK, FRAMES_OF_A_PAGEBLOCK)
 
     def fresh_frame(self, frame, unmovable):
-        """The frame of a fresh page: the one that is asked for, or else the lowest, or the highest of an unmovable page apart."""
+        """The frame of a fresh page: the one that is asked for, or else the lowest, or one by its pageblock."""
         if not self.is_told or self.moves_beside():
             return self.fresh_frame_beside_moves(frame)
         if frame is None:
-            frame = self.frames.highest_free() if self.apart and unmovable else self.frames.lowest_free()
+            frame = self.frames.frame_apart(unmovable) if self.apart else self.frames.lowest_free()
         if frame is None or self.frames[frame] is not None:
             raise Refused(6)
         return frame

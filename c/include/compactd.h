@@ -274,8 +274,9 @@ uint32_t compactd_close(compactd_pool *pool) COMPACTD_NOT_NULL;
 /* Pages and addresses. Each call but the first is made for a client. Its number is stored in the record and has no other meaning. */
 
 /* Sets whether compactd_map puts unmovable pages apart from the others: into a pageblock that has one, and else into the emptiest. Any
- * other page goes into a pageblock that has none and isn't whole, and else into the lowest free frame. So fewer pageblocks have one. In a
- * pool that was just opened each page goes into the lowest free frame. Pages that are mapped already stay. The call is unrecorded.
+ * other page goes into a pageblock that has none, one that isn't whole before one that is, and else into the lowest free frame. So fewer
+ * pageblocks have one. In a pool that was just opened each page goes into the lowest free frame. Pages that are mapped already stay. The
+ * call is unrecorded.
  * Refused: CLOSED. */
 uint32_t compactd_set_apart(compactd_pool *pool, compactd_bool apart) COMPACTD_CALL;
 

@@ -788,10 +788,10 @@ static void steps_of_a_journal(uint32_t page_words)
 }
 
 /* Where unmovable pages are mapped apart, such a page goes to a pageblock that has one, and else to the emptiest. The others go to one that
- * has none and isn't whole, and else to the lowest free frame. */
+ * has none, one that isn't whole before one that is, and else to the lowest free frame. */
 static void unmovable_pages_apart(uint32_t page_words)
 {
-    static const uint32_t wanted[] = {0, 512, 1, 513, 2, 3};
+    static const uint32_t wanted[] = {0, 512, 1, 513, 2, 3}, unmovable_first[] = {0, 512, 1, 513};
     compactd_pool pool = {0};
     uint32_t at;
 
@@ -811,6 +811,13 @@ static void unmovable_pages_apart(uint32_t page_words)
     claims(&pool, 1008, 3, 0);
     OK(compactd_map(&pool, 0, 0, 7, 1, &frame));
     HOLDS(frame == 4);
+    OK(compactd_close(&pool));
+    OK(compactd_open(&pool, page_words, 2));
+    OK(compactd_set_apart(&pool, 1));
+    for (at = 0; at < 4; at++) {
+        OK(compactd_map(&pool, 0, 0, at, at % 2 == 0, &frame));
+        HOLDS(frame == unmovable_first[at]);
+    }
     OK(compactd_close(&pool));
 }
 

@@ -251,12 +251,20 @@ void evacuations()
     HOLDS(refusal([&] { pool.evacuate(0, 3); }) == COMPACTD_JOURNAL_FULL && pool.look(low).frame == 0);
 }
 
+// A page that isn't unmovable goes to a whole pageblock before it goes beside one that is.
+void unmovable_pages_apart()
+{
+    Pool pool(PageSize::bytes64, 2);
+    pool.set_apart(true);
+    HOLDS(pool.map(0, low, true) == 0 && pool.map(0, high) == 512 && pool.map(0, {1, 0}, true) == 1 && pool.map(0, {1, 1}) == 513);
+}
+
 // A run with two pages is emptied in two steps and handed out, and another claim is dropped. No page comes into a claimed run.
 void evacuations_in_steps()
 {
     Pool pool = with_round();
-    pool.set_apart(true);
-    HOLDS(pool.map(0, {1, 0}, true) == 511 && refusal([&] { pool.claim(504, 3); }) == COMPACTD_NO_BLOCK);
+    pool.map_at(0, {1, 0}, 511, true);
+    HOLDS(refusal([&] { pool.claim(504, 3); }) == COMPACTD_NO_BLOCK);
     HOLDS(pool.claim(0, 3) == 2 && pool.info().held == 6 && pool.map(0, {1, 1}) == 8);
     HOLDS(refusal([&] { pool.claim(0, 3); }) == COMPACTD_NO_BLOCK && refusal([&] { pool.empty_some(0, 2, 1); }) == COMPACTD_RANGE);
     compactd::Step step = pool.empty_some(0, 3, 1);
@@ -376,6 +384,7 @@ int main()
     moving_pages();
     slices();
     evacuations();
+    unmovable_pages_apart();
     evacuations_in_steps();
     reservations();
     blocks_kept_ready();

@@ -149,8 +149,9 @@ impl Pool {
     }
 
     /// Sets whether [`Pool::map`] puts unmovable pages apart from the others: into a pageblock that has one, and else into the emptiest. Any
-    /// other page goes into a pageblock that has none and isn't whole, and else into the lowest free frame. So fewer pageblocks have one.
-    /// In a pool that was just opened each page goes into the lowest free frame. Pages that are mapped already stay.
+    /// other page goes into a pageblock that has none, one that isn't whole before one that is, and else into the lowest free frame. So
+    /// fewer pageblocks have one. In a pool that was just opened each page goes into the lowest free frame. Pages that are mapped already
+    /// stay.
     ///
     /// ```
     /// # use compactd::{Address, Error, PageSize, Pool};

@@ -183,8 +183,8 @@ impl<J: Telling, T: Receipts> Client<J, T> {
         Ok(answer)
     }
 
-    /// Makes an address name a fresh page in the lowest free frame, or in the highest where the page is unmovable and such pages are mapped
-    /// apart, and answers this frame. The receipt has the number of the page. The flags must not have DIRTY.
+    /// Makes an address name a fresh page in the lowest free frame, or in one by its pageblock where unmovable pages are mapped apart, and
+    /// answers this frame. The receipt has the number of the page. The flags must not have DIRTY.
     ///
     /// The zone refuses as Range, JournalFull, Occupied or NoFrame.
     pub fn map<K: Keeping, I: Ledger, M: Ledger, B: Ledger, R: Wait>(

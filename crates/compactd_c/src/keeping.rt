@@ -213,7 +213,6 @@ fn frames_of(alloc: Global, numbers: &[u32]) -> Result<FixedVec<FrameNo>, AllocE
 /// Writes the first frames of the runs that a keeper claimed, and how many they are.
 fn write_claims(keeper: &Keeper, firsts: &mut [u32], count: &mut usize)
     requires ready { keeper.now.ready ≡ length firsts.old }
-    requires claims { length keeper.now.claims ≤ keeper.now.ready }
     ensures keeper { keeper_of keeper.now.order firsts.new count.new ≡ keeper.now }
     ensures count { count.new ≤ length firsts.new }
     ensures places { length firsts.new ≡ length firsts.old }

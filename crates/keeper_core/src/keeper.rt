@@ -82,7 +82,8 @@ impl Keeper {
 
     /// The first frames of the runs that it claimed, the first claimed first.
     pub fn claims(&self) -> &[FrameNo]
-        ensures { result.now ≡ self.now.claims }
+        ensures claims { result.now ≡ self.now.claims }
+        ensures few { length result.now ≤ self.now.ready }
     {
         &self.claims
     }

@@ -55,8 +55,8 @@ impl<const W: usize> BareZone<W> {
         }
     }
 
-    /// Makes an address name a fresh page in the lowest free frame, or in the highest where the page is unmovable and such pages are mapped
-    /// apart, and answers the number of the page and this frame. The page holds zeros and has no pin.
+    /// Makes an address name a fresh page in the lowest free frame, or in the one that `set_apart` says, and answers the number of the page
+    /// and this frame. The page holds zeros and has no pin.
     ///
     /// Refused as Range where the zone has no such address, as JournalFull, Occupied or NoFrame.
     #[inline(always)]

@@ -21,8 +21,8 @@ use state_core::ZoneError;
 
 impl<const W: usize> BareZone<W> {
     /// Maps unmovable pages apart from the others from now on, or no longer. Apart, such a page goes to a pageblock that has one, and where
-    /// none of these has a free frame to the emptiest. Any other page goes to a pageblock that has none and isn't whole, and where there is
-    /// no such pageblock to the lowest free frame.
+    /// none of these has a free frame to the emptiest. Any other page goes to a pageblock that has none, one that isn't whole before one
+    /// that is, and where none of these has a free frame to the lowest one. Targets of moves are chosen as before.
     pub fn set_apart(&mut self, apart: bool)
         ensures apart { self.new ≡ with_apart self.old apart }
         ensures valid { IsValidZone self.new }

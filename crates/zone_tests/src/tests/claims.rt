@@ -121,6 +121,15 @@ const TWO_PAGEBLOCKS: &[Row] = &[
     (Step::Call(Call::Map((0, 8))), Answer::Frame(2)),
 ];
 
+/// A page that isn't unmovable goes to a whole pageblock before it goes beside one that is.
+const UNMOVABLE_FIRST: &[Row] = &[
+    (Step::SetApart(true), Answer::Done),
+    (Step::Call(Call::MapUnmovable((0, 0))), Answer::Frame(0)),
+    (Step::Call(Call::Map((0, 1))), Answer::Frame(512)),
+    (Step::Call(Call::MapUnmovable((0, 2))), Answer::Frame(1)),
+    (Step::Call(Call::Map((0, 3))), Answer::Frame(513)),
+];
+
 /// Eight frames are left of one pageblock beside blocks of 504 frames.
 const APART: &[Row] = &[
     (Step::Call(Call::TakeOrder(8)), Answer::Frame(0)),
@@ -199,4 +208,10 @@ fn a_claimed_run_is_emptied_in_steps(rt: HostRuntime) {
 fn unmovable_pages_are_mapped_apart(rt: HostRuntime) {
     plays(&rt, &mut opened(&rt, 1), "one pageblock", APART);
     plays(&rt, &mut opened(&rt, 2), "two pageblocks", TWO_PAGEBLOCKS);
+    plays(
+        &rt,
+        &mut opened(&rt, 2),
+        "an unmovable page first",
+        UNMOVABLE_FIRST,
+    );
 }
