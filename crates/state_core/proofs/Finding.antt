@@ -138,10 +138,10 @@ module _ (v : ZoneState) where
     by true false e = elim (either (lowest_free_where v (is_begun v)) (option_or (lowest_free_where v (is_whole v)) (lowest_free_frame v)) frame e) [
       | inl there ↦ found_free (is_begun v) frame there
       | inr other ↦
-        elim (either (lowest_free_where v (is_whole v)) (lowest_free_frame v) frame other) [
-          | inl whole ↦ found_free (is_whole v) frame whole
-          | inr any ↦ low any
-        ]
+          elim (either (lowest_free_where v (is_whole v)) (lowest_free_frame v) frame other) [
+            | inl whole ↦ found_free (is_whole v) frame whole
+            | inr any ↦ low any
+          ]
     ]
 
   -- a page is mapped to no frame just where none is free
