@@ -19,7 +19,7 @@ use Rattle.scan_core.specs.Pairs.{is_marked}
 use Rattle.scan_core.proofs.Masking.{clash}
 pub use Rattle.scan_core.proofs.Masking.{insert_if, remove_if}
 use Rattle.scan_core.proofs.Numbering.{member_insert, member_remove}
-use Rattle.scan_core.proofs.Orders.{few_runs, first_of_run, run_aligned, run_of, run_within, runs_end, some_frames}
+use Rattle.scan_core.proofs.Orders.{first_of_run, run_aligned, run_of, run_within, runs_end, some_frames}
 use Rattle.scan_core.proofs.RunCounts.{Adds, counted, from_some, one_run}
 use Rattle.scan_core.proofs.Spanning.{same_by, both, in_run_is}
 
@@ -161,43 +161,22 @@ no_run_here : (p : ℕ → Bool) (order at k : ℕ) (aligned : Bool) → is_alig
 no_run_here p order at k true e only fails = ap (λ b. b && all_from p k (2 ^ order)) e ∙ ap (λ f. all_from p f (2 ^ order)) (only e) ∙ fails
 no_run_here p order at k false e only fails = ap (λ b. b && all_from p k (2 ^ order)) e
 
--- the numbers of the blocks of an order begin where there is one
-pub runs_below : (blocks order frames : ℕ) → 3 ≤ order → order ≤ 9 → frames ≡ 2 ^ order → 0 < blocks → 512 * blocks / frames < 128 * blocks
-runs_below blocks order frames low high is some = subst (λ (f : ℕ). 512 * blocks / f < 128 * blocks) (sym is) (few_runs order low high blocks some)
-
 -- the lowest of the blocks of an order
-module _ (p : ℕ → Bool) (blocks order frames : ℕ) (low : 3 ≤ order) (high : order ≤ 9) (is : frames ≡ 2 ^ order) where
-  no_run_between : (run k : ℕ) → all_from p (run * frames) (2 ^ order) ≡ false → run * frames ≤ k → k < (run + 1) * frames → is_run_of p order k ≡ false
-  no_run_between run k fails from to =
-      no_run_here p order (run * frames) k (is_aligned order k) refl
-      (subst (λ (f : ℕ). run * f ≤ k → k < (run + 1) * f → is_aligned order k ≡ true → k ≡ run * f) (sym is) (first_of_run order low high run k) from to) fails
+module _ (p : ℕ → Bool) (blocks order : ℕ) (low : 3 ≤ order) (high : order ≤ 9) where
+  no_run_between : (run k : ℕ) → all_from p (run * 2 ^ order) (2 ^ order) ≡ false → run * 2 ^ order ≤ k → k < (run + 1) * 2 ^ order → is_run_of p order k ≡ false
+  no_run_between run k fails from to = no_run_here p order (run * 2 ^ order) k (is_aligned order k) refl (first_of_run order low high run k from to) fails
 
-  no_run_below : (run : ℕ) → ((k : ℕ) → k < run → all_from p (k * frames) (2 ^ order) ≡ false) → (k : ℕ) → k < run * frames → is_run_of p order k ≡ false
+  no_run_below : (run : ℕ) → ((k : ℕ) → k < run → all_from p (k * 2 ^ order) (2 ^ order) ≡ false) → (k : ℕ) → k < run * 2 ^ order → is_run_of p order k ≡ false
   no_run_below run fails k under =
-      let at = subst (λ (f : ℕ). k < run * f → (k / f < run) × (k / f * f ≤ k) × (k < (k / f + 1) * f)) (sym is) (run_of order low high run k) under in
-      no_run_between (k / frames) k (fails (k / frames) at.0) at.1 at.2
+      let at = run_of order low high run k under in
+      no_run_between (k / 2 ^ order) k (fails (k / 2 ^ order) at.0) at.1 at.2
 
-  pub no_run : ((k : ℕ) → k < 512 * blocks / frames → all_from p (k * frames) (2 ^ order) ≡ false) → lowest (is_run_of p order) (512 * blocks) ≡ None
+  pub no_run : ((k : ℕ) → k < 512 * blocks / 2 ^ order → all_from p (k * 2 ^ order) (2 ^ order) ≡ false) → lowest (is_run_of p order) (512 * blocks) ≡ None
   no_run fails =
-      let all : 512 * blocks ≤ 512 * blocks / frames * frames = subst (λ (f : ℕ). 512 * blocks ≤ 512 * blocks / f * f) (sym is) (runs_end order low high blocks (512 * blocks / 2 ^ order) (omega arith)) in
-      lowest_none (is_run_of p order) (512 * blocks) (λ k h. no_run_below (512 * blocks / frames) fails k (omega (arith, h, all)))
+      let runs = 512 * blocks / 2 ^ order in
+      lowest_none (is_run_of p order) (512 * blocks) (λ k h. no_run_below runs fails k (omega (arith, h, runs_end order low high blocks runs (omega arith))))
 
-  pub run_lowest : (run : ℕ) → run < 512 * blocks / frames → all_from p (run * frames) (2 ^ order) ≡ true → ((k : ℕ) → k < run → all_from p (k * frames) (2 ^ order) ≡ false) → lowest (is_run_of p order) (512 * blocks) ≡ Some (run * frames)
+  pub run_lowest : (run : ℕ) → run < 512 * blocks / 2 ^ order → all_from p (run * 2 ^ order) (2 ^ order) ≡ true → ((k : ℕ) → k < run → all_from p (k * 2 ^ order) (2 ^ order) ≡ false) → lowest (is_run_of p order) (512 * blocks) ≡ Some (run * 2 ^ order)
   run_lowest run within all fails =
-      let inside : run * frames + 2 ^ order ≤ 512 * blocks = subst (λ (f : ℕ). run < 512 * blocks / f → run * f + 2 ^ order ≤ 512 * blocks) (sym is) (run_within order low high blocks run) within in
-      let first : is_aligned order (run * frames) ≡ true = ap (λ f. is_aligned order (run * f)) is ∙ run_aligned order low high run in
-      lowest_is (is_run_of p order) (512 * blocks) (run * frames) (omega (arith, inside, some_frames order low high)) (λ i. first i && all i) (no_run_below run fails)
-
-  -- their numbers stand together, after those of the larger ones
-  module _ (c : ℕ → Bool) (has : (run : ℕ) → run < 512 * blocks / 2 ^ order → c (512 * blocks / 2 ^ order + run) ≡ all_from p (run * 2 ^ order) (2 ^ order)) where
-    whole_as_member : (run : ℕ) → run < 512 * blocks / frames → all_from p (run * frames) (2 ^ order) ≡ c (512 * blocks / frames + run)
-    whole_as_member = subst (λ (f : ℕ). (run : ℕ) → run < 512 * blocks / f → all_from p (run * f) (2 ^ order) ≡ c (512 * blocks / f + run)) (sym is) (λ run within. sym (has run within))
-
-    pub no_member : (number : ℕ) → 512 * blocks / frames + 512 * blocks / frames ≤ number → ((k : ℕ) → 512 * blocks / frames ≤ k → k < number → c k ≡ false) → lowest (is_run_of p order) (512 * blocks) ≡ None
-    no_member number most none = no_run (λ run within. whole_as_member run within ∙ none (512 * blocks / frames + run) (omega arith) (omega (arith, within, most)))
-
-    pub first_member : (number : ℕ) → 512 * blocks / frames ≤ number → number - 512 * blocks / frames < 512 * blocks / frames → c number ≡ true → ((k : ℕ) → 512 * blocks / frames ≤ k → k < number → c k ≡ false) → lowest (is_run_of p order) (512 * blocks) ≡ Some ((number - 512 * blocks / frames) * frames)
-    first_member number least within member none =
-        let at : 512 * blocks / frames + (number - 512 * blocks / frames) ≡ number = omega (arith, least) in
-        run_lowest (number - 512 * blocks / frames) within (whole_as_member (number - 512 * blocks / frames) within ∙ ap c at ∙ member)
-        (λ k h. whole_as_member k (omega (arith, h, within)) ∙ none (512 * blocks / frames + k) (omega arith) (omega (arith, h, at)))
+      lowest_is (is_run_of p order) (512 * blocks) (run * 2 ^ order) (omega (arith, run_within order low high blocks run within, some_frames order low high))
+      (λ i. run_aligned order low high run i && all i) (no_run_below run fails)

@@ -3,6 +3,7 @@ pub mod CountedRuns
 pub mod Counting
 pub mod Found
 pub mod FrameSets
+pub mod FreeRuns
 pub mod Grouping
 pub mod HeapSteps
 pub mod Leaving

@@ -57,6 +57,3 @@ module _ (order : ℕ) (low : 3 ≤ order) (high : order ≤ 9) where
   run_of run k = by_order (λ o. k < run * 2 ^ o → (k / 2 ^ o < run) × (k / 2 ^ o * 2 ^ o ≤ k) × (k < (k / 2 ^ o + 1) * 2 ^ o))
       (λ e. (omega (arith, e), omega arith, omega arith)) (λ e. (omega (arith, e), omega arith, omega arith)) (λ e. (omega (arith, e), omega arith, omega arith)) (λ e. (omega (arith, e), omega arith, omega arith))
       (λ e. (omega (arith, e), omega arith, omega arith)) (λ e. (omega (arith, e), omega arith, omega arith)) (λ e. (omega (arith, e), omega arith, omega arith)) order low high
-
-  pub few_runs : (blocks : ℕ) → 0 < blocks → 512 * blocks / 2 ^ order < 128 * blocks
-  few_runs blocks some = by_order (λ o. 512 * blocks / 2 ^ o < 128 * blocks) (omega (arith, some)) (omega (arith, some)) (omega (arith, some)) (omega (arith, some)) (omega (arith, some)) (omega (arith, some)) (omega (arith, some)) order low high

@@ -6,6 +6,7 @@ pub mod FrameCountsInside
 pub mod FrameSet
 pub mod FrameSetInside
 pub mod Frames
+pub mod FreeRuns
 pub mod KeptState
 pub mod NumberSet
 pub mod Pairs

@@ -4,6 +4,7 @@ ghost use Rattle.std.specs.Prelude.{◌≡◌, ◌+◌, ◌<◌, ◌≤◌, ◌&
 ghost use Rattle.frame_core.specs.Below.{count_below, some_below, sum_below};
 ghost use Rattle.scan_core.specs.Frames.{true_at};
 ghost use Rattle.scan_core.specs.FrameCounts.{is_all_counted, is_some_counted, unmarked_count, with_fewer, with_more, IsFullest};
+ghost use Rattle.scan_core.specs.FreeRuns.{IsNextWith};
 
 use crate::marks::Marks;
 use frame_core::FixedVec;
@@ -192,5 +193,19 @@ impl FrameCounts {
             }
         }
         fullest
+    }
+
+    /// The lowest pageblock from one on with at least so many counted frames, if there is one. It looks at the count of each pageblock up to
+    /// that one.
+    #[inline]
+    pub(crate) fn next_with(&self, from: u32, least: u32) -> Option<u32>
+        ensures { IsNextWith (slice_index self.now) (length self.now) from least result }
+    {
+        for block in from..self.len() {
+            if self.get(block) >= least {
+                return Some(block);
+            }
+        }
+        None
     }
 }

@@ -8,6 +8,7 @@ ghost use Rattle.number_set.specs.Finds.{IsFrom, NoneFrom};
 ghost use Rattle.scan_core.specs.Apart.{frame_with_unmovable, frame_without_unmovable};
 ghost use Rattle.scan_core.specs.FrameCounts.{recounted};
 ghost use Rattle.scan_core.specs.FrameSet.{all_of_block, is_run_of};
+ghost use Rattle.scan_core.specs.FreeRuns.{free_in_run, IsNextWith};
 ghost use Rattle.scan_core.specs.NumberSet.{in_run};
 ghost use Rattle.scan_core.specs.Pairs.{is_marked};
 
@@ -206,6 +207,34 @@ impl FrameSet {
             return self.blocks.get(first.get() / 512);
         }
         self.numbers.count_run(first.get(), order.get())
+    }
+
+    /// The lowest run of this order from one on that has at least so many frames of the set, by its number among all runs of the order, if
+    /// there is one. Where it needs all frames of a run, it looks at two words of each level of a set at most, and else at the count of
+    /// each run up to that one.
+    pub(crate) fn next_run_with(&self, order: Order, from: u32, least: u32) -> Option<u32>
+        ensures { IsNextWith (free_in_run (set.contains self.now.members) order) (self.now.bound / 2 ^ order) from least result }
+    {
+        if least == order.frames() {
+            return self.runs.next(order, from);
+        }
+        if order.get() == 9 {
+            return self.blocks.next_with(from, least);
+        }
+        self.find_run_with(order, from, least)
+    }
+
+    /// The same, by a look at the words of each run.
+    fn find_run_with(&self, order: Order, from: u32, least: u32) -> Option<u32>
+        ensures { IsNextWith (free_in_run (set.contains self.now.members) order) (self.now.bound / 2 ^ order) from least result }
+    {
+        let frames = order.frames();
+        for run in from..512 * self.blocks.len() / frames {
+            if self.numbers.count_run(frames * run, order.get()) >= least {
+                return Some(run);
+            }
+        }
+        None
     }
 
     /// The lowest frame of the set, if it has one.

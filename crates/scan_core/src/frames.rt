@@ -5,6 +5,7 @@ ghost use Rattle.number_set.specs.Finds.{IsFrom, NoneFrom};
 ghost use Rattle.scan_core.specs.Apart.{frame_apart};
 ghost use Rattle.scan_core.specs.FrameCounts.{recounted};
 ghost use Rattle.scan_core.specs.Frames.{all_free, blocks_of, free_at, free_frames, holds_at, huge_at, is_open_at, is_whole, leaving_at, page_held, source_at, true_at, way_at};
+ghost use Rattle.scan_core.specs.FreeRuns.{free_in_run, IsNextWith};
 ghost use Rattle.scan_core.specs.NumberSet.{all_from};
 ghost use Rattle.scan_core.specs.Pairs.{after_step, is_stuck, is_target, next_step, Finds};
 ghost use Rattle.scan_core.specs.Runs.{first_run, has_block, is_run, with_run};
@@ -325,6 +326,15 @@ impl Frames {
         ensures { result ≡ count_from (free_at self.now.states) first (2 ^ order) }
     {
         self.free.count_run(first, order)
+    }
+
+    /// The lowest run of an order from one on that has at least so many free frames, by its number among all runs of the order, if there is
+    /// one. Where it needs all frames of a run, it looks at two words of each level of a set at most, and else at the count of each run up
+    /// to that one.
+    pub fn next_run_with(&self, order: Order, from: u32, least: u32) -> Option<u32>
+        ensures { IsNextWith (free_in_run (free_at self.now.states) order) (length self.now.states / 2 ^ order) from least result }
+    {
+        self.free.next_run_with(order, from, least)
     }
 
     /// How many free blocks of an order there are, 0 to 9. It looks at a word of a set for each 64 blocks of the order, and where the order

@@ -1,10 +1,11 @@
 //! The blocks of each order whose frames are all in a set.
 
-ghost use Rattle.std.specs.Prelude.{◌≡◌, ℕ, ◌+◌, ◌*◌, ◌^◌, ◌<◌, ◌≤◌, ◌&&◌, ◌||◌, Bool, true, not, nat_eq, nat_lt, IfOk};
+ghost use Rattle.std.specs.Prelude.{◌≡◌, ℕ, ◌+◌, ◌*◌, ◌/◌, ◌^◌, ◌<◌, ◌≤◌, ◌&&◌, ◌||◌, Bool, true, not, nat_eq, nat_lt, IfOk, IfSome};
 ghost use Rattle.std.specs.FinSet as set;
 ghost use Rattle.frame_core.specs.Below.{count_below, lowest};
 ghost use Rattle.frame_core.specs.Order.{is_aligned};
 ghost use Rattle.scan_core.specs.FrameSet.{is_run_of};
+ghost use Rattle.scan_core.specs.FreeRuns.{free_in_run, IsNextWith};
 ghost use Rattle.scan_core.specs.WholeRuns.{Empties, Fills, HasWholeRuns, IsOpen};
 
 use frame_core::Order;
@@ -132,13 +133,27 @@ impl WholeRuns {
         ensures { (p : ℕ → Bool) → HasWholeRuns self.now p → result ≡ lowest (is_run_of p order) (512 * self.now.blocks) }
     {
         let frames = order.frames();
-        let runs = 512 * self.blocks / frames;
-        let number = self.numbers.at_or_after(runs)?;
+        let run = self.next(order, 0)?;
+        Some(run * frames)
+    }
+
+    /// The lowest block of this order from one on, by its number among all blocks of the order, if there is one. It looks at two words of
+    /// each level of the numbers at most.
+    pub(crate) fn next(&self, order: Order, from: u32) -> Option<u32>
+        requires { IsOpen self.now }
+        ensures next { (p : ℕ → Bool) → HasWholeRuns self.now p → IsNextWith (free_in_run p order) (512 * self.now.blocks / 2 ^ order) from (2 ^ order) result }
+        ensures within { IfSome result (λ run. run < 512 * self.now.blocks / 2 ^ order) }
+    {
+        let runs = 512 * self.blocks / order.frames();
+        if from >= runs {
+            return None;
+        }
+        let number = self.numbers.at_or_after(runs + from)?;
         let run = number - runs;
         if run >= runs {
             return None;
         }
-        Some(run * frames)
+        Some(run)
     }
 
     /// How many blocks of this order there are. For each 64 blocks of the order, whole or not, it looks at a word of the numbers.

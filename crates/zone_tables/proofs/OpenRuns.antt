@@ -11,6 +11,7 @@ use Rattle.frame_core.specs.Order.{is_aligned}
 use Rattle.frame_core.specs.declared.state.FrameState.{FrameState}
 use Rattle.frame_core.specs.declared.state.FrameState.TheVariants.{Free, Holds, Huge, Source, Target}
 use Rattle.scan_core.specs.Frames.{free_at, is_free_state, is_holding_state, holds_at, is_open_at, true_at}
+use Rattle.scan_core.specs.FreeRuns.{free_in_run}
 use Rattle.state_core.specs.declared.placement.Placement.TheVariants.{At}
 use Rattle.state_core.specs.Pairs.{can_move, is_marked}
 use Rattle.state_core.specs.ZoneState.{ZoneState, frame_count, is_free, is_held, is_used}
@@ -20,7 +21,7 @@ use Rattle.state_core.specs.HandingOut.{has_block}
 use Rattle.state_core.proofs.Facts.{not_none}
 use Rattle.state_core.proofs.Filled.{block_of_run}
 use Rattle.state_core.proofs.Runs.{count_from_none}
-use Rattle.fewest_core.specs.FewestMoves.{cost, is_immovable, is_open, is_shut}
+use Rattle.fewest_core.specs.FewestMoves.{cost, is_immovable, is_open, is_shut, run_count}
 use Rattle.fewest_core.proofs.Counts.{none_counted}
 use Rattle.fewest_core.proofs.Moves.{used_at}
 use Rattle.fewest_core.proofs.OpenRuns.{block_within, cost_is, open_is, shut_closes}
@@ -113,6 +114,23 @@ marked_shut v first order has marked = open_is v first order has ∙ shut_closes
 pub free_counted : {W : ℕ} (z : Inside W) (v : ZoneState) → IsSound z v → (first order : ℕ) → has_block v order first ≡ true → count_from (free_at z.frames.states) first (2 ^ order) ≡ count_from (is_free v) first (2 ^ order)
 free_counted z v sound first order has =
     count_from_same (free_at z.frames.states) (is_free v) first (2 ^ order) (λ k low top. free_seen z.frames.states v sound.frames k (omega (arith, top, block_within v first order has)))
+
+-- the frames of a run are frames of the zone
+pub run_fits : (size frames number : ℕ) → number < frames / size → size * number + size ≤ frames
+run_fits size frames number h =
+    let more = frames / size - (number + 1) in
+    let all : size * (frames / size) ≤ frames = omega arith in
+    let split : size * (frames / size) ≡ size * number + size + size * more = ap (λ (k : ℕ). size * k) (sum_is (frames / size) number h) ∙ spread size number more in
+    omega (arith, all, split) where
+      sum_is : (q number : ℕ) → number < q → q ≡ number + 1 + (q - (number + 1))
+      sum_is q number h = omega (arith, h)
+
+      spread : (size a b : ℕ) → size * (a + 1 + b) ≡ size * a + size + size * b
+      spread size a b = omega arith
+
+pub runs_counted : {W : ℕ} (z : Inside W) (v : ZoneState) → IsSound z v → (order run : ℕ) → run < run_count v (2 ^ order) → free_in_run (free_at z.frames.states) order run ≡ free_in_run (is_free v) order run
+runs_counted z v sound order run within =
+    count_from_same (free_at z.frames.states) (is_free v) (2 ^ order * run) (2 ^ order) (λ k low top. free_seen z.frames.states v sound.frames k (omega (arith, top, run_fits (2 ^ order) (frame_count v) run within)))
 
 module _ {W : ℕ} (z : Inside W) (v : ZoneState) (sound : IsSound z v) (first order : ℕ) (has : has_block v order first ≡ true) (high : order ≤ 9) where
   module _ (unmarked : set.contains v.marked (first / 512) ≡ false) where

@@ -1,10 +1,11 @@
 //! Moving pages outside of a round: what an evacuation asks of frames and of the journal, and the move of one page.
 
-ghost use Rattle.std.specs.Prelude.{◌≡◌, ◌+◌, ◌/◌, ◌^◌, ◌≤◌, true, None, IfSome, IsTrue, is_some};
+ghost use Rattle.std.specs.Prelude.{◌≡◌, ◌/◌, ◌^◌, ◌≤◌, None, IfSome, IsTrue, is_some};
 ghost use Rattle.fewest_core.specs.Evacuation.{has_room_for_moves, moved_away};
-ghost use Rattle.fewest_core.specs.FewestMoves.{IsMove, cost, is_open};
+ghost use Rattle.fewest_core.specs.FewestMoves.{IsMove, cost, is_open, run_count};
 ghost use Rattle.fewest_core.specs.Reservation.{has_room_to_reserve};
 ghost use Rattle.frame_core.specs.Below.{count_from, highest};
+ghost use Rattle.scan_core.specs.FreeRuns.{free_in_run, IsNextWith};
 ghost use Rattle.state_core.specs.HandingOut.{has_block};
 ghost use Rattle.state_core.specs.Isolating.{isolate_refusal};
 ghost use Rattle.state_core.specs.Packed.{unmarked_free};
@@ -29,15 +30,22 @@ impl<const W: usize> ZoneTables<W> {
         self.frames.pages_of_run(first, order)
     }
 
-    /// How many frames of a run are free. Where the run is open, each other one has a page. Of a pageblock there is a count.
+    /// How many frames of a run are free. Of a pageblock there is a count.
     #[inline(always)]
     pub fn free_in_run(&self, first: FrameNo, order: Order) -> u32
         requires { IsTrue (has_block self.now order first) }
-        ensures count { result ≡ count_from (is_free self.now) first (2 ^ order) }
-        ensures most { result ≤ 2 ^ order }
-        ensures pages { is_open self.now (2 ^ order) (first / 2 ^ order) ≡ true → result + cost self.now (2 ^ order) (first / 2 ^ order) ≡ 2 ^ order }
+        ensures { result ≡ count_from (is_free self.now) first (2 ^ order) }
     {
         self.frames.free_in_run(first, order)
+    }
+
+    /// The lowest run of an order from one on that has at least so many free frames, by its number among all runs of the order, if there is
+    /// one. Where it needs all frames of a run, it looks at two words of each level of a set at most, and else at the count of each run up
+    /// to that one.
+    pub fn next_run_with(&self, order: Order, from: u32, least: u32) -> Option<u32>
+        ensures { IsNextWith (free_in_run (is_free self.now) order) (run_count self.now (2 ^ order)) from least result }
+    {
+        self.frames.next_run_with(order, from, least)
     }
 
     /// The highest free frame of an unmarked pageblock below `end`, if there is one.

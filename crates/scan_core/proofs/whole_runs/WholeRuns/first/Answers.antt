@@ -1,26 +1,23 @@
-use Rattle.std.proofs.Common.{◌+◌, ◌*◌, ◌/◌, sym, ◌∙◌, arith}
-use Rattle.std.specs.FinSet as set
-use Rattle.scan_core.proofs.FrameSets.{first_member, no_member, runs_below}
+use Rattle.std.proofs.Common.{◌≡◌, ℕ, ◌*◌, ◌/◌, ◌^◌, sym, ap, ◌∙◌, arith}
+use Rattle.std.specs.Prelude.{Some}
+use Rattle.scan_core.proofs.FrameSets.{no_run, run_lowest}
+use Rattle.scan_core.proofs.FreeRuns.{all_by, not_all}
+use Rattle.scan_core.proofs.Orders.{run_within}
 use Rattle.scan_core.proofs.whole_runs.WholeRuns.first.Goals as goal
 
-pub at_or_after-requires : goal.at_or_after-requires
-at_or_after-requires c =
-    omega (arith, runs_below c.args.self.now.blocks c.args.order c.frames-frames.result c.frames-frames.ensures.low c.frames-frames.ensures.high c.frames-frames.ensures.value c.requires.some, c.requires.room)
-
-pub returns-in_err-number : goal.returns-in_err-number
-returns-in_err-number c = λ p whole.
-    let blocks = c.args.self.now.blocks in
-    let runs = 512 * blocks / c.frames-frames.result in
+pub returns-in_err-run : goal.returns-in_err-run
+returns-in_err-run c = λ p whole.
     c.from_residual.ensures
-    ∙ sym (no_member p blocks c.args.order c.frames-frames.result c.frames-frames.ensures.low c.frames-frames.ensures.high c.frames-frames.ensures.value (set.contains c.args.self.now.numbers.members) (λ run within. whole c.args.order run c.frames-frames.ensures.low c.frames-frames.ensures.high within)
-    (runs + runs) (omega arith) (λ k least most. c.in_err-number.ensures.next k least))
+    ∙ sym (no_run p c.args.self.now.blocks c.args.order c.frames-frames.ensures.low c.frames-frames.ensures.high (λ k within. not_all p c.args.order k (c.in_err-run.ensures.next p whole k (omega arith) within)))
 
-pub returns-then-run-runs : goal.returns-then-run-runs
-returns-then-run-runs c = λ p whole.
-    sym (no_member p c.args.self.now.blocks c.args.order c.frames-frames.result c.frames-frames.ensures.low c.frames-frames.ensures.high c.frames-frames.ensures.value (set.contains c.args.self.now.numbers.members) (λ run within. whole c.args.order run c.frames-frames.ensures.low c.frames-frames.ensures.high within)
-    c.in_ok-number.number (omega (arith, c.if-run-runs.true)) c.in_ok-number.ensures.next.between)
+pub overflow_mul-result : goal.overflow_mul-result
+overflow_mul-result c =
+    let fits = run_within c.args.order c.frames-frames.ensures.low c.frames-frames.ensures.high c.args.self.now.blocks c.in_ok-run.run' c.in_ok-run.ensures.within in
+    let same : c.in_ok-run.run' * c.frames-frames.result ≡ c.in_ok-run.run' * 2 ^ c.args.order = ap (λ (frames : ℕ). c.in_ok-run.run' * frames) c.frames-frames.ensures.value in
+    omega (arith, fits, same, c.requires.few)
 
 pub returns : goal.returns
 returns c = λ p whole.
-    sym (first_member p c.args.self.now.blocks c.args.order c.frames-frames.result c.frames-frames.ensures.low c.frames-frames.ensures.high c.frames-frames.ensures.value (set.contains c.args.self.now.numbers.members) (λ run within. whole c.args.order run c.frames-frames.ensures.low c.frames-frames.ensures.high within)
-    c.in_ok-number.number c.in_ok-number.ensures.next.least (omega (arith, c.if-run-runs.false)) c.in_ok-number.ensures.next.passes c.in_ok-number.ensures.next.between)
+    let next = c.in_ok-run.ensures.next p whole in
+    ap (λ (frames : ℕ). Some (c.in_ok-run.run' * frames)) c.frames-frames.ensures.value
+    ∙ sym (run_lowest p c.args.self.now.blocks c.args.order c.frames-frames.ensures.low c.frames-frames.ensures.high c.in_ok-run.run' next.within (all_by p c.args.order c.in_ok-run.run' next.enough) (λ k below. not_all p c.args.order k (next.fewer k (omega arith) below)))
