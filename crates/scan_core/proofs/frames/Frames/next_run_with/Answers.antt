@@ -1,5 +1,4 @@
 use Rattle.std.proofs.Common.{◌≡◌, ◌*◌, ◌/◌, ◌^◌, ◌∙◌, ℕ, length, ap, subst, arith}
-use Rattle.std.specs.FinSet as set
 use Rattle.scan_core.specs.Frames.{Frames, free_at}
 use Rattle.scan_core.specs.FreeRuns.{free_in_run, IsNextWith}
 use Rattle.scan_core.proofs.FreeRuns.{next_same}
