@@ -1,5 +1,5 @@
 -- A walk over the runs of a zone finds the open one that is next in rank.
-use Rattle.std.proofs.Common.{◌≡◌, ◌≢◌, ℕ, zero, suc, ◌+◌, ◌-◌, ◌*◌, ◌/◌, ◌^◌, ◌<◌, ◌≤◌, Bool, true, false, not, ◌&&◌, ◌||◌, List, [], ◌∷◌, length, inl, inr, refl, sym, ap, subst, ◌∙◌, arith}
+use Rattle.std.proofs.Common.{◌≡◌, ◌≢◌, ℕ, zero, suc, ◌+◌, ◌*◌, ◌/◌, ◌^◌, ◌<◌, ◌≤◌, Bool, true, false, not, ◌&&◌, ◌||◌, List, [], ◌∷◌, length, inl, inr, refl, sym, ap, subst, ◌∙◌, arith}
 use Rattle.std.specs.Prelude.{Option, Some, None, is_some, if◌then◌else◌, IfSome, nat_eq, nat_le, nat_lt, slice_index, slice_set}
 use Rattle.std.proofs.lemmas.Bool.{and_from, both_ways, cases_Bool, eq-eqb, eqb-true, false_from_ne_true, le-leb, leb-true, lt-ltb, ltb-true}
 use Rattle.std.proofs.lemmas.Bool.Decides.{eqb_tells, leb_tells}
@@ -11,14 +11,16 @@ use Rattle.frame_core.specs.Order.{is_aligned}
 use Rattle.state_core.specs.declared.error.ZoneError.TheVariants.{Range, NoBlock}
 use Rattle.state_core.specs.HandingOut.{has_block}
 use Rattle.state_core.proofs.Runs.{quotient}
-use Rattle.state_core.specs.ZoneState.{ZoneState, frame_count, is_used}
+use Rattle.state_core.specs.ZoneState.{ZoneState, frame_count, is_free, is_used}
 use Rattle.fewest_core.specs.Claims.{claim_refusal}
 use Rattle.fewest_core.specs.FewestMoves.{cost, costs, is_open, least, run_count}
 use Rattle.fewest_core.specs.Reservation.{goes_before, rank, ArePicked}
 use Rattle.fewest_core.proofs.Costs.{costs_counted}
 use Rattle.fewest_core.proofs.Ranks.{after_is, all_picked, before_trans, cheaper_first, least_more, lower_first, no_dearer, next_rank as first_has_rank, not_after, not_itself, of_rank, picks, picks_parts, rank_within}
+use Rattle.scan_core.specs.FreeRuns.{free_in_run, IsLowestWith, IsNextWith}
+use Rattle.zone_tables.proofs.OpenRuns.{open_occupied, run_fits}
 use Rattle.zone_core.specs.declared.bare.reserving.OpenRun.{OpenRun}
-use Rattle.zone_core.specs.Reserving.{is_after, is_before, is_cheaper, is_level, next_rank, IsOpenRun}
+use Rattle.zone_core.specs.Reserving.{is_after, is_before, is_level, least_free, next_rank, IsOpenRun}
 
 module _ (z : ZoneState) (size : ℕ) where
   abbrev pub opened : ℕ → Bool
@@ -58,26 +60,48 @@ module _ (z : ZoneState) (size : ℕ) where
   IsNext last k None = (j : ℕ) → j < k → opened j ≡ true → after last j ≡ false
   IsNext last k (Some r) = IsBest last k r
 
+  pub found_fits : (last next : Option OpenRun) (k : ℕ) → IsNext last k next → IfSome next (λ r. r.pages ≤ size)
+  found_fits last None k is = tt
+  found_fits last (Some r) k is = omega (arith, is.run.pages, count_from_most (is_used z) (size * r.number) size)
+
   pub walk_begins : (last : Option OpenRun) → IsNext last 0 None
   walk_begins last j h = absurd (omega (arith, h))
 
-  pub walk_shut : (last next : Option OpenRun) (k : ℕ) → IsNext last k next → opened k ≡ false → IsNext last (k + 1) next
-  walk_shut last None k is shut = λ j h o. elim (eqb_tells j k) [
-    | inl at ↦ absurd (both_ways _ shut (ap opened (sym at.1) ∙ o))
-    | inr other ↦ is j (omega (arith, h, other.1)) o
+  -- an open run doesn't change what was found: it isn't after the last, or doesn't go before what was found
+  abbrev pub Misses : Option OpenRun → Option OpenRun → ℕ → Type 0
+  Misses last None k = after last k ≡ false
+  Misses last (Some r) k = after last k ≡ true → before k r.number ≡ false
+
+  pub walk_passes : (last next : Option OpenRun) (from to : ℕ) → IsNext last from next → from ≤ to → ((k : ℕ) → from ≤ k → k < to → opened k ≡ true → Misses last next k) → IsNext last to next
+  walk_passes last None from to is on misses = λ j h o. elim (leb_tells from j) [
+    | inl passed ↦ misses j passed.1 h o
+    | inr before ↦ is j before.1 o
   ]
-  walk_shut last (Some r) k is shut = record {
+  walk_passes last (Some r) from to is on misses = record {
     run = is.run;
-    below = omega (arith, is.below);
+    below = omega (arith, is.below, on);
     later = is.later;
-    first = λ j h o a. elim (eqb_tells j k) [
-      | inl at ↦ absurd (both_ways _ shut (ap opened (sym at.1) ∙ o))
-      | inr other ↦ is.first j (omega (arith, h, other.1)) o a
+    first = λ j h o a. elim (leb_tells from j) [
+      | inl passed ↦ misses j passed.1 h o a
+      | inr before ↦ is.first j before.1 o a
     ];
   }
 
+  pub walk_on : (last next : Option OpenRun) (k : ℕ) → IsNext last k next → (opened k ≡ true → Misses last next k) → IsNext last (k + 1) next
+  walk_on last next k is misses =
+      walk_passes last next k (k + 1) is (omega arith) (λ j low high. let at : k ≡ j = omega (arith, low, high) in subst (λ (m : ℕ). opened m ≡ true → Misses last next m) at misses)
+
+  -- one that isn't after the last doesn't
+  pub misses_early : (last next : Option OpenRun) (r : OpenRun) → IfSome last (IsOpenRun z size) → IsOpenRun z size r → is_after r last ≡ false → Misses last next r.number
+  misses_early last None r ok run early = sym (after_same r last ok run) ∙ early
+  misses_early last (Some n) r ok run early = λ a. absurd (both_ways _ (sym (after_same r last ok run) ∙ early) a)
+
+  -- nor does a higher one that has as many pages as what was found
+  pub misses_dear : (last : Option OpenRun) (n : OpenRun) (k : ℕ) → IsOpenRun z size n → n.number < k → n.pages ≤ cost z size k → Misses last (Some n) k
+  misses_dear last n k run low dear = λ a. higher_later n.number k (omega (arith, run.pages, dear)) low
+
   -- the run at hand is after the last and has fewer pages than what was found
-  pub walk_takes : (last next : Option OpenRun) (k : ℕ) (r : OpenRun) → IfSome last (IsOpenRun z size) → IsNext last k next → IsOpenRun z size r → r.number ≡ k → is_after r last ≡ true → is_cheaper r next ≡ true → IsNext last (k + 1) (Some r)
+  pub walk_takes : (last next : Option OpenRun) (k : ℕ) (r : OpenRun) → IfSome last (IsOpenRun z size) → IsNext last k next → IsOpenRun z size r → r.number ≡ k → is_after r last ≡ true → IfSome next (λ n. r.pages < n.pages) → IsNext last (k + 1) (Some r)
   walk_takes last next k r ok is run at later fewer = record {
     run = run;
     below = omega (arith, at);
@@ -87,42 +111,9 @@ module _ (z : ZoneState) (size : ℕ) where
       | inr other ↦ by_next next is fewer j (omega (arith, h, other.1)) o a
     ];
   } where
-    by_next : (next : Option OpenRun) → IsNext last k next → is_cheaper r next ≡ true → (j : ℕ) → j < k → opened j ≡ true → after last j ≡ true → before j r.number ≡ false
+    by_next : (next : Option OpenRun) → IsNext last k next → IfSome next (λ n. r.pages < n.pages) → (j : ℕ) → j < k → opened j ≡ true → after last j ≡ true → before j r.number ≡ false
     by_next None is fewer j h o a = absurd (both_ways _ (is j h o) a)
-    by_next (Some n) is fewer j h o a = false_from_ne_true _ (λ e. both_ways _ (is.first j h o a) (before_trans (cost z size) j r.number n.number e (cheaper_first (cost z size) r.number n.number (omega (arith, ltb-true r.pages n.pages fewer, run.pages, is.run.pages)))))
-
-  -- of two runs, the higher one goes first only where it has fewer pages
-  fewer_if : (r n : OpenRun) → IsOpenRun z size r → IsOpenRun z size n → n.number < r.number → before r.number n.number ≡ true → nat_lt r.pages n.pages ≡ true
-  fewer_if r n run other low first = elim (leb_tells (cost z size n.number) (cost z size r.number)) [
-    | inl dear ↦ absurd (both_ways _ (higher_later n.number r.number dear.1 low) first)
-    | inr cheap ↦ lt-ltb r.pages n.pages (omega (arith, cheap.1, run.pages, other.pages))
-  ]
-
-  -- it isn't both
-  pub walk_keeps : (last next : Option OpenRun) (k : ℕ) (r : OpenRun) → IfSome last (IsOpenRun z size) → IsNext last k next → IsOpenRun z size r → r.number ≡ k → (is_after r last && is_cheaper r next) ≡ false → IsNext last (k + 1) next
-  walk_keeps last None k r ok is run at not_both = λ j h o. elim (eqb_tells j k) [
-    | inl here ↦ ap (after last) (here.1 ∙ sym at) ∙ sym (after_same r last ok run) ∙ false_from_ne_true _ (λ e. both_ways _ not_both (and_from _ _ e refl))
-    | inr other ↦ is j (omega (arith, h, other.1)) o
-  ]
-  walk_keeps last (Some n) k r ok is run at not_both = record {
-    run = is.run;
-    below = omega (arith, is.below);
-    later = is.later;
-    first = λ j h o a. elim (eqb_tells j k) [
-      | inl here ↦ false_from_ne_true _ (λ e.
-          let later = after_same r last ok run ∙ ap (after last) (at ∙ sym here.1) ∙ a in
-          let first = ap (λ (m : ℕ). before m n.number) (at ∙ sym here.1) ∙ e in
-          both_ways _ not_both (and_from _ _ later (fewer_if r n run is.run (omega (arith, is.below, at)) first)))
-      | inr other ↦ is.first j (omega (arith, h, other.1)) o a
-    ];
-  }
-
-  -- it is shut, or isn't both
-  pub walk_passes : (last next : Option OpenRun) (k : ℕ) (r : OpenRun) → IfSome last (IsOpenRun z size) → IsNext last k next → (opened k ≡ true → IsOpenRun z size r) → r.number ≡ k → (opened k ≡ true → (is_after r last && is_cheaper r next) ≡ false) → IsNext last (k + 1) next
-  walk_passes last next k r ok is run at not_both = elim (cases_Bool (opened k)) [
-    | inl here ↦ walk_keeps last next k r ok is (run here) at (not_both here)
-    | inr shut ↦ walk_shut last next k is shut
-  ]
+    by_next (Some n) is fewer j h o a = false_from_ne_true _ (λ e. both_ways _ (is.first j h o a) (before_trans (cost z size) j r.number n.number e (cheaper_first (cost z size) r.number n.number (omega (arith, fewer, run.pages, is.run.pages)))))
 
   no_cheaper : (last : Option OpenRun) (r : OpenRun) → IfSome last (IsOpenRun z size) → IsOpenRun z size r → is_level r last ≡ true → (j : ℕ) → after last j ≡ true → cost z size r.number ≤ cost z size j
   no_cheaper None r ok run level j later = omega (arith, run.pages, eqb-true r.pages 0 level)
@@ -196,22 +187,6 @@ module _ (z : ZoneState) (size : ℕ) where
   pub least_next : (r : OpenRun) (n : ℕ) → IsOpenRun z size r → rank z size r.number ≡ n → least (n + 1) z size ≡ least n z size + r.pages
   least_next r n is at = least_more opened (cost z size) runs n r.number is.within is.opened at ∙ ap (λ (k : ℕ). least n z size + k) (sym is.pages)
 
-pub run_fits : (size frames number : ℕ) → number < frames / size → size * number + size ≤ frames
-run_fits size frames number h =
-    let more = frames / size - (number + 1) in
-    let all : size * (frames / size) ≤ frames = omega arith in
-    let split : size * (frames / size) ≡ size * number + size + size * more = ap (λ (k : ℕ). size * k) (sum_is (frames / size) number h) ∙ spread size number more in
-    omega (arith, all, split) where
-      sum_is : (q number : ℕ) → number < q → q ≡ number + 1 + (q - (number + 1))
-      sum_is q number h = omega (arith, h)
-
-      spread : (size a b : ℕ) → size * (a + 1 + b) ≡ size * a + size + size * b
-      spread size a b = omega arith
-
--- the walk goes over as many runs as the zone has
-pub walked : (z : ZoneState) (order blocks frames : ℕ) → blocks ≡ z.blocks → frames ≡ 2 ^ order → 512 * blocks / frames ≡ run_count z (2 ^ order)
-walked z order blocks frames as_blocks as_frames = λ i. 512 * as_blocks i / as_frames i
-
 -- a run of a zone, by its first frame
 module _ (z : ZoneState) (order number : ℕ) (within : number < run_count z (2 ^ order)) where
   pub start_within : 2 ^ order * number + 2 ^ order ≤ frame_count z
@@ -237,8 +212,42 @@ module _ (z : ZoneState) (order number : ℕ) (within : number < run_count z (2 
     pub told_open : is_open u (2 ^ order) (first / 2 ^ order) ≡ is_open z (2 ^ order) number
     told_open = λ i. is_open (here i) (2 ^ order) (at i)
 
-    pub told_run : (pages : ℕ) → (is_open u (2 ^ order) (first / 2 ^ order) ≡ true → pages ≡ cost u (2 ^ order) (first / 2 ^ order)) → is_open z (2 ^ order) number ≡ true → IsOpenRun z (2 ^ order) (record { number = number; pages = pages })
-    told_run pages told is = record { within = within; opened = is; pages = told (told_open ∙ is) ∙ (λ i. cost (here i) (2 ^ order) (at i)) }
+    pub told_cost : cost u (2 ^ order) (first / 2 ^ order) ≡ cost z (2 ^ order) number
+    told_cost = λ i. cost (here i) (2 ^ order) (at i)
+
+-- each frame of an open run is free or has a page
+pub free_or_used : (z : ZoneState) (order k : ℕ) → k < run_count z (2 ^ order) → is_open z (2 ^ order) k ≡ true → free_in_run (is_free z) order k + cost z (2 ^ order) k ≡ 2 ^ order
+free_or_used z order k within is =
+    let at = start_number z order k within in
+    omega (arith, open_occupied z (2 ^ order * k) order (start_block z order k within) (ap (is_open z (2 ^ order)) at ∙ is), ap (cost z (2 ^ order)) at)
+
+-- the next run with so many free frames, told of this zone as it stands elsewhere
+pub told_next : (z u : ZoneState) → u ≡ z → (order from least many : ℕ) → least ≡ many → (found : Option ℕ) → IsNextWith (free_in_run (is_free u) order) (run_count u (2 ^ order)) from least found → IsNextWith (free_in_run (is_free z) order) (run_count z (2 ^ order)) from many found
+told_next z u here order from least many same found is =
+    subst (λ (v : ZoneState). IsNextWith (free_in_run (is_free v) order) (run_count v (2 ^ order)) from many found) here
+    (subst (λ (n : ℕ). IsNextWith (free_in_run (is_free u) order) (run_count u (2 ^ order)) from n found) same is)
+
+-- the walk goes to the next run with so many free frames that it has fewer pages than what was found
+module _ (z : ZoneState) (order from : ℕ) (last next : Option OpenRun) (is : IsNext z (2 ^ order) last from next) where
+  passes_full : (to : ℕ) → from ≤ to → to ≤ run_count z (2 ^ order) → ((k : ℕ) → from ≤ k → k < to → free_in_run (is_free z) order k < least_free (2 ^ order) next) → IsNext z (2 ^ order) last to next
+  passes_full to on within full = walk_passes z (2 ^ order) last next from to is on (misses next is full) where
+    misses : (next : Option OpenRun) → IsNext z (2 ^ order) last from next → ((k : ℕ) → from ≤ k → k < to → free_in_run (is_free z) order k < least_free (2 ^ order) next) → (k : ℕ) → from ≤ k → k < to → is_open z (2 ^ order) k ≡ true → Misses z (2 ^ order) last next k
+    misses None is full k low high o = absurd (omega (arith, full k low high))
+    misses (Some r) is full k low high o =
+        misses_dear z (2 ^ order) last r k is.run (omega (arith, is.below, low)) (omega (arith, full k low high, found_fits z (2 ^ order) last (Some r) from is, free_or_used z order k (omega (arith, high, within)) o))
+
+  pub walk_reaches : (number : ℕ) → IsLowestWith (free_in_run (is_free z) order) (run_count z (2 ^ order)) from (least_free (2 ^ order) next) number → IsNext z (2 ^ order) last number next
+  walk_reaches number found = passes_full number found.above (omega (arith, found.within)) found.fewer
+
+  pub walk_over : from ≤ run_count z (2 ^ order) → ((k : ℕ) → from ≤ k → k < run_count z (2 ^ order) → free_in_run (is_free z) order k < least_free (2 ^ order) next) → IsNext z (2 ^ order) last (run_count z (2 ^ order)) next
+  walk_over within full = passes_full (run_count z (2 ^ order)) within (omega arith) full
+
+  -- it has fewer, if it is open
+  pub fewer_pages : (r : OpenRun) → IsOpenRun z (2 ^ order) r → least_free (2 ^ order) next ≤ free_in_run (is_free z) order r.number → IfSome next (λ n. r.pages < n.pages)
+  fewer_pages r run enough = by_next next enough where
+    by_next : (next : Option OpenRun) → least_free (2 ^ order) next ≤ free_in_run (is_free z) order r.number → IfSome next (λ n. r.pages < n.pages)
+    by_next None enough = tt
+    by_next (Some n) enough = omega (arith, enough, run.pages, free_or_used z order r.number run.within run.opened)
 
 -- the first n of these frames are those of the runs of the ranks below n
 pub record IsPickedUpto (z : ZoneState) (order : ℕ) (firsts : List ℕ) (n : ℕ) : Type 0 where

@@ -1,5 +1,5 @@
 -- The walk over the open runs of a zone, in the order of their ranks.
-use Rattle.std.specs.Prelude.{◌≡◌, ℕ, ◌+◌, ◌<◌, ◌≤◌, Bool, true, false, nat_eq, nat_lt, ◌&&◌, ◌||◌, min, Option, Some, None}
+use Rattle.std.specs.Prelude.{◌≡◌, ℕ, ◌+◌, ◌-◌, ◌<◌, ◌≤◌, Bool, true, false, nat_eq, nat_lt, ◌&&◌, ◌||◌, min, Option, Some, None}
 use Rattle.fewest_core.specs.FewestMoves.{cost, is_open, run_count}
 use Rattle.fewest_core.specs.Reservation.{rank}
 use Rattle.state_core.specs.ZoneState.{ZoneState}
@@ -25,10 +25,10 @@ abbrev pub is_after : OpenRun → Option OpenRun → Bool
 is_after run None = true
 is_after run (Some last) = is_before last run
 
--- whether it has fewer pages than a run, if there is one
-abbrev pub is_cheaper : OpenRun → Option OpenRun → Bool
-is_cheaper run None = true
-is_cheaper run (Some next) = nat_lt run.pages next.pages
+-- how many frames of an open run are free at least, if it has fewer pages than a run, if there is one
+abbrev pub least_free : ℕ → Option OpenRun → ℕ
+least_free size None = 0
+least_free size (Some next) = size - next.pages + 1
 
 -- whether it has as few pages as a run, or none where there is no such run
 abbrev pub is_level : OpenRun → Option OpenRun → Bool

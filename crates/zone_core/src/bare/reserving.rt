@@ -5,7 +5,7 @@ ghost use Rattle.std.specs.FinMap as map;
 ghost use Rattle.std.specs.Result.{result_err};
 ghost use Rattle.fewest_core.specs.Claims.{claim_refusal};
 ghost use Rattle.fewest_core.specs.Evacuation.{is_beside, is_in_run, IsCarriedFrom};
-ghost use Rattle.fewest_core.specs.FewestMoves.{cost, costs, is_shut, least};
+ghost use Rattle.fewest_core.specs.FewestMoves.{cost, costs, is_open, is_shut, least, run_count};
 ghost use Rattle.fewest_core.specs.Reservation.{blocks_taken, cleared, is_in_runs, rank, reserve_refusal, reserved, ArePicked};
 ghost use Rattle.frame_core.specs.Below.{highest};
 ghost use Rattle.frame_core.specs.Moves.{moved, out};
@@ -13,7 +13,7 @@ ghost use Rattle.state_core.specs.HandingOut.{is_run};
 ghost use Rattle.state_core.specs.Valid.{IsValidZone};
 ghost use Rattle.state_core.specs.ZoneState.{frame_count};
 ghost use Rattle.zone_core.specs.Emptying.{HasEnough, IsEmptying};
-ghost use Rattle.zone_core.specs.Reserving.{is_after, is_before, is_cheaper, is_level, lower, next_rank, IsNext, IsOpenRun};
+ghost use Rattle.zone_core.specs.Reserving.{is_after, is_before, is_level, least_free, lower, next_rank, IsNext, IsOpenRun};
 ghost use Rattle.zone_core.specs.ZoneIdentity.{HasIdentity};
 
 use crate::bare::BareZone;
@@ -51,16 +51,6 @@ impl OpenRun {
     {
         match last {
             Some(last) => last.is_before(self),
-            None => true,
-        }
-    }
-
-    /// Whether it has fewer pages than a run, if there is one.
-    fn is_cheaper(self, next: Option<OpenRun>) -> bool
-        ensures { result ≡ is_cheaper self next }
-    {
-        match next {
-            Some(next) => self.pages < next.pages,
             None => true,
         }
     }
@@ -158,18 +148,18 @@ impl<const W: usize> BareZone<W> {
                 return Some(run);
             }
         }
-        let frames = order.frames();
         let mut next = None;
-        for number in 0..512 * self.blocks() / frames {
-            let first = frame_no(frames * number);
-            // An open run has a page in each frame that isn't free. So few runs are asked whether they are open. Of equals the
-            // lowest comes first.
-            let pages = frames - self.tables.free_in_run(first, order);
-            let run = OpenRun { number, pages };
-            if run.is_after(last)
-                && run.is_cheaper(next)
-                && self.tables.pages_of(first, order).is_some()
-            {
+        let mut from = 0;
+        // Of equals the lowest comes first, so a later run is asked for only if it has fewer pages.
+        while let Some(number) = self
+            .tables
+            .next_run_with(order, from, least_free(order, next))
+        {
+            from = number + 1;
+            let Some(run) = self.open_run(order, number) else {
+                continue;
+            };
+            if run.is_after(last) {
                 if run.is_level(last) {
                     return Some(run);
                 }
@@ -179,6 +169,17 @@ impl<const W: usize> BareZone<W> {
         next
     }
 
+    /// The run of an order with this number, if it is open.
+    fn open_run(&self, order: Order, number: u32) -> Option<OpenRun>
+        requires { number < run_count self.now (2 ^ order) }
+        ensures open { is_some result ≡ is_open self.now (2 ^ order) number }
+        ensures run { IfSome result (λ run. IsOpenRun self.now (2 ^ order) run) }
+        ensures number { IfSome result (λ run. run.number ≡ number) }
+    {
+        let pages = self.tables.pages_of(run_start(order, number), order)?;
+        Some(OpenRun { number, pages })
+    }
+
     /// The lowest free run, unless its pageblock is marked. No open run goes before it.
     fn free_run(&self, order: Order) -> Option<OpenRun>
         ensures next { IfSome result (λ run. IsOpenRun self.now (2 ^ order) run) }
@@ -186,9 +187,7 @@ impl<const W: usize> BareZone<W> {
         ensures valid { IsValidZone self.now }
     {
         let first = self.tables.find_run(order)?;
-        let pages = self.tables.pages_of(first, order)?;
-        let number = first.get() / order.frames();
-        Some(OpenRun { number, pages })
+        self.open_run(order, first.get() / order.frames())
     }
 
     /// How many pages the cheapest open runs have together, as many runs as are asked for, or none where fewer are open.
@@ -317,6 +316,17 @@ fn lower(one: Option<u32>, other: Option<u32>) -> Option<u32>
     match (one, other) {
         (Some(one), Some(other)) => Some(one.min(other)),
         (one, other) => one.or(other),
+    }
+}
+
+/// How many frames of an open run are free at least, if it has fewer pages than a run, if there is one.
+fn least_free(order: Order, next: Option<OpenRun>) -> u32
+    requires { IfSome next (λ run. run.pages ≤ 2 ^ order) }
+    ensures { result ≡ least_free (2 ^ order) next }
+{
+    match next {
+        Some(next) => order.frames() - next.pages + 1,
+        None => 0,
     }
 }
 
