@@ -48,12 +48,24 @@ HAND_PROOFS = {
         "8569e42bfc06b264560d9af9dad4e5bec82453f39a130ed89be488ce8892ab58",
     ),
     "crates/compactd_c/proofs/Lib.antt": (
-        "it names the three files beside it",
-        "91631fce20057404710f1c733fbf2113d8ceb994764a061445dc89076edcceb9",
+        "it names the four files beside it",
+        "a45f40e61c9e7d3bb64f7d0c0214464f1619aac9c95b31c4aa387dcc8183f43c",
+    ),
+    "crates/compactd_c/proofs/Turns.antt": (
+        "it says what one more request leaves, and proves no function by hand",
+        "ac51ec21ec8f9197769b3ffa23f1e1385d13eaacf763c9282940ca612840732e",
     ),
     "crates/compactd_c/proofs/Walks.antt": (
         "the names that these proofs share",
         "a9856284147c2addd44e413009cb2c68d609e26a8d344441628e38f144f46fb9",
+    ),
+    "crates/compactd_c/proofs/batches/change_all/Answers.antt": (
+        "it says that one more request had its turn, and proves no function by hand",
+        "c0586d82ef549ca13bee2ee73e89cb97198233812bc73faf3a208ee52585b722",
+    ),
+    "crates/compactd_c/proofs/batches/change_all/Invariants.antt": (
+        "it says how many requests had their turns, and proves no function by hand",
+        "2f4dcecbd7a689ac7001f152b9b4d216aff51894e6144e2c5fb0e113aa09e86b",
     ),
     "crates/compactd_c/proofs/keeping/compactd_keep/Answers.antt": (
         "it says which step the function made, and proves no function by hand",

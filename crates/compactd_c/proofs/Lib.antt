@@ -1,3 +1,4 @@
 pub mod Boxed
 pub mod Either
+pub mod Turns
 pub mod Walks

@@ -1,5 +1,6 @@
 pub mod Answers
 pub mod Asked
+pub mod Batches
 pub mod Carried
 pub mod Keepers
 pub mod Kinds
