@@ -36,7 +36,7 @@ POOL = "compactd_pool *"
 HANDLES = ("Pool", "Handle")  # its names in Rattle and in Rust
 NUMBERS = {"u32": "uint32_t", "i32": "int32_t", "u64": "uint64_t", "usize": "size_t", "bool": "compactd_bool"}
 CALL = r"\b(compactd_\w+)\("
-OF_HEADER = {"compactd_refusal_text"}  # functions that the header has itself
+OF_HEADER = {"compactd_refusal_text", "compactd_move_of", "compactd_list_moves"}  # functions that the header has itself
 OF_POOLS = {"OK", "CLOSED", "OPEN", "MET"}  # what isn't an error of the crate for Rust, since its types see to it
 # A byte of the kit's heap, whose address stands for memory of no size.
 NOTHING = "nothing"
@@ -131,10 +131,9 @@ def in_c(kind):
     """The words of C for what a function takes. A slice is a pointer and a count."""
     shared, pointer, inner = re.fullmatch(r"(&mut |\*mut |(&|\*const )?)(.*)", kind).group(2, 1, 3)
     const = "const " if shared else ""
-    if inner.startswith("["):
-        return [f"{const}{NUMBERS[inner[1:-1]]} *", "size_t"]
-    name = POOL[:-2] if inner in HANDLES else NUMBERS.get(inner) or name_in_c(inner)
-    return [f"{const}{name} *" if pointer else name]
+    is_slice, item = inner.startswith("["), inner.strip("[]")
+    name = POOL[:-2] if item in HANDLES else NUMBERS.get(item) or name_in_c(item)
+    return [f"{const}{name} *", "size_t"] if is_slice else [f"{const}{name} *" if pointer else name]
 
 
 def compare_types():

@@ -7,7 +7,8 @@
  *
  * Each call answers 0 when it was done, or the number of its refusal, an enum compactd_refusal; compactd_refusal_text has its words. A
  * refused call changes nothing: the pool is as it was, and nothing is written through the other pointers. Where several refusals hold, the
- * call answers the one that comes first in its comment.
+ * call answers the one that comes first in its comment. Two calls, compactd_map_many and compactd_unmap_many, are many calls in one: they
+ * answer the first refusal of these, and so change something although they answer it.
  *
  * Ranges, unless a comment gives another: a client 0 to 7, a space 0 to 255, a virtual page (vpage) 0 to 16777215, a frame of the pool, a
  * word 0 to 7 or 0 to 511 by the size of the pool's pages, a pageblock of the pool, an order 3 to 9.
@@ -16,15 +17,15 @@
  * have it, a call that would make it name a page is refused as RANGE: compactd_map, compactd_map_at, and compactd_share for its alias.
  * Everywhere else it is an address that names no page.
  *
- * Each structure but the handle ends in reserved words: compactd_geometry in one, each other in two. The library fills them with 0 and
- * doesn't read them. A later version may give them a meaning; the size of the structure stays.
+ * Each structure but the handle and compactd_page_request ends in reserved words: compactd_geometry in one, each other in two. The library
+ * fills them with 0 and doesn't read them. A later version may give them a meaning; the size of the structure stays.
  *
  * What the caller owes, since no call can test it:
  * - A pool is all zeros before its first call. Only these calls read, write or copy its field.
  * - Each pointer leads to memory of its type, or to as many words as the count says, and to nothing else of the same call. No pointer is
- *   null, except `values` of compactd_read, compactd_write, compactd_read_block and compactd_write_block, and `firsts` of compactd_reserve,
- *   compactd_keep and compactd_take_kept, where the number of words is 0. A test shows that null is right there; the proof assumes a pointer
- *   that isn't null.
+ *   null, except `values` of compactd_read, compactd_write, compactd_read_block and compactd_write_block, `firsts` of compactd_reserve,
+ *   compactd_keep and compactd_take_kept, and `requests` of compactd_map_many and compactd_unmap_many, where the count is 0. A test shows
+ *   that null is right there; the proof assumes a pointer that isn't null.
  * - Calls on one pool don't overlap, unless all of them are questions: compactd_info, _describe, _free_runs, _fragmentation, _look, _marked,
  *   _quiet, _audit, _journal, _record_at, _next_moving and _cheapest_run. The caller's lock sees to it: a mutex, or a reader-writer lock
  *   under whose reading side only questions are asked. That questions may run side by side is tested and not proved: the proof knows one
@@ -52,8 +53,8 @@
 #define COMPACTD_VERSION (COMPACTD_VERSION_MAJOR * 10000 + COMPACTD_VERSION_MINOR * 100 + COMPACTD_VERSION_PATCH)
 #define COMPACTD_VERSION_TEXT "0.2.0"
 
-/* What a compiler may warn of: an answer that nobody looks at, and a pointer that is null. COMPACTD_CALL_WITH_WORDS stands where `values`
- * or `firsts` may be null. */
+/* What a compiler may warn of: an answer that nobody looks at, and a pointer that is null. COMPACTD_CALL_WITH_WORDS stands where `values`,
+ * `firsts` or `requests` may be null. */
 #ifdef __GNUC__
 #define COMPACTD_NOT_NULL __attribute__((nonnull))
 #define COMPACTD_CALL __attribute__((warn_unused_result, nonnull))
@@ -203,6 +204,15 @@ typedef struct compactd_moving_page {
     uint64_t reserved[2];
 } compactd_moving_page;
 
+/* A page that is to be mapped or unmapped, and what came of it. */
+typedef struct compactd_page_request {
+    uint32_t space;
+    uint32_t vpage;
+    uint32_t unmovable; /* of a page that is to be mapped: 0, or any other number where no round may move it */
+    uint32_t frame;     /* gets the frame of a page that was mapped, and else stays */
+    uint32_t status;    /* gets 0, or why this one was refused, an enum compactd_refusal */
+} compactd_page_request;
+
 /* Where a moving page is. */
 typedef struct compactd_move {
     uint32_t source; /* the frame that it leaves */
@@ -318,6 +328,18 @@ uint32_t compactd_share(compactd_pool *pool, uint32_t client, uint32_t space, ui
 /* Makes an address name no page any more. When a page has no address left, it is gone and its frame is free.
  * Refused: CLOSED; RANGE; JOURNAL_FULL; UNMAPPED; MOVING; PINNED. */
 uint32_t compactd_unmap(compactd_pool *pool, uint32_t client, uint32_t space, uint32_t vpage) COMPACTD_CALL;
+
+/* Maps `count` pages, one after the other, as that many compactd_map calls would. Each request gets the answer of its map in `status`, and
+ * the frame of its page where that is 0. One that is refused doesn't stop the others. Answers 0 where each page was mapped, and else the
+ * first refusal of a request, in the order of the requests.
+ * Refused: CLOSED. */
+uint32_t compactd_map_many(compactd_pool *pool, uint32_t client, compactd_page_request *requests, size_t count) COMPACTD_CALL_WITH_WORDS;
+
+/* Makes `count` addresses name no page any more, one after the other, as that many compactd_unmap calls would. Each request gets the answer
+ * of its own in `status`; `unmovable` isn't read and `frame` stays. So the requests by which pages were mapped also unmap them. Answers as
+ * compactd_map_many does.
+ * Refused: CLOSED. */
+uint32_t compactd_unmap_many(compactd_pool *pool, uint32_t client, compactd_page_request *requests, size_t count) COMPACTD_CALL_WITH_WORDS;
 
 /* Pins a page. While a page has a pin, no round isolates it, and a commit of its move puts it back.
  * Refused: CLOSED; RANGE; JOURNAL_FULL; UNMAPPED; PIN_FULL. */
@@ -451,6 +473,51 @@ uint32_t compactd_commit(compactd_pool *pool, const compactd_moving_page *page, 
 /* Ends the move of a page without a copy: the page is in its old frame, with its words.
  * Refused: CLOSED; STRANGER. */
 uint32_t compactd_put_back(compactd_pool *pool, const compactd_moving_page *page) COMPACTD_CALL;
+
+/* Gets the move of a page that is moving, as one that was isolated, where its old frame is `from` or a higher one. This is a part of the
+ * header and isn't proved; the calls that it makes are.
+ * Refused: CLOSED; RANGE where `from` is above 16777215; NOT_MOVING. */
+COMPACTD_IN_HEADER uint32_t compactd_move_of(compactd_pool *pool, const compactd_moving_page *page, uint32_t from, compactd_move *move)
+{
+    compactd_moving_page found;
+    compactd_move way;
+    uint32_t answer = compactd_next_moving(pool, from, &found, &way);
+
+    while (answer == COMPACTD_OK && found.serial != page->serial)
+        answer = compactd_next_moving(pool, way.source + 1, &found, &way);
+    if (answer == COMPACTD_OK)
+        *move = way;
+    return answer;
+}
+
+/* Moves the next pages of the round that was begun last, `most` at most, to where compactd_move_pages moves them, and lists them: `moves` has
+ * room for so many, and gets of each page its old frame, its new one and its lowest address, in the order in which they were moved. So who
+ * keeps page tables learns which pages a round moved. `words` has room for the words of a page, and `page_words` is their number. Gets how
+ * many pages were moved, and in `stopped` 0 where they are as many as were asked for, and else MET or JOURNAL_FULL. Each page is copied
+ * twice. This too is a part of the header.
+ * Refused: CLOSED; RANGE where `page_words` isn't the number of words of a page. With `most` 0 no call is made. */
+COMPACTD_IN_HEADER uint32_t compactd_list_moves(compactd_pool *pool, uint64_t *words, size_t page_words, compactd_move *moves, uint32_t most,
+                                                uint32_t *moved, uint32_t *stopped)
+{
+    compactd_moving_page page;
+    compactd_bool is_moved;
+    uint32_t count, answer = COMPACTD_OK;
+
+    for (count = 0; count < most; count++) {
+        answer = compactd_isolate(pool, &page, words, page_words);
+        if (answer == COMPACTD_OK) /* a round goes upwards */
+            answer = compactd_move_of(pool, &page, count > 0 ? moves[count - 1].source : 0, &moves[count]);
+        if (answer == COMPACTD_OK)
+            answer = compactd_commit(pool, &page, words, page_words, &is_moved);
+        if (answer != COMPACTD_OK)
+            break;
+    }
+    if (answer == COMPACTD_CLOSED || answer == COMPACTD_RANGE)
+        return answer;
+    *moved = count;
+    *stopped = answer;
+    return COMPACTD_OK;
+}
 
 /* Evacuations. */
 

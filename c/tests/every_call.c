@@ -29,7 +29,8 @@ static compactd_geometry geometry;
 static compactd_page_info info;
 static compactd_round_counts round_counts;
 static compactd_moving_page page;
-static compactd_move move;
+static compactd_move move, listed[8];
+static compactd_page_request request;
 static compactd_record record;
 static uint64_t records, room;
 static uint32_t runs;
@@ -51,6 +52,11 @@ static void closed(compactd_pool *pool)
     IS(CLOSED, compactd_write(pool, 0, 0, 0, 0, words, 1));
     IS(CLOSED, compactd_share(pool, 0, 0, 0, 0, 1));
     IS(CLOSED, compactd_unmap(pool, 0, 0, 0));
+    request.frame = request.status = 7;
+    IS(CLOSED, compactd_map_many(pool, 0, &request, 1));
+    IS(CLOSED, compactd_map_many(pool, 0, NULL, 0));
+    IS(CLOSED, compactd_unmap_many(pool, 0, &request, 1));
+    HOLDS(request.frame == 7 && request.status == 7);
     IS(CLOSED, compactd_pin(pool, 0, 0, 0));
     IS(CLOSED, compactd_unpin(pool, 0, 0, 0));
     IS(CLOSED, compactd_take_order(pool, 9, &frame));
@@ -74,6 +80,8 @@ static void closed(compactd_pool *pool)
     IS(CLOSED, compactd_begin_round(pool));
     moved = stopped = 7;
     IS(CLOSED, compactd_move_pages(pool, 1, &moved, &stopped));
+    IS(CLOSED, compactd_move_of(pool, &page, 0, &move));
+    IS(CLOSED, compactd_list_moves(pool, words, 8, listed, 8, &moved, &stopped));
     HOLDS(moved == 7 && stopped == 7);
     IS(CLOSED, compactd_evacuate(pool, 0, 9, &moved));
     firsts[0] = 7;
@@ -435,6 +443,131 @@ static void slices_of_a_journal(uint32_t page_words)
     HOLDS(record.kind == COMPACTD_WAS_ISOLATED && record.number == 0);
     OK(compactd_record_at(&pool, 4, &record));
     HOLDS(record.kind == COMPACTD_WAS_MOVED && record.number == 0);
+    OK(compactd_close(&pool));
+}
+
+/* A list of so many moves at most has as many as these, and stops for this. */
+static void lists(compactd_pool *pool, uint32_t page_words, uint32_t most, uint32_t wanted, uint32_t why)
+{
+    moved = stopped = 7;
+    OK(compactd_list_moves(pool, words, page_words, listed, most, &moved, &stopped));
+    HOLDS(moved == wanted && stopped == why);
+}
+
+/* A move of the list is that of the page at this address of space 0. */
+static void is_listed(uint32_t at, uint32_t source, uint32_t target, uint32_t vpage)
+{
+    HOLDS(listed[at].source == source && listed[at].target == target && listed[at].space == 0 && listed[at].vpage == vpage);
+}
+
+/* Rounds whose moves are listed, over pages in the frames from 0 on. */
+static void listed_moves(uint32_t page_words)
+{
+    compactd_pool pool = {0};
+    uint32_t at;
+
+    OK(compactd_open(&pool, page_words, 1));
+    for (at = 0; at < 5; at++) {
+        OK(compactd_map(&pool, 0, 0, at, 0, &frame));
+        OK(compactd_store(&pool, 0, 0, at, 7, 10 + at));
+        OK(compactd_share(&pool, 0, 0, at, 1, at));
+    }
+    lists(&pool, page_words, 8, 0, COMPACTD_MET); /* no round was begun */
+    OK(compactd_begin_round(&pool));
+    IS(RANGE, compactd_list_moves(&pool, words, page_words + 1, listed, 8, &moved, &stopped));
+    lists(&pool, page_words, 0, 0, COMPACTD_OK);
+    lists(&pool, page_words, 2, 2, COMPACTD_OK);
+    is_listed(0, 0, 511, 0);
+    is_listed(1, 1, 510, 1);
+    is_in_frame(&pool, 1, 510);
+    OK(compactd_isolate(&pool, &page, words, page_words));
+    IS(NOT_MOVING, compactd_move_of(&pool, &page, 3, &move));
+    OK(compactd_move_of(&pool, &page, 2, &move));
+    HOLDS(move.source == 2 && move.target == 509);
+    lists(&pool, page_words, 1, 1, COMPACTD_OK);
+    is_listed(0, 3, 508, 3); /* beside one that is moving */
+    lists(&pool, page_words, 8, 1, COMPACTD_MET);
+    is_listed(0, 4, 507, 4);
+    is_in_frame(&pool, 4, 507);
+    OK(compactd_put_back(&pool, &page));
+    is_in_frame(&pool, 2, 2);
+    OK(compactd_audit(&pool, &round_counts));
+    HOLDS(round_counts.isolated == 5 && round_counts.moved == 4 && round_counts.back == 1);
+    OK(compactd_close(&pool));
+    OK(compactd_open_journal(&pool, page_words, 1, 5));
+    for (at = 0; at < 3; at++)
+        OK(compactd_map(&pool, 0, 0, at, 0, &frame));
+    OK(compactd_begin_round(&pool));
+    lists(&pool, page_words, 8, 1, COMPACTD_JOURNAL_FULL);
+    is_listed(0, 0, 511, 0);
+    OK(compactd_close(&pool));
+}
+
+/* Requests with these frames and answers afterwards; what isn't written stays 7. */
+static void have(const compactd_page_request *requests, const uint32_t (*wanted)[2], size_t count)
+{
+    size_t at;
+
+    for (at = 0; at < count; at++)
+        HOLDS(requests[at].frame == wanted[at][0] && requests[at].status == wanted[at][1]);
+}
+
+/* Many pages in one call: each request has its turn, whether or not another one is refused. */
+static void many_pages(uint32_t page_words)
+{
+    static const uint32_t
+        none[][2] = {{7, COMPACTD_RANGE}, {7, COMPACTD_RANGE}, {7, COMPACTD_RANGE}, {7, COMPACTD_RANGE}, {7, COMPACTD_RANGE}},
+        some[][2] = {{0, COMPACTD_OK}, {7, COMPACTD_OCCUPIED}, {7, COMPACTD_RANGE}, {1, COMPACTD_OK}, {7, COMPACTD_RANGE}},
+        again[][2] = {{0, COMPACTD_OCCUPIED}, {7, COMPACTD_OCCUPIED}, {7, COMPACTD_RANGE}, {1, COMPACTD_OK}, {7, COMPACTD_RANGE}},
+        gone[][2] = {{0, COMPACTD_OK}, {7, COMPACTD_UNMAPPED}, {7, COMPACTD_UNMAPPED}, {1, COMPACTD_PINNED}, {7, COMPACTD_RANGE}};
+    compactd_page_request requests[] = {{0, 0, 0, 7, 7}, {0, 0, 1, 7, 7}, {8, 0, 0, 7, 7}, {0, 1, 2, 7, 7}, {256, 0, 0, 7, 7}};
+    compactd_pool pool = {0};
+
+    OK(compactd_open(&pool, page_words, 1));
+    OK(compactd_map_many(&pool, 0, NULL, 0));
+    OK(compactd_unmap_many(&pool, 0, NULL, 0));
+    IS(RANGE, compactd_map_many(&pool, 8, requests, 5));
+    have(requests, none, 5);
+    IS(OCCUPIED, compactd_map_many(&pool, 7, requests, 5));
+    have(requests, some, 5);
+    OK(compactd_look(&pool, 0, 0, &info));
+    HOLDS(info.frame == 0 && info.flags == 0);
+    OK(compactd_look(&pool, 0, 1, &info));
+    HOLDS(info.frame == 1 && info.flags == COMPACTD_UNMOVABLE);
+    OK(compactd_unmap_many(&pool, 0, requests + 3, 1));
+    OK(compactd_map_many(&pool, 0, requests + 3, 1));
+    IS(OCCUPIED, compactd_map_many(&pool, 0, requests, 2));
+    have(requests, again, 5);
+    OK(compactd_pin(&pool, 0, 0, 1));
+    IS(UNMAPPED, compactd_unmap_many(&pool, 0, requests, 5));
+    have(requests, gone, 5);
+    HOLDS(requests[4].space == 256 && requests[3].vpage == 1 && requests[3].unmovable == 2);
+    OK(compactd_close(&pool));
+}
+
+/* As many pages as a pool has frames and one more, and then as many as its journal has places and one more. */
+static void many_pages_of_a_full_pool(uint32_t page_words)
+{
+    static compactd_page_request requests[513];
+    compactd_pool pool = {0};
+    uint32_t at;
+
+    for (at = 0; at < 513; at++)
+        requests[at].vpage = at;
+    OK(compactd_open(&pool, page_words, 1));
+    IS(NO_FRAME, compactd_map_many(&pool, 0, requests, 513));
+    for (at = 0; at < 512; at++)
+        HOLDS(requests[at].status == COMPACTD_OK && requests[at].frame == at);
+    HOLDS(requests[512].status == COMPACTD_NO_FRAME);
+    OK(compactd_unmap_many(&pool, 0, requests, 512));
+    OK(compactd_info(&pool, &counts));
+    HOLDS(counts.free == 512 && requests[511].frame == 511);
+    OK(compactd_close(&pool));
+    OK(compactd_open_journal(&pool, page_words, 1, 3));
+    IS(JOURNAL_FULL, compactd_map_many(&pool, 5, requests, 4));
+    HOLDS(requests[2].status == COMPACTD_OK && requests[3].status == COMPACTD_JOURNAL_FULL);
+    OK(compactd_record_at(&pool, 2, &record));
+    HOLDS(record.kind == COMPACTD_WAS_MAPPED && record.client == 5 && record.vpage == 2);
     OK(compactd_close(&pool));
 }
 
@@ -1299,6 +1432,9 @@ static void both_sizes(uint32_t page_words)
     journal(page_words);
     slices(page_words);
     slices_of_a_journal(page_words);
+    listed_moves(page_words);
+    many_pages(page_words);
+    many_pages_of_a_full_pool(page_words);
     evacuations(page_words);
     evacuations_of_a_full_pool(page_words);
     evacuations_of_a_journal(page_words);

@@ -77,8 +77,13 @@ static compactd_bool is_so;
 
 static void make_calls_on_pages(compactd_pool *pool, uint32_t page_words)
 {
+    compactd_page_request requests[2] = {{2, 0, 0, 0, 0}, {2, 1, 1, 0, 0}};
     uint32_t vpage, frame;
 
+    made(compactd_map_many(pool, 0, requests, 2));
+    made(compactd_map_many(pool, 0, requests, 1));
+    made(compactd_unmap_many(pool, 0, requests, 2));
+    made(compactd_unmap_many(pool, 0, requests, 1));
     for (vpage = 1; vpage < 1000; vpage++)
         made(compactd_map(pool, 0, 0, vpage, 0, &frame));
     made(compactd_map_at(pool, 0, 1, 0, 0, 4095));
