@@ -229,6 +229,12 @@ struct Slice {
     std::uint32_t stopped;
 };
 
+// What Pool::list_moves did: the moves that it made, the first one in front, and `stopped` as a Slice has it.
+struct ListedMoves {
+    std::vector<compactd_move> moves;
+    std::uint32_t stopped;
+};
+
 // What Pool::empty_some did: how many pages it moved, and how many frames of the run aren't claimed yet.
 struct Step {
     std::uint32_t moved;
@@ -338,6 +344,18 @@ public:
     }
 
     void unmap(std::uint32_t client, Address at) { detail::done(compactd_unmap(raw(), client, at.space, at.vpage)); }
+
+    // Maps pages, or makes addresses name no page any more, one after the other. Each request gets its answer; one that is refused doesn't
+    // stop the others. Returns whether none was.
+    bool map_many(std::uint32_t client, compactd_page_request *requests, std::size_t count)
+    {
+        return are_all_done(compactd_map_many(raw(), client, requests, count));
+    }
+
+    bool unmap_many(std::uint32_t client, compactd_page_request *requests, std::size_t count)
+    {
+        return are_all_done(compactd_unmap_many(raw(), client, requests, count));
+    }
 
     void pin(std::uint32_t client, Address at) { detail::done(compactd_pin(raw(), client, at.space, at.vpage)); }
 
@@ -466,6 +484,17 @@ public:
         return slice;
     }
 
+    // The same, but that it lists where each page was and is. It allocates room for `most` moves and for the words of a page.
+    ListedMoves list_moves(std::uint32_t most)
+    {
+        std::vector<std::uint64_t> words(describe().page_words);
+        ListedMoves listed = {std::vector<compactd_move>(most), 0};
+        std::uint32_t moved = 0;
+        detail::done(compactd_list_moves(raw(), words.data(), words.size(), listed.moves.data(), most, &moved, &listed.stopped));
+        listed.moves.resize(moved);
+        return listed;
+    }
+
     // Isolates the next page of the round. It allocates the words of the page.
     Moving isolate()
     {
@@ -551,6 +580,14 @@ public:
 
 private:
     friend class Keeper;
+
+    // Whether each request of a call for many was done.
+    static bool are_all_done(std::uint32_t answer)
+    {
+        if (answer == COMPACTD_CLOSED)
+            throw Error(answer);
+        return answer == COMPACTD_OK;
+    }
 
     // Whether a call was done; where it was refused as `none`, there is nothing to get.
     static bool is_there(std::uint32_t answer, std::uint32_t none)

@@ -78,6 +78,23 @@ void pools()
     HOLDS(other.look(at).flags == COMPACTD_UNMOVABLE);
 }
 
+void many_pages()
+{
+    Pool pool(PageSize::bytes64, 1), closed = std::move(pool);
+    std::vector<compactd_page_request> pages(3);
+    pages[1].vpage = 1;
+    HOLDS(refusal([&] { pool.map_many(0, pages.data(), 3); }) == COMPACTD_CLOSED);
+    pool = std::move(closed);
+    HOLDS(!pool.map_many(0, pages.data(), 3) && pages[1].frame == 1 && pages[2].status == COMPACTD_OCCUPIED && pool.info().pages == 2);
+    HOLDS(pool.map_many(0, nullptr, 0));
+    pool.begin_round();
+    compactd::ListedMoves listed = pool.list_moves(1);
+    HOLDS(listed.moves.size() == 1 && listed.moves[0].target == 511 && listed.stopped == COMPACTD_OK);
+    listed = pool.list_moves(9);
+    HOLDS(listed.moves.size() == 1 && listed.moves[0].source == 1 && listed.moves[0].vpage == 1 && listed.stopped == COMPACTD_MET);
+    HOLDS(pool.unmap_many(0, pages.data(), 2) && pool.info().pages == 0);
+}
+
 // Pools of other sizes, which know their addresses.
 void sizes()
 {
@@ -376,6 +393,7 @@ void journals()
 int main()
 {
     pools();
+    many_pages();
     sizes();
     huge_pages();
     moves_into_themselves();
