@@ -1,6 +1,7 @@
 use std::fmt;
 
-/// Why a call was refused. A refused call changes nothing, but for [`crate::Pool::compact`], which says what it leaves.
+/// Why a call was refused. A refused call changes nothing, but for [`crate::Pool::compact`], [`crate::Pool::map_many`] and
+/// [`crate::Pool::unmap_many`], which say what they leave.
 #[derive(Clone, Copy, Debug, PartialEq, Eq, Hash)]
 #[non_exhaustive]
 pub enum Error {

@@ -77,6 +77,17 @@ pub struct MovingPage {
     reserved: [u64; 2],
 }
 
+/// A page that [`crate::Pool::map_many`] is to map or [`crate::Pool::unmap_many`] to unmap, and what came of it.
+#[repr(C)]
+#[derive(Clone, Copy, Debug, PartialEq, Eq)]
+pub struct PageRequest {
+    pub(crate) space: u32,
+    pub(crate) vpage: u32,
+    pub(crate) unmovable: u32,
+    pub(crate) frame: u32,
+    pub(crate) status: u32,
+}
+
 #[repr(C)]
 #[derive(Clone, Copy, Default)]
 pub struct Move {
@@ -112,6 +123,8 @@ extern "C" {
     pub fn compactd_store(pool: *mut Handle, client: u32, space: u32, vpage: u32, word: u32, value: u64) -> u32;
     pub fn compactd_share(pool: *mut Handle, client: u32, space: u32, vpage: u32, alias_space: u32, alias_vpage: u32) -> u32;
     pub fn compactd_unmap(pool: *mut Handle, client: u32, space: u32, vpage: u32) -> u32;
+    pub fn compactd_map_many(pool: *mut Handle, client: u32, requests: *mut PageRequest, count: usize) -> u32;
+    pub fn compactd_unmap_many(pool: *mut Handle, client: u32, requests: *mut PageRequest, count: usize) -> u32;
     pub fn compactd_pin(pool: *mut Handle, client: u32, space: u32, vpage: u32) -> u32;
     pub fn compactd_unpin(pool: *mut Handle, client: u32, space: u32, vpage: u32) -> u32;
     pub fn compactd_take_order(pool: *mut Handle, order: u32, first: *mut u32) -> u32;

@@ -1,6 +1,6 @@
 use crate::pool::{done, is_done};
 use crate::raw;
-use crate::{Error, Huge, Kept, Moving, MovingPage, Pool};
+use crate::{Error, Huge, Kept, Move, Moving, MovingPage, Pool};
 
 /// The number where the scanners have met: the answer of an isolation, and why a slice stopped.
 const MET: u32 = 53;
@@ -10,6 +10,15 @@ const MET: u32 = 53;
 pub struct Slice {
     /// How many pages were moved.
     pub moved: u32,
+    /// Why there were no more; None where they are as many as were asked for.
+    pub stopped: Option<Stopped>,
+}
+
+/// What [`Pool::list_moves`] did.
+#[derive(Clone, Debug, PartialEq, Eq)]
+pub struct ListedMoves {
+    /// The moves that it made, the first one in front.
+    pub moves: Vec<Move>,
     /// Why there were no more; None where they are as many as were asked for.
     pub stopped: Option<Stopped>,
 }
@@ -101,6 +110,47 @@ impl Pool {
             _ => Some(Stopped::JournalFull),
         };
         Slice { moved, stopped }
+    }
+
+    /// Moves the next pages of the round that was begun last, so many at most, to where [`Pool::move_pages`] moves them, and lists them: who
+    /// keeps page tables learns by it which pages a round moved. Each page is copied twice.
+    ///
+    /// ```
+    /// # use compactd::{Address, Error, PageSize, Pool, Stopped};
+    /// # fn main() -> Result<(), Error> {
+    /// # let mut pool = Pool::open(PageSize::Bytes64, 1)?;
+    /// let mut frame = pool.map(0, Address::new(0, 0), false)?;
+    /// pool.begin_round();
+    /// let listed = pool.list_moves(16);
+    /// for at in listed.moves.iter().filter(|at| at.address == Address::new(0, 0)) {
+    ///     assert_eq!(at.source, frame);
+    ///     frame = at.target;
+    /// }
+    /// assert_eq!((frame, listed.stopped), (511, Some(Stopped::Met)));
+    /// # Ok(())
+    /// # }
+    /// ```
+    pub fn list_moves(&mut self, most: u32) -> ListedMoves {
+        let (mut moves, mut words) = (Vec::new(), vec![0; self.page_size().words() as usize]);
+        while moves.len() < most as usize {
+            match self.move_listed(&mut words, moves.last().map_or(0, |at: &Move| at.source)) {
+                Ok(Some(made)) => moves.push(made),
+                Ok(None) => return ListedMoves { moves, stopped: Some(Stopped::Met) },
+                Err(_) => return ListedMoves { moves, stopped: Some(Stopped::JournalFull) },
+            }
+        }
+        ListedMoves { moves, stopped: None }
+    }
+
+    /// Moves the next page of the round, which leaves a frame from `from` on, and returns where it went.
+    fn move_listed(&mut self, words: &mut [u64], from: u32) -> Result<Option<Move>, Error> {
+        let Some(page) = self.isolate_into(words)? else { return Ok(None) };
+        let mut made = self.next_moving(from)?;
+        while made.page.serial() != page.serial() {
+            made = self.next_moving(made.source + 1)?;
+        }
+        self.commit_copy(page, words)?;
+        Ok(Some(made))
     }
 
     /// Empties the run of `2^order` frames, order 3 to 9, that begins at a frame, and returns how many pages were moved out of it. All

@@ -2,7 +2,7 @@
 
 use std::sync::Mutex;
 
-use compactd::{Address, CheapestRun, Error, Keeper, KeeperStep, Kept, MovingGuard, PageSize, Place, Pool, PoolSize, Record};
+use compactd::{Address, CheapestRun, Error, Keeper, KeeperStep, Kept, MovingGuard, PageRequest, PageSize, Place, Pool, PoolSize, Record};
 use compactd::{Reserved, Slice, Step, Stopped, Taken};
 
 fn pool() -> Pool {
@@ -59,6 +59,19 @@ fn has_the_addresses_that_it_is_opened_with() {
     assert_eq!(pool.record_at(1), Ok(Record::Share { client: 0, address: last, alias: AT }));
     pool.compact().unwrap();
     assert_eq!(pool.look(last).unwrap().place, Place::At { frame: 4607, unmovable: false, dirty: false });
+}
+
+#[test]
+fn maps_many_pages_though_some_are_refused() {
+    let mut pool = pool();
+    let mut pages =
+        [(0, false), (0, false), (256, false), (1, true)].map(|(space, unmovable)| PageRequest::new(Address::new(space, 5), unmovable));
+    assert_eq!(pool.map_many(0, &mut pages), Err(Error::Occupied));
+    assert_eq!(pages.map(|page| page.answer()), [Ok(0), Err(Error::Occupied), Err(Error::Range), Ok(1)]);
+    assert_eq!(pool.look(pages[3].address()).unwrap().place, Place::At { frame: 1, unmovable: true, dirty: false });
+    assert_eq!(pool.unmap_many(0, &mut pages), Err(Error::Unmapped));
+    assert_eq!(pages.map(|page| page.answer().err()), [None, Some(Error::Unmapped), Some(Error::Range), None]);
+    assert_eq!((pool.info().pages, pool.map_many(0, &mut [])), (0, Ok(())));
 }
 
 #[test]
