@@ -1,15 +1,15 @@
 """Random calls of the library for C are answered as by the machine of `checks/machine.py`.
 
 A million calls are made through `libcompactd.so` and beside them on the machine, with pages of both sizes, with a journal and without one,
-among them rounds, slices of rounds, pages that are moved by hand, runs that are emptied at once or claimed and emptied in steps, up to 4
-blocks that are reserved, and steps of keepers of each order. Most are made on pools of 1 to 8 pageblocks, and 100,000 on pools of 9 to 513,
-of which some are filled with blocks but for a few pageblocks at the top. Half of the pools have random numbers of spaces and of virtual
-pages, and their first and last addresses are among those of the calls. 100,000 more calls are made on one pool of 262,144 frames and
-16,777,216 addresses: nine in ten are about a few of them, the others about any. After each call the number of its refusal is compared, and
-what it tells; where it is refused, what it would have told has to be untouched. The reserved words of a structure have to be 0 once a call
-has filled it, and are random in those that a call is given. Numbers are also out of their ranges. All refusals come up but those of a pool
-that is closed, open already or can't have its memory, which `checks/c_exports.py` tries. At the end the records of each pool are compared
-too."""
+among them up to 40 pages that are mapped or unmapped in one call, rounds, slices of rounds, pages that are moved by hand, runs that are
+emptied at once or claimed and emptied in steps, up to 4 blocks that are reserved, and steps of keepers of each order. Most are made on
+pools of 1 to 8 pageblocks, and 100,000 on pools of 9 to 513, of which some are filled with blocks but for a few pageblocks at the top. Half
+of the pools have random numbers of spaces and of virtual pages, and their first and last addresses are among those of the calls. 100,000
+more calls are made on one pool of 262,144 frames and 16,777,216 addresses: nine in ten are about a few of them, the others about any. After
+each call the number of its refusal is compared, and what it tells; where it is refused, what it would have told has to be untouched. The
+reserved words of a structure have to be 0 once a call has filled it, and are random in those that a call is given. Numbers are also out of
+their ranges. All refusals come up but those of a pool that is closed, open already or can't have its memory, which `checks/c_exports.py`
+tries. At the end the records of each pool are compared too."""
 
 import collections
 import ctypes
@@ -79,6 +79,10 @@ class Move(ctypes.Structure):
     _fields_ = [*fields(u32, "source target space vpage"), *RESERVED]
 
 
+class PageRequest(ctypes.Structure):
+    _fields_ = fields(u32, "space vpage unmovable frame status")
+
+
 class Record(ctypes.Structure):
     _fields_ = [*fields(u32, "kind client space vpage"), *fields(u64, "number other value"), *RESERVED]
 
@@ -108,6 +112,8 @@ ARGUMENTS = {
     "store": [u32, u32, u32, u32, u64],
     "share": [u32, u32, u32, u32, u32],
     "unmap": [u32, u32, u32],
+    "map_many": [u32, told(PageRequest), size],
+    "unmap_many": [u32, told(PageRequest), size],
     "pin": [u32, u32, u32],
     "unpin": [u32, u32, u32],
     "take_order": [u32, told(u32)],
@@ -200,6 +206,13 @@ class Chooser:
         return *self.place(), *self.place()[1:]
 
     unmap = unpin = place
+
+    def map_many(self):
+        """A client, and some requests: the space and the virtual page of each, and whether a page of it is unmovable."""
+        count = self.chance.choice([0, 1, 2, 3, self.chance.randrange(41)])
+        return self.number(8), [(*self.place()[1:], self.chance.choice([0] * 30 + [1, 2**32 - 1])) for _ in range(count)]
+
+    unmap_many = map_many
 
     def pin(self):
         """Often the same page, so that it gets all the pins that one may have."""
@@ -334,6 +347,7 @@ OFTEN = {
     **dict.fromkeys(["take_order", "give_order", "read_block", "write_block", "evacuate"], 15),
     **dict.fromkeys(["mark", "unmark", "marked", "info", "quiet", "audit", "describe", "free_runs", "fragmentation"], 5),
     **dict.fromkeys(["isolate", "commit"], 20),
+    **dict.fromkeys(["map_many", "unmap_many"], 15),
     **dict.fromkeys(["next_moving", "claim", "empty_some"], 10),
     **dict.fromkeys(["put_back", "move_pages", "take_claimed", "drop_claim"], 5),
     **dict.fromkeys(["begin_round", "reserve", "set_apart", "cheapest_run"], 2),
@@ -345,6 +359,7 @@ OFTEN = {
 LOUD = {"map", "map_at", "share", "unmap", "pin", "unpin", "take_order", "give_order", "mark", "unmark"} | {"claim", "empty_some", "drop_claim"}
 BY_HAND = {"isolate", "commit", "put_back"}
 BY_KEEPER = {"keep", "take_kept"}
+MANY = {"map_many", "unmap_many"}
 MOST_KEPT = 2  # blocks that a keeper has ready
 
 
@@ -407,6 +422,21 @@ class Beside:
         if (answer, found) != (number, said):
             raise wrong_answer(f"{name}{arguments}", (answer, found), (number, said))
         need_reserved(name, answer, places)
+        return answer
+
+    def compare_many(self, name, client, requests):
+        """Makes a call for many pages, and beside it a call for each on the machine. Returns the number that both answer."""
+        pages = fresh(PageRequest * (len(requests) + 1))
+        for page, numbers in zip(pages, requests):
+            page.space, page.vpage, page.unmovable = numbers
+        untouched = fresh(u32).value
+        wanted = [self.wanted(*call_of_request(name, client, *numbers)) for numbers in requests]
+        left = [(*numbers, untouched if frame is None else frame, status) for numbers, (status, frame) in zip(requests, wanted)]
+        first = next((status for status, _ in wanted if status), 0)
+        answer = self.call(name, client, pages, len(requests))
+        found = [(page.space, page.vpage, page.unmovable, page.frame, page.status) for page in pages]
+        if (answer, found) != (first, [*left, (untouched,) * 5]):
+            raise wrong_answer(f"{name}{client, requests}", (answer, found), (first, left))
         return answer
 
     def compare_records(self):
@@ -472,6 +502,11 @@ class Beside:
     def forget(self, serial, answer):
         if answer == 0:
             del self.carried[serial]
+
+
+def call_of_request(name, client, space, page, unmovable):
+    """The call that a request of a call for many stands for."""
+    return ("map", (client, space, page, unmovable > 0)) if name == "map_many" else ("unmap", (client, space, page))
 
 
 def keeper_places(name, firsts, count):
@@ -549,12 +584,19 @@ def random_calls(number):
     return calls_of(pool, chance, Chooser(chance, pool.machine.zone), CALLS_OF_A_POOL)
 
 
+def made_by(pool, chooser, name):
+    """Makes a call of this name, and returns the number that it is answered."""
+    if name in BY_HAND:
+        return pool.carry(name, chooser.chance)
+    arguments = getattr(chooser, name)()
+    return pool.compare_many(name, *arguments) if name in MANY else pool.compare(name, arguments)
+
+
 def calls_of(pool, chance, chooser, count):
     """Makes so many calls of a pool, and closes it."""
     found = collections.Counter()
     for name in chance.choices(list(OFTEN), list(OFTEN.values()), k=count):
-        answer = pool.carry(name, chance) if name in BY_HAND else pool.compare(name, getattr(chooser, name)())
-        found[name, answer] += 1
+        found[name, made_by(pool, chooser, name)] += 1
     pool.compare_records()
     if pool.call("close"):
         raise runs.Failed("the pool can't be closed")
