@@ -4,7 +4,7 @@
 const FRAMES: u32 = 8192;
 
 /// The days that are seen of so many frames. Of more there are as many fewer.
-const DAYS: u32 = 200;
+const DAYS: u32 = 180;
 
 /// How much there is in a zone.
 #[derive(Clone, Copy)]
@@ -12,7 +12,7 @@ pub struct Plan {
     pub days: u32,
     /// The guests that come in a day.
     pub guests: u32,
-    /// The frames that the small pages leave free in the morning: one in sixteen.
+    /// The frames that the small pages leave free in the morning: one in eight.
     pub spare: u32,
     /// The small pages that are there after that: in one of four frames.
     pub small_pages: usize,
@@ -23,7 +23,7 @@ impl Plan {
         Plan {
             days: (DAYS * FRAMES).checked_div(frames).unwrap_or(0).max(1),
             guests: frames / FRAMES,
-            spare: frames / 16,
+            spare: frames / 8,
             small_pages: (frames / 4) as usize,
         }
     }
