@@ -1,6 +1,6 @@
 """A zone whose journal is unrecorded makes 100,000,000 calls, and the program has no more memory after them than after the first two. Nine
-times as many calls make no more requests for memory. Two examples that make 10,000,000 calls each, on one thread and with rounds on threads,
-have at most a MiB more in the end than in the first quarter of their time. Beside a zone whose journal is kept, in one run, a store of an
+times as many calls make no more requests for memory. Two examples that make 10,000,000 calls each, with rounds and with blocks that are kept
+ready, have at most a MiB more in the end than in the first quarter of their time. Beside a zone whose journal is kept, in one run, a store of an
 unrecorded one takes at most 0.9 of the time, and a word that is written in bulk at most half: nothing is done there for the record of each."""
 
 import os
@@ -18,7 +18,7 @@ FEW, MANY = 1_000, 9_000  # values, too, while requests are counted: the program
 TURNS, RUNS = 50, 5
 MOST = {"store": 0.9, "word": 0.5}  # of the time of a kept journal
 SLACK = 64  # kB: what the program's own output may touch for the first time
-SLACK_OF_EXAMPLES = 1024  # kB: the threads of rounds, which begin later; a byte for each call would be 10,000 kB
+SLACK_OF_EXAMPLES = 1024  # kB: a byte for each call would be 10,000 kB
 
 
 def peaks(process):

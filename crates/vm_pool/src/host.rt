@@ -1,212 +1,178 @@
-//! A host: a shared zone, its collector, and the guests that are there.
+//! A host of virtual machines: a zone, the guests that have blocks of it, and the host's own small pages.
 
-ghost use Rattle.std.specs.Prelude.{◌≡◌, ◌≤◌};
-ghost use Rattle.zone_core.specs.Books.{AreFor};
-
-use crate::guest::Guest;
+use crate::WORDS;
+use crate::block::Block;
 use crate::plan::Plan;
-use crate::small_pages::{SmallPages, count_kept};
-use huge_core::{Collector, Stop, give};
+use crate::small_pages::SmallPage;
+use crate::supply::Supply;
+use crate::tally::Tally;
+use anyhow::{Context, Result};
 use rand_core::Rng;
 use rand_pcg::Pcg32;
-use round_core::{Keeping, NoGate, Open, SharedZone, ZoneIdentity};
 use std::alloc::Global;
 use std::mem::replace;
-use std::sync::Wait;
-use std::sync::ledger::Ledger;
-use std::thread::Threads;
-use zone_core::{Blanks, Order, Seats, Zone, ZoneNo, ZoneSize};
+use std::time::{Clock, Duration, Instant};
+use zone_core::{
+    Address, BareZone, ClientNo, Order, SpaceNo, VPage, WordOf, ZoneError, ZoneNo, ZoneSize,
+};
 
-/// The turns of a day.
-const TURNS: u32 = 40;
-
-/// What comes of the guests, and of the host's own pages.
-#[derive(Clone, Copy, Default)]
-pub struct Tally {
-    /// The guests that came.
-    pub guests: u32,
-    /// Those that got their huge pages.
-    pub served: u32,
-    /// The rounds that were run for them.
-    pub rounds: u32,
-    /// The words that guests wrote into their huge pages.
-    pub written: usize,
-    /// Those that they found again when they left.
-    pub right: usize,
-    /// The calls of the zone that were made for small pages.
-    pub calls: u32,
-    /// The small pages at the end.
-    pub pages: u32,
-    /// Those that hold what was stored in them.
-    pub kept: u32,
-}
-
+/// A host on a day.
 #[derive(Drop)]
-struct Host<K: ZoneIdentity, I: Ledger, N: Ledger, M: Ledger, B: Ledger>
-where
-    Open<K>: Keeping,
-{
-    shared: SharedZone<K, I, M, B>,
-    seats: Seats<I, N, M, B>,
-    collector: Collector,
-    pages: SmallPages,
+pub struct Host {
+    pub zone: BareZone<WORDS>,
+    supply: Supply,
     plan: Plan,
+    day: u32,
     guests: Vec<Guest>,
-    draws: Pcg32,
-    /// The turns that are over. In each of them guests come.
-    turns: u32,
-    tally: Tally,
+    guest_draws: Pcg32,
+    pub small_pages: Vec<SmallPage>,
+    /// The addresses at which no small page is mapped.
+    pub unused: Vec<Address>,
+    /// What was stored in the latest small page.
+    pub stored: u64,
+    pub page_draws: Pcg32,
+    /// As which client of the zone the host makes its calls.
+    pub client: ClientNo,
+    /// The word of each small page in which something is stored.
+    pub word: WordOf<WORDS>,
+    pub tally: Tally,
+    /// How long the requests for a block took. At the end the shortest come first.
+    pub latencies: Vec<Duration>,
 }
 
-/// Opens a zone whose journal takes no memory, and lets guests come and go day by day.
-pub fn serve<
-    K: ZoneIdentity + Send + Sync,
-    I: Ledger + Send + Sync,
-    N: Ledger,
-    M: Ledger + Send + Sync,
-    B: Ledger + Send + Sync,
-    R: Threads + Wait + Sync,
->(rt: &R, alloc: Global, size: ZoneSize, rounds: u32, blanks: Blanks) -> Option<Tally>
-    requires rounds { rounds ≤ 16 }
-    requires identity { (K.number ≡ 0) × (K.blocks ≡ size.blocks) }
-    requires blanks { AreFor blanks I.name I.parts N.name N.parts M.name M.parts B.name B.parts }
-{
-    let number = ZoneNo::new(0)?;
-    let opened = Zone::<I, M, B>::open_sized::<N>(alloc, number, size, None, blanks);
-    let (zone, scan, ends) = opened.ok()?;
-    let shared = SharedZone::<K, I, M, B>::new(zone);
-    let plan = Plan::of(size.blocks);
-    let mut host = Host::new(alloc, shared, Seats { scan, ends }, rounds, plan);
-    Some(host.pass_days(rt, alloc))
+/// A guest that is there.
+#[derive(Drop)]
+struct Guest {
+    blocks: Vec<Block>,
+    /// The day on which it leaves.
+    leaves: u32,
 }
 
-impl<
-    K: ZoneIdentity + Send + Sync,
-    I: Ledger + Send + Sync,
-    N: Ledger,
-    M: Ledger + Send + Sync,
-    B: Ledger + Send + Sync,
-> Host<K, I, N, M, B> {
-    /// A host without guests, whose collector may run so many rounds for each that comes.
-    fn new(
-        alloc: Global,
-        shared: SharedZone<K, I, M, B>,
-        seats: Seats<I, N, M, B>,
-        rounds: u32,
-        plan: Plan,
-    ) -> Self
-        requires { rounds ≤ 16 }
-    {
-        let collector = Collector {
-            copiers: 2,
-            cap: 16,
-            rounds,
-            order: Order::of_pageblock(),
-        };
-        Host {
-            shared,
-            seats,
-            collector,
-            pages: SmallPages::new(plan.vpages),
-            plan,
+impl Host {
+    /// A host without guests and small pages, over a zone whose journal takes no memory. Unmovable pages are mapped apart from the others.
+    pub fn open(alloc: Global, size: ZoneSize, supply: Supply) -> Result<Self> {
+        let number = ZoneNo::new(0).context("no zone has this number")?;
+        let mut zone = BareZone::open_sized(alloc, number, size, None)?;
+        zone.set_apart(true);
+        Ok(Host {
+            zone,
+            supply,
+            plan: Plan::of(size.blocks.saturating_mul(512)),
+            day: 0,
             guests: Vec::new(alloc),
-            draws: Pcg32::new(2, 7),
-            turns: 0,
+            guest_draws: Pcg32::new(2, 7),
+            small_pages: Vec::new(alloc),
+            unused: addresses(alloc, size.vpages)?,
+            stored: 0,
+            page_draws: Pcg32::new(1, 5),
+            client: ClientNo::new(0).context("no client has this number")?,
+            word: WordOf::new(511).context("no word has this number")?,
             tally: Tally::default(),
-        }
+            latencies: Vec::new(alloc),
+        })
     }
 
-    /// Passes all days. At the end no guest is left.
-    fn pass_days<R: Threads + Wait + Sync>(&mut self, rt: &R, alloc: Global) -> Tally {
-        for _day in 0..self.plan.days {
-            self.pass_day(rt, alloc);
+    /// Lets guests come and go day by day. At the end no guest and no small page is left.
+    pub fn pass_days<R: Clock>(&mut self, rt: &R, alloc: Global) -> Result<()> {
+        self.supply.prepare(&mut self.zone)?;
+        for day in 0..self.plan.days {
+            self.day = day;
+            self.pass_day(rt, alloc)?;
         }
-        for guest in replace(&mut self.guests, Vec::new(alloc)) {
-            self.let_go(rt, guest);
-        }
-        let (pages, kept) = count_kept(rt, &self.shared, self.plan.vpages);
-        Tally {
-            calls: self.pages.calls(),
-            pages,
-            kept,
-            ..self.tally
-        }
+        self.let_leave(alloc, u32::MAX)?;
+        self.unmap_down_to(0)?;
+        self.latencies.sort_unstable();
+        self.tally.moved = self.zone.audit()?.moved;
+        Ok(())
     }
 
-    /// Fragments the zone, and lets the guests of a day come and go.
-    fn pass_day<R: Threads + Wait + Sync>(&mut self, rt: &R, alloc: Global) {
-        self.pages.churn(rt, &self.shared, self.plan.at_morning);
-        for _turn in 0..TURNS {
-            self.take_turn(rt, alloc);
-        }
-    }
-
-    /// Fragments the zone somewhat more, lets guests leave, and receives others.
-    fn take_turn<R: Threads + Wait + Sync>(&mut self, rt: &R, alloc: Global) {
-        self.pages.churn(rt, &self.shared, self.plan.at_turn);
-        self.let_leave(rt, alloc);
+    /// In the morning guests leave, and the host is busy: its small pages take nearly all frames. Those that are left then lie all over the
+    /// zone, and other guests come.
+    fn pass_day<R: Clock>(&mut self, rt: &R, alloc: Global) -> Result<()> {
+        self.let_leave(alloc, self.day)?;
+        self.map_until_free(self.plan.spare)?;
+        self.unmap_down_to(self.plan.small_pages)?;
         for _guest in 0..self.plan.guests {
-            self.receive(rt, alloc);
+            self.receive(rt, alloc)?;
         }
-        self.turns = self.turns.saturating_add(1);
+        Ok(())
     }
 
-    /// Reserves the blocks of a guest, which fills them. One that gets fewer than it wants goes without.
-    fn receive<R: Threads + Wait + Sync>(&mut self, rt: &R, alloc: Global) {
-        let (size, stays) = (1 + self.draws.next_u32() % 4, 1 + self.draws.next_u32() % 4);
-        let report = self.collector.reserve(
-            rt,
-            alloc,
-            &self.shared,
-            &mut self.seats,
-            size as usize,
-            &NoGate,
-        );
-        self.tally.guests = self.tally.guests.saturating_add(1);
-        self.tally.rounds = self.tally.rounds.saturating_add(report.rounds);
+    /// Receives a guest. One that gets fewer blocks than it wants goes without.
+    fn receive<R: Clock>(&mut self, rt: &R, alloc: Global) -> Result<()> {
+        let wanted = 1 + self.guest_draws.next_u32() % 4;
+        let days = 1 + self.guest_draws.next_u32() % 2;
         let mut guest = Guest {
-            number: self.tally.guests,
-            blocks: report.got,
-            leaves: self.turns.saturating_add(stays),
+            blocks: Vec::new(alloc),
+            leaves: self.day.saturating_add(days),
         };
-        if report.stop != Stop::Enough {
-            return self.take_back(rt, guest);
+        let is_served = self.serve(rt, &mut guest, wanted)?;
+        self.tally.guests.add(u64::from(is_served), 1);
+        if !is_served {
+            return self.take_back(&guest);
         }
-        self.tally.served = self.tally.served.saturating_add(1);
-        let written = guest.fill(rt, &self.shared);
-        self.tally.written = self.tally.written.saturating_add(written);
-        self.keep(rt, guest);
+        Ok(self.guests.push(guest)?)
     }
 
-    /// Each guest whose turn it is leaves.
-    fn let_leave<R: Wait>(&mut self, rt: &R, alloc: Global) {
+    /// Gives a guest so many blocks, which it fills. False where one of them can't be had.
+    fn serve<R: Clock>(&mut self, rt: &R, guest: &mut Guest, wanted: u32) -> Result<bool> {
+        for _block in 0..wanted {
+            let Some(block) = self.ask(rt)? else {
+                return Ok(false);
+            };
+            block.fill(&mut self.zone)?;
+            guest.blocks.push(block)?;
+        }
+        Ok(true)
+    }
+
+    /// Asks for a block, and notes how long the answer takes. After that what can be done for the next request is done.
+    fn ask<R: Clock>(&mut self, rt: &R) -> Result<Option<Block>> {
+        let start = Instant::now(rt)?;
+        let taken = self.supply.take(&mut self.zone);
+        self.latencies.push(start.elapsed(rt)?)?;
+        self.supply.prepare(&mut self.zone)?;
+        match taken {
+            Ok(first) => {
+                let number = self.tally.blocks.saturating_add(1);
+                self.tally.blocks = number;
+                Ok(Some(Block { first, number }))
+            }
+            Err(ZoneError::NoBlock) => Ok(None),
+            Err(error) => Err(error.into()),
+        }
+    }
+
+    /// Each guest whose day has come leaves.
+    fn let_leave(&mut self, alloc: Global, day: u32) -> Result<()> {
         for guest in replace(&mut self.guests, Vec::new(alloc)) {
-            if guest.leaves <= self.turns {
-                self.let_go(rt, guest);
+            if guest.leaves <= day {
+                self.take_back(&guest)?;
             } else {
-                self.keep(rt, guest);
+                self.guests.push(guest)?;
             }
         }
+        Ok(())
     }
 
-    /// Lets a guest stay, where there is memory for it.
-    fn keep<R: Wait>(&mut self, rt: &R, guest: Guest) {
-        if let Err(failed) = self.guests.push(guest) {
-            self.let_go(rt, failed.value);
+    /// Takes the blocks of a guest back, and sees whether its words are there.
+    fn take_back(&mut self, guest: &Guest) -> Result<()> {
+        for block in &guest.blocks {
+            let right = block.count_right(&mut self.zone)?;
+            self.tally.block_words.add(right, Block::WORDS);
+            self.zone.give_order(block.first, Order::of_pageblock())?;
         }
+        Ok(())
     }
+}
 
-    /// Lets a guest see whether its words are there, and takes its blocks back.
-    fn let_go<R: Wait>(&mut self, rt: &R, guest: Guest) {
-        let right = guest.count_right(rt, &self.shared);
-        self.tally.right = self.tally.right.saturating_add(right);
-        self.take_back(rt, guest);
+/// So many addresses of the zone's one space.
+fn addresses(alloc: Global, count: u32) -> Result<Vec<Address>> {
+    let space = SpaceNo::new(0).context("no space has this number")?;
+    let mut addresses = Vec::new(alloc);
+    for number in 0..count {
+        let vpage = VPage::in_any_zone(number).context("no virtual page has this number")?;
+        addresses.push(Address { space, vpage })?;
     }
-
-    /// Gives the blocks of a guest back to the zone.
-    fn take_back<R: Wait>(&self, rt: &R, guest: Guest) {
-        for huge in guest.blocks.into_iter().flatten() {
-            let _ = give(rt, &self.shared, huge);
-        }
-    }
+    Ok(addresses)
 }

@@ -6,10 +6,10 @@ use zone_core::ZoneSize;
 
 /// What is told of words that are wrong.
 pub const WANTED: &str =
-    "it has no arguments but --frames N, a multiple of 512 from 4096 to 16777216";
+    "it has no arguments but --frames N, a multiple of 512 from 8192 to 16777216";
 
-/// The pageblocks of a zone where no word asks for more, which is the smallest.
-const FEWEST: u32 = 8;
+/// The pageblocks of the smallest zone, which there is where no word asks for more: 32 MiB.
+const FEWEST: u32 = 16;
 
 const FRAMES_OF_A_PAGEBLOCK: u32 = 512;
 
@@ -17,7 +17,7 @@ const FRAMES_OF_A_PAGEBLOCK: u32 = 512;
 pub fn size_asked(words: io::Result<Args>) -> Option<ZoneSize> {
     let mut words = words.ok()?.skip(1);
     let Some(option) = words.next() else {
-        return Some(ZoneSize::of_blocks(FEWEST));
+        return size_of(FEWEST * FRAMES_OF_A_PAGEBLOCK);
     };
     let number = words.next()?;
     if option.as_str() != "--frames" || words.next().is_some() {
