@@ -88,14 +88,59 @@ const CHEAPEST_RUNS: [(u32, Option<(u32, u32)>); 4] = [
     (9, None),
 ];
 
-fn opened(rt: &(impl Abort + AllocGlobal), places: u32) -> BareZone<1> {
+/// Of four pageblocks the first one has three pages, the next one a pinned page, the third one a page, and the last one two.
+const FOUR_PAGEBLOCKS: &[(Call, Answer)] = &[
+    (Call::MapAt((0, 0), 0), Answer::Done),
+    (Call::MapAt((0, 1), 1), Answer::Done),
+    (Call::MapAt((0, 2), 2), Answer::Done),
+    (Call::MapAt((0, 3), 600), Answer::Done),
+    (Call::MapAt((0, 4), 1100), Answer::Done),
+    (Call::MapAt((0, 5), 1600), Answer::Done),
+    (Call::MapAt((0, 6), 1601), Answer::Done),
+    (Call::Pin((0, 3)), Answer::Done),
+];
+
+/// Of the four runs of 128 frames the first one has a page, and the next one a pinned page. The other two are free.
+const TWO_FREE_RUNS: &[(Call, Answer)] = &[
+    (Call::MapAt((0, 0), 5), Answer::Done),
+    (Call::MapAt((0, 1), 130), Answer::Done),
+    (Call::Pin((0, 1)), Answer::Done),
+];
+
+/// A zone with so many pageblocks, the order of the runs that are reserved in it, their first frames, and how many pages are moved.
+struct Picked {
+    blocks: u32,
+    zone: &'static [(Call, Answer)],
+    order: u32,
+    firsts: &'static [u32],
+    moved: u32,
+}
+
+const PICKED: [Picked; 2] = [
+    Picked {
+        blocks: 4,
+        zone: FOUR_PAGEBLOCKS,
+        order: 9,
+        firsts: &[1024, 1536, 0],
+        moved: 6,
+    },
+    Picked {
+        blocks: 1,
+        zone: TWO_FREE_RUNS,
+        order: 7,
+        firsts: &[256, 384, 0],
+        moved: 1,
+    },
+];
+
+fn opened(rt: &(impl Abort + AllocGlobal), blocks: u32, places: u32) -> BareZone<1> {
     let number = ZoneNo::new(3).expect(rt, "a zone");
-    BareZone::<1>::open(rt.alloc(), number, 1, places).expect(rt, "a zone")
+    BareZone::<1>::open(rt.alloc(), number, blocks, places).expect(rt, "a zone")
 }
 
 /// A zone with these four runs.
 fn four_runs(rt: &(impl Abort + AllocGlobal), places: u32) -> BareZone<1> {
-    let mut zone = opened(rt, places);
+    let mut zone = opened(rt, 1, places);
     plays(rt, &mut zone, "four runs", FOUR_RUNS);
     zone
 }
@@ -139,10 +184,25 @@ fn a_reservation_empties_the_cheapest_runs(rt: HostRuntime) {
     }
 }
 
+/// Higher runs come before lower ones, and one that isn't open lies between them.
+#[test]
+fn runs_are_picked_in_the_order_of_their_pages(rt: HostRuntime) {
+    for row in PICKED.iter() {
+        let mut zone = opened(&rt, row.blocks, 64);
+        plays(&rt, &mut zone, "runs to pick from", row.zone);
+        let mut firsts = vec![in rt.alloc(); frame(&rt, 7); row.firsts.len()].expect(&rt, "memory");
+        let answer = zone.reserve(order(&rt, row.order), firsts.as_mut_slice());
+        assert!(rt; answer == Ok(row.moved));
+        for (first, want) in firsts.iter().zip(row.firsts.iter()) {
+            assert!(rt; first.get() == *want);
+        }
+    }
+}
+
 /// Beside a page in frame 0 there is a free run of each order but the largest.
 #[test]
 fn free_runs_lie_in_no_larger_one(rt: HostRuntime) {
-    let mut zone = opened(&rt, 64);
+    let mut zone = opened(&rt, 1, 64);
     plays(
         &rt,
         &mut zone,
@@ -162,7 +222,7 @@ fn a_round_is_made_in_slices(rt: HostRuntime) {
         (Call::Map((0, 0)), Answer::Frame(0)),
         (Call::Map((0, 1)), Answer::Frame(1)),
     ];
-    let mut zone = opened(&rt, 64);
+    let mut zone = opened(&rt, 1, 64);
     plays(&rt, &mut zone, "two pages", &rows);
     zone.begin_round();
     assert!(rt; zone.move_pages(1).moved == 1);
