@@ -1,61 +1,40 @@
 -- Which frames stay known to be blank.
-use Rattle.std.proofs.Common.{◌≡◌, ℕ, ◌+◌, ◌-◌, ◌<◌, ◌≤◌, Bool, true, false, true≢false, ◌⊎◌, inl, inr, List, [], ◌++◌, length, take, drop, get_or, replicate, refl, sym, ap, ◌∙◌, arith}
+use Rattle.std.proofs.Common.{◌≡◌, ℕ, ◌+◌, ◌<◌, ◌≤◌, Bool, true, false, true≢false, ◌⊎◌, inl, inr, List, [], length, get_or, replicate, refl, sym, ap, ◌∙◌, arith}
 use Rattle.std.specs.Prelude.{slice_set}
-use Rattle.std.proofs.lemmas.List.{get_or-append-add, get_or_append_left, get_or-drop, get_or_past, get_or-replicate, get_or-set_other, get_or-take, set-get_or, length-replicate, take_at}
+use Rattle.std.proofs.lemmas.List.{get_or_past, get_or-replicate, get_or-set_other, set-get_or, length-replicate}
 use Rattle.std.proofs.lemmas.Grind.{get_or-set_at}
 use Rattle.std.proofs.lemmas.Option.{unwrap_or-slice_get}
 use Rattle.std.proofs.lemmas.Bool.{cases_lt}
 use Rattle.row_core.specs.Parts.{spliced}
-use Rattle.row_core.proofs.Lists.{front_long, rest_stays, spliced_long}
+use Rattle.frame_core.specs.FrameSet.{HasNow}
+use Rattle.frame_core.proofs.FrameSets.{changed_long, has_now, same_after, same_before}
 use Rattle.frame_core.specs.Page.{blank_words}
 use Rattle.frame_core.specs.Words.{words_of, with_words, HasBlock}
 use Rattle.frame_core.specs.BlankFrames.{AreBlank}
-
-module _ {X : Type 0} (xs ys : List X) (d : X) where
-  -- what stands before this place is the same
-  same_before : (at i : ℕ) → take at xs ≡ take at ys → i < at → get_or xs i d ≡ get_or ys i d
-  same_before at i same before = sym (get_or-take at xs i d before) ∙ ap (λ (l : List X). get_or l i d) same ∙ get_or-take at ys i d before
-
-  -- what stands from this place on is the same
-  same_after : (at i : ℕ) → drop at xs ≡ drop at ys → at ≤ i → get_or xs i d ≡ get_or ys i d
-  same_after at i same after =
-      let sum : at + (i - at) ≡ i = omega arith in
-      ap (λ (k : ℕ). get_or xs k d) (sym sum) ∙ sym (get_or-drop at xs (i - at) d) ∙ ap (λ (l : List X). get_or l (i - at) d) same ∙ get_or-drop at ys (i - at) d ∙ ap (λ (k : ℕ). get_or ys k d) sum
 
 -- so many frames are no longer known to be blank
 module _ (known : List Bool) (first frames : ℕ) (within : first + frames ≤ length known) where
   abbrev left : List Bool
   left = spliced known first frames (replicate frames false)
 
-  forgotten : (frame : ℕ) → first ≤ frame → frame < first + frames → get_or left frame false ≡ false
-  forgotten frame least most =
-      let at : frame ≡ length (take first known) + (frame - first) = omega (arith, least, front_long known first frames within) in
-      ap (λ (k : ℕ). get_or left k false) at
-      ∙ get_or-append-add (take first known) (replicate frames false ++ drop (first + frames) known) (frame - first) false
-      ∙ get_or_append_left (replicate frames false) (drop (first + frames) known) false (frame - first) (omega (arith, least, most, length-replicate frames false))
-      ∙ get_or-replicate frames (frame - first) false false (omega (arith, least, most))
-
-  still_before : (frame : ℕ) → frame < first → get_or left frame false ≡ get_or known frame false
-  still_before frame before = same_before left known false first frame (take_at (take first known) (replicate frames false ++ drop (first + frames) known) first (front_long known first frames within)) before
-
-  still_after : (frame : ℕ) → first + frames ≤ frame → get_or left frame false ≡ get_or known frame false
-  still_after frame after = same_after left known false (first + frames) frame (rest_stays known first frames within (replicate frames false) (length-replicate frames false)) after
+  forgotten : HasNow known left first frames false
+  forgotten = has_now known first frames within false left refl
 
   pub left_long : length left ≡ length known
-  left_long = spliced_long known first frames within (replicate frames false) (length-replicate frames false)
+  left_long = changed_long known first frames within false
 
   -- those frames got other words, and the rest are as they were
   pub blank_beside : (size : ℕ) (old new : List (List ℕ)) (words : List ℕ) → HasBlock old new first frames words → AreBlank size known old → AreBlank size left new
   blank_beside size old new words is blank frame told = by_place (cases_lt frame first) (cases_lt frame (first + frames))
     where
-      kept : get_or left frame false ≡ get_or known frame false → get_or new frame [] ≡ get_or old frame [] → words_of new frame ≡ blank_words size
-      kept same row = unwrap_or-slice_get new frame [] ∙ row ∙ sym (unwrap_or-slice_get old frame [])
-          ∙ blank frame (unwrap_or-slice_get known frame false ∙ sym same ∙ sym (unwrap_or-slice_get left frame false) ∙ told)
+      kept : (frame < first) ⊎ (first + frames ≤ frame) → get_or new frame [] ≡ get_or old frame [] → words_of new frame ≡ blank_words size
+      kept beside row = unwrap_or-slice_get new frame [] ∙ row ∙ sym (unwrap_or-slice_get old frame [])
+          ∙ blank frame (sym (forgotten.others frame beside) ∙ told)
 
       by_place : (frame < first) ⊎ (first ≤ frame) → (frame < first + frames) ⊎ (first + frames ≤ frame) → words_of new frame ≡ blank_words size
-      by_place (inl before) other = kept (still_before frame before) (same_before new old [] first frame is.before before)
-      by_place (inr least) (inr after) = kept (still_after frame after) (same_after new old [] (first + frames) frame is.after after)
-      by_place (inr least) (inl most) = absurd (true≢false (sym told ∙ unwrap_or-slice_get left frame false ∙ forgotten frame least most))
+      by_place (inl before) other = kept (inl before) (same_before new old [] first frame is.before before)
+      by_place (inr least) (inr after) = kept (inr after) (same_after new old [] (first + frames) frame is.after after)
+      by_place (inr least) (inl most) = absurd (true≢false (sym told ∙ forgotten.each frame least most))
 
 -- a frame is known to be blank from now on
 pub blank_too : (size : ℕ) (known : List Bool) (rows : List (List ℕ)) (frame : ℕ) → words_of rows frame ≡ blank_words size → AreBlank size known rows → AreBlank size (slice_set known frame true) rows

@@ -1,6 +1,6 @@
 -- The rows of frames whose words stand one after the other.
-use Rattle.std.proofs.Common.{◌≡◌, ◌≢◌, ◌⊎◌, inl, inr, ℕ, zero, suc, ◌+◌, ◌-◌, ◌*◌, ◌<◌, ◌≤◌, Bool, true, false, List, [], ◌∷◌, ◌++◌, length, take, drop, get_or, replicate, refl, sym, ap, subst, ◌∙◌, arith}
-use Rattle.std.specs.Prelude.{slice_set}
+use Rattle.std.proofs.Common.{◌≡◌, ◌≢◌, ◌⊎◌, inl, inr, ℕ, zero, suc, ◌+◌, ◌-◌, ◌*◌, ◌<◌, ◌≤◌, Bool, true, false, true≢false, List, [], ◌∷◌, ◌++◌, length, take, drop, get_or, replicate, refl, sym, ap, subst, ◌∙◌, arith}
+use Rattle.std.specs.Prelude.{not, slice_set}
 use Rattle.std.specs.List.{All}
 use Rattle.std.proofs.lemmas.List.{append_assoc, append-nil, drop_all, drop_at, drop-append-le, drop-drop, length-append, length-drop, length-replicate, length-take-le, replicate-append-replicate, take_at, take-append-drop, take-append-le, take-set-le}
 use Rattle.std.proofs.lemmas.List.Concat.{flat_map-cons}
@@ -9,9 +9,15 @@ use Rattle.std.proofs.lemmas.Option.{unwrap_or-slice_get}
 use Rattle.std.proofs.lemmas.Bool.{cases_lt}
 use Rattle.std.proofs.Math.Seq.{take-append-add, drop-append-add, drop-cons}
 use Rattle.row_core.specs.Parts.{part as part_of, spliced, AreHere}
+use denote.RawPtr.{Ptr, ◌+ₚ◌}
 use Rattle.row_core.proofs.Lists.{part_here, spliced_long}
 use Rattle.frame_core.specs.BlankFrames.{AreBlank}
 use Rattle.frame_core.proofs.BlankFrames.{all_blank, blank_beside, left_long}
+use Rattle.frame_core.specs.FrameSet.{has_frame, HasEach, HasNow}
+use Rattle.frame_core.specs.LentInside.{here_of}
+use Rattle.frame_core.specs.LentWords.{IsHere, Words, place_of}
+use Rattle.frame_core.proofs.FrameSets.{has_now, none_in}
+use Rattle.frame_core.proofs.LentFrames.{part_taken, words_here, words_out, words_put}
 use Rattle.frame_core.specs.Words.{joined, block_words, rows_of, with_words, words_of, HasBlock, put_from}
 
 -- each row has this many words
@@ -148,9 +154,12 @@ module _ (size n : ℕ) (words : List ℕ) (long : length words ≡ n * size) (f
       ∙ sym (append_assoc (take from part ++ values) (drop (from + length values) part) back))
 
 -- the words of frames are lent from this place on, and come back
-module _ (size n : ℕ) (words : List ℕ) (long : length words ≡ n * size) (seen : List (List ℕ)) (seen_is : rows_of size n words ≡ seen) (first frames : ℕ) (enough : first + frames ≤ length seen) (place : ℕ) (place_is : place ≡ first) where
+module _ (size n : ℕ) (words : List ℕ) (long : length words ≡ n * size) {at : Ptr} {lent : List Bool} {given : Bool} (seen : Words) (seen_is : record { at = at; rows = rows_of size n words; lent = lent; given = given } ≡ seen) (first frames : ℕ) (enough : first + frames ≤ length seen.rows) (place : ℕ) (place_is : place ≡ first) where
+  rows_is : rows_of size n words ≡ seen.rows
+  rows_is = ap (λ (s : Words). s.rows) seen_is
+
   within : first + frames ≤ n
-  within = omega (arith, enough, ap length seen_is, length-rows_of size n words)
+  within = omega (arith, enough, ap length rows_is, length-rows_of size n words)
 
   at_is : place * size ≡ first * size
   at_is = ap (λ (f : ℕ). f * size) place_is
@@ -158,22 +167,48 @@ module _ (size n : ℕ) (words : List ℕ) (long : length words ≡ n * size) (s
   pub ends : place * size + frames * size ≤ length words
   ends = omega (arith, at_is, long, words_within size first frames n within)
 
-  pub lent_words : part_of words (place * size) (frames * size) ≡ block_words seen first frames
+  pub lent_words : part_of words (place * size) (frames * size) ≡ block_words seen.rows first frames
   lent_words =
       ap (λ (k : ℕ). take (frames * size) (drop k words)) at_is
       ∙ sym (part_is size n words long first frames within)
-      ∙ ap (λ (rs : List (List ℕ)). block_words rs first frames) seen_is
+      ∙ ap (λ (rs : List (List ℕ)). block_words rs first frames) rows_is
+
+  pub lent_at : at +ₚ place * size * 8 ≡ place_of size seen first
+  lent_at = ap (λ (k : ℕ). at +ₚ k * 8) at_is ∙ ap (λ (s : Words). place_of size s first) seen_is
 
   pub lent_count : length (part_of words (place * size) (frames * size)) ≡ frames * size
   lent_count = length-take-le (frames * size) (drop (place * size) words) (omega (arith, ends, length-drop (place * size) words))
 
-  -- all words are here
-  pub lent_here : (here : List Bool) → AreHere here (n * size) → AreHere (part_of here (place * size) (frames * size)) (frames * size)
-  lent_here here all = part_here here (n * size) (place * size) (frames * size) all (omega (arith, ends, long))
+  -- the words of frames that aren't lent are here
+  module _ (here : List Bool) (kept : here ≡ here_of size lent) (listed : length lent ≡ n) where
+    among_lent : first + frames ≤ length lent
+    among_lent = omega (arith, within, listed)
 
-  pub came_back : (new ws : List ℕ) → new ≡ spliced words (place * size) (frames * size) ws → length ws ≡ frames * size → HasBlock seen (rows_of size n new) first frames ws
+    pub lent_here : IsHere seen first frames → AreHere (part_of here (place * size) (frames * size)) (frames * size)
+    lent_here is_here =
+        ap (λ (k : ℕ). part_of here k (frames * size)) at_is
+        ∙ words_here size lent first frames among_lent here kept (subst (λ (s : Words). IsHere s first frames) (sym seen_is) is_here)
+
+    -- they are lent, or come back
+    pub here_after : (new : List Bool) (are_lent : Bool) → new ≡ spliced here (place * size) (frames * size) (replicate (frames * size) (not are_lent)) → (now : List Bool) → now ≡ spliced lent first frames (replicate frames are_lent) → (new ≡ here_of size now) × (length now ≡ n)
+    here_after new are_lent is now now_is = (
+      is ∙ ap (λ (k : ℕ). spliced here k (frames * size) (replicate (frames * size) (not are_lent))) at_is
+          ∙ words_put size lent first frames among_lent here kept are_lent ∙ ap (here_of size) (sym now_is),
+      ap length now_is ∙ spliced_long lent first frames among_lent (replicate frames are_lent) (length-replicate frames are_lent) ∙ listed,
+    )
+
+    pub lent_after : (are_lent : Bool) (now : List Bool) → now ≡ spliced lent first frames (replicate frames are_lent) → HasNow seen.lent now first frames are_lent
+    lent_after are_lent now now_is = subst (λ (s : Words). HasNow s.lent now first frames are_lent) seen_is (has_now lent first frames among_lent are_lent now now_is)
+
+    -- frames whose words were out were lent
+    pub were_lent : 0 < size → part_of here (place * size) (frames * size) ≡ replicate (frames * size) false → HasEach seen.lent first frames true
+    were_lent some out =
+        subst (λ (s : Words). HasEach s.lent first frames true) seen_is
+        (words_out size lent first frames among_lent here kept some (ap (λ (k : ℕ). part_of here k (frames * size)) (sym at_is) ∙ out))
+
+  pub came_back : (new ws : List ℕ) → new ≡ spliced words (place * size) (frames * size) ws → length ws ≡ frames * size → HasBlock seen.rows (rows_of size n new) first frames ws
   came_back new ws is same =
-      subst (λ (rs : List (List ℕ)). HasBlock rs (rows_of size n new) first frames ws) seen_is
+      subst (λ (rs : List (List ℕ)). HasBlock rs (rows_of size n new) first frames ws) rows_is
       (subst (λ (xs : List ℕ). HasBlock (rows_of size n words) (rows_of size n xs) first frames ws) (sym (is ∙ ap (λ (k : ℕ). spliced words k (frames * size) ws) at_is))
       (has_words size n words long first frames within ws same))
 
@@ -190,11 +225,11 @@ module _ (size n : ℕ) (words : List ℕ) (long : length words ≡ n * size) (s
     among_listed = omega (arith, within, listed)
 
     pub came_blank : AreBlank size known (rows_of size n words) → (left : List Bool) → left ≡ spliced known first frames (replicate frames false)
-        → (new ws : List ℕ) → HasBlock seen (rows_of size n new) first frames ws → (length left ≡ n) × AreBlank size left (rows_of size n new)
+        → (new ws : List ℕ) → HasBlock seen.rows (rows_of size n new) first frames ws → (length left ≡ n) × AreBlank size left (rows_of size n new)
     came_blank blank left left_is new ws is = (
       ap length left_is ∙ left_long known first frames among_listed ∙ listed,
       subst (λ (frames : List Bool). AreBlank size frames (rows_of size n new)) (sym left_is)
-          (blank_beside known first frames among_listed size seen (rows_of size n new) ws is (subst (AreBlank size known) seen_is blank)),
+          (blank_beside known first frames among_listed size seen.rows (rows_of size n new) ws is (subst (AreBlank size known) rows_is blank)),
     )
 
   -- values are put among them
@@ -202,8 +237,11 @@ module _ (size n : ℕ) (words : List ℕ) (long : length words ≡ n * size) (s
     pub values_end : place * size + from + length values ≤ length words
     values_end = omega (arith, ends, small)
 
-    pub values_here : (here : List Bool) → AreHere here (n * size) → AreHere (part_of here (place * size + from) (length values)) (length values)
-    values_here here all = part_here here (n * size) (place * size + from) (length values) all (omega (arith, values_end, long))
+    pub values_here : (here : List Bool) → here ≡ here_of size lent → length lent ≡ n → IsHere seen first frames → AreHere (part_of here (place * size + from) (length values)) (length values)
+    values_here here kept listed is_here =
+        ap (take (length values)) (sym (drop-drop from (place * size) here))
+        ∙ sym (part_taken (drop (place * size) here) (frames * size) from (length values) small)
+        ∙ part_here (part_of here (place * size) (frames * size)) (frames * size) from (length values) (lent_here here kept listed is_here) small
 
     module _ (new : List ℕ) (is : new ≡ spliced words (place * size + from) (length values) values) where
       abbrev among : List ℕ
@@ -214,9 +252,9 @@ module _ (size n : ℕ) (words : List ℕ) (long : length words ≡ n * size) (s
           is ∙ ap (λ (k : ℕ). spliced words (k + from) (length values) values) at_is
           ∙ put_among size n words long first frames within from values small
 
-      pub values_put : HasBlock seen (rows_of size n new) first frames (put_from (block_words seen first frames) from values)
+      pub values_put : HasBlock seen.rows (rows_of size n new) first frames (put_from (block_words seen.rows first frames) from values)
       values_put =
-          subst (λ (rs : List (List ℕ)). HasBlock rs (rows_of size n new) first frames (put_from (block_words rs first frames) from values)) seen_is
+          subst (λ (rs : List (List ℕ)). HasBlock rs (rows_of size n new) first frames (put_from (block_words rs first frames) from values)) rows_is
           (subst (λ (xs : List ℕ). HasBlock (rows_of size n words) (rows_of size n xs) first frames (put_from (block_words (rows_of size n words) first frames) from values)) (sym built_among)
           (subst (λ (xs : List ℕ). HasBlock (rows_of size n words) (rows_of size n (front size n words long first frames within ++ (among ++ back size n words long first frames within))) first frames (put_from xs from values)) (sym (part_is size n words long first frames within))
           (has_words size n words long first frames within among (length-put size n words long first frames within from values small))))
@@ -267,7 +305,7 @@ one_stored old new frame from values within is =
     ∙ ap (λ (row : List ℕ). with_words old frame (put_from row from values)) (one_row old frame within)
 
 -- the words of a frame are copied into another
-module _ (size n : ℕ) (words : List ℕ) (long : length words ≡ n * size) (seen : List (List ℕ)) (seen_is : rows_of size n words ≡ seen) (from to : ℕ) (least : from < length seen) (enough : to < length seen) (source : ℕ) (source_is : source ≡ from) (target : ℕ) (target_is : target ≡ to) where
+module _ (size n : ℕ) (words : List ℕ) (long : length words ≡ n * size) {at : Ptr} {lent : List Bool} {given : Bool} (seen : Words) (seen_is : record { at = at; rows = rows_of size n words; lent = lent; given = given } ≡ seen) (from to : ℕ) (least : from < length seen.rows) (enough : to < length seen.rows) (source : ℕ) (source_is : source ≡ from) (target : ℕ) (target_is : target ≡ to) where
   one : size ≡ 1 * size
   one = omega arith
 
@@ -286,11 +324,16 @@ module _ (size n : ℕ) (words : List ℕ) (long : length words ≡ n * size) (s
       by_order (inr least) (inl downward) = inr (omega (arith, ap (λ (k : ℕ). k * size) source_is, ap (λ (k : ℕ). k * size) target_is, words_within size to 1 from (omega (arith, downward))))
       by_order (inr least) (inr most) = absurd (apart (omega (arith, least, most)))
 
-  pub source_here : (here : List Bool) → AreHere here (n * size) → AreHere (part_of here (source * size) size) size
-  source_here here all = part_here here (n * size) (source * size) size all (omega (arith, source_ends, long))
+  module _ (here : List Bool) (kept : here ≡ here_of size lent) (listed : length lent ≡ n) where
+    pub source_here : IsHere seen from 1 → AreHere (part_of here (source * size) size) size
+    source_here is_here =
+        subst (λ (k : ℕ). AreHere (part_of here (source * size) k) k) (sym one)
+        (lent_here size n words long seen seen_is from 1 (omega (arith, least)) source source_is here kept listed is_here)
 
-  pub target_here : (here : List Bool) → AreHere here (n * size) → AreHere (part_of here (target * size) size) size
-  target_here here all = part_here here (n * size) (target * size) size all (omega (arith, target_ends, long))
+    pub target_here : IsHere seen to 1 → AreHere (part_of here (target * size) size) size
+    target_here is_here =
+        subst (λ (k : ℕ). AreHere (part_of here (target * size) k) k) (sym one)
+        (lent_here size n words long seen seen_is to 1 (omega (arith, enough)) target target_is here kept listed is_here)
 
   pub copied_long : (new : List ℕ) → new ≡ spliced words (target * size) size (part_of words (source * size) size) → length new ≡ n * size
   copied_long new is =
@@ -298,9 +341,9 @@ module _ (size n : ℕ) (words : List ℕ) (long : length words ≡ n * size) (s
       (length-take-le size (drop (source * size) words) (omega (arith, source_ends, length-drop (source * size) words))) ∙ long
 
   -- the other one has those words
-  copied_here : (new : List ℕ) → new ≡ spliced words (target * size) size (part_of words (source * size) size) → HasBlock seen (rows_of size n new) to 1 (part_of words (source * size) size)
+  copied_here : (new : List ℕ) → new ≡ spliced words (target * size) size (part_of words (source * size) size) → HasBlock seen.rows (rows_of size n new) to 1 (part_of words (source * size) size)
   copied_here new is =
-      let below : from + 1 ≤ length seen = omega (arith, least) in
+      let below : from + 1 ≤ length seen.rows = omega (arith, least) in
       let ws = part_of words (source * size) size in
       let ws_is : ws ≡ part_of words (source * size) (1 * size) = ap (λ (k : ℕ). take k (drop (source * size) words)) one in
       let same : length ws ≡ 1 * size = ap length ws_is ∙ lent_count size n words long seen seen_is from 1 below source source_is in
@@ -314,11 +357,11 @@ module _ (size n : ℕ) (words : List ℕ) (long : length words ≡ n * size) (s
   copied_blank known listed blank left left_is new is =
       came_blank size n words long seen seen_is to 1 (omega (arith, enough)) target target_is known listed blank left left_is new (part_of words (source * size) size) (copied_here new is)
 
-  pub copied_over : (new : List ℕ) → new ≡ spliced words (target * size) size (part_of words (source * size) size) → rows_of size n new ≡ with_words seen to (words_of seen from)
+  pub copied_over : (new : List ℕ) → new ≡ spliced words (target * size) size (part_of words (source * size) size) → rows_of size n new ≡ with_words seen.rows to (words_of seen.rows from)
   copied_over new is =
       let ws_is : part_of words (source * size) size ≡ part_of words (source * size) (1 * size) = ap (λ (k : ℕ). take k (drop (source * size) words)) one in
-      one_changed seen (rows_of size n new) to (part_of words (source * size) size) enough (copied_here new is)
-      ∙ ap (with_words seen to) (ws_is ∙ lent_words size n words long seen seen_is from 1 (omega (arith, least)) source source_is ∙ one_row seen from least)
+      one_changed seen.rows (rows_of size n new) to (part_of words (source * size) size) enough (copied_here new is)
+      ∙ ap (with_words seen.rows to) (ws_is ∙ lent_words size n words long seen seen_is from 1 (omega (arith, least)) source source_is ∙ one_row seen.rows from least)
 
 -- rows of zeros
 pub blank_rows : (size n : ℕ) (words : List ℕ) → words ≡ replicate (n * size) 0 → rows_of size n words ≡ replicate n (replicate size 0)
@@ -339,3 +382,9 @@ pub opened_blank : (size n : ℕ) (words : List ℕ) → words ≡ replicate (n 
 opened_blank size n words is known known_is =
     subst (λ (frames : List Bool). AreBlank size frames (rows_of size n words)) (sym known_is)
     (subst (AreBlank size (replicate n true)) (sym (blank_rows size n words is)) (all_blank size n))
+
+-- and so are the frames of memory that is given, where it is blank
+pub given_blank : (size n : ℕ) (words : List ℕ) (blank : Bool) → length words ≡ n * size → (blank ≡ true → words ≡ replicate (length words) 0)
+    → (known : List Bool) → known ≡ replicate n blank → AreBlank size known (rows_of size n words)
+given_blank size n words true long zeros known known_is frame told = opened_blank size n words (zeros refl ∙ ap (λ (k : ℕ). replicate k 0) long) known known_is frame told
+given_blank size n words false long zeros known known_is frame told = absurd (true≢false (sym told ∙ ap (λ (l : List Bool). has_frame l frame) known_is ∙ none_in n frame))

@@ -6,10 +6,13 @@ pub mod Blocks
 pub mod Ends
 pub mod FixedVec
 pub mod FixedVecLends
+pub mod FrameSet
 pub mod GhostList
 pub mod History
 pub mod Journal
 pub mod JournalInside
+pub mod LentInside
+pub mod LentWords
 pub mod Moves
 pub mod Order
 pub mod Page

@@ -2,8 +2,9 @@
 //! frames, and isolated pages; the journal of a zone; and lists that can't ask for memory.
 //!
 //! Contracts see each number as itself, and a set of flags as its bits. They see a page as a record of its zone, its number, its
-//! flags and its words, an isolated page as such a page under its serial, and the words of all frames as a list with a row of
-//! words for each frame.
+//! flags and its words, an isolated page as such a page under its serial, and the words of all frames as a record: where they lie,
+//! a row of words for each frame, which frames are lent, and whether their memory was given. The words of frames are lent as a row
+//! of `row_core`, which goes to other threads. Memory is given as such a row too, and comes back when the words end. While they are out nobody reads or writes them here, and the record keeps the row that they had.
 //!
 //! A journal has a record of each load and store, and of each other accepted call that changes a page, an address, a mark or which
 //! blocks are handed out. It is kept, in memory that is taken once, or it is unrecorded: then its records exist in the
@@ -18,10 +19,10 @@
 #![tactic(auto)]
 
 mod access;
-mod blank_frames;
 mod copied;
 mod fixed_vec;
 mod flags;
+mod frame_set;
 mod ghost_list;
 mod hand;
 mod isolated;
@@ -35,6 +36,8 @@ mod record;
 mod seen;
 mod state;
 mod tagged;
+#[cfg(test)]
+mod tests;
 mod words;
 
 pub use access::{Access, AccessKind};

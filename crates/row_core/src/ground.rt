@@ -1,6 +1,6 @@
-//! The words of one allocation, of which rows are lent out.
+//! Words of memory of its own or of a row that was given, of which rows are lent out.
 
-ghost use Rattle.std.specs.Prelude.{◌≡◌, ℕ, ◌+◌, ◌*◌, ◌^◌, ◌<◌, ◌≤◌, ◌⊎◌, [], List, true, false, length, take, drop, replicate, IfOk};
+ghost use Rattle.std.specs.Prelude.{◌≡◌, ℕ, ◌+◌, ◌*◌, ◌^◌, ◌<◌, ◌≤◌, ◌⊎◌, [], List, true, false, length, take, drop, replicate, is_some, IfOk, IfSome};
 ghost use Rattle.std.specs.Fn.{FnOnceTakesAtMut, FnOnceReturnsAtMut};
 ghost use denote.RawPtr.{◌+ₚ◌};
 ghost use Rattle.row_core.specs.Parts.{part, spliced, AreHere};
@@ -13,17 +13,20 @@ use std::alloc::{AllocError, Global};
 use std::marker::Model;
 use std::mem::ManuallyDrop;
 
-/// The words of one allocation. Rows of them can be lent out, and are then reached by whoever has the row alone.
+/// Words that lie one after the other, in memory of the ground's own or in a row that somebody gave. Rows of them can be
+/// lent out, and are then reached by whoever has the row alone.
 pub struct Ground {
     ptr: *mut u64,
+    len: usize,
     right: Right,
-    allocation: Allocation,
+    // The memory, if it is the ground's own.
+    allocation: Option<Allocation>,
     // How many words are out.
     out: usize,
 }
 
 impl Model for Ground {
-    ghost use Rattle.std.specs.Prelude.{◌≡◌, ◌<◌, ◌^◌, [], length};
+    ghost use Rattle.std.specs.Prelude.{◌≡◌, ◌<◌, ◌^◌, [], length, is_none, IfSome};
     ghost use denote.RawPtr.{InBlock};
     ghost use Rattle.row_core.specs.Owned.{count_out};
     ghost use Rattle.row_core.specs.Seen.{Ground as Seen, ground_code};
@@ -32,25 +35,27 @@ impl Model for Ground {
 
     ghost coded = { ground_code };
 
-    ghost view = { λ g. record { at = g.ptr; words = g.right.items; here = g.right.here } };
+    ghost view = { λ g. record { at = g.ptr; words = g.right.items; here = g.right.here; given = is_none g.allocation } };
 
-    ghost invariant = { λ g. (g.right.ptr ≡ g.ptr) × (g.right.halves ≡ []) × (g.allocation.ptr ≡ g.ptr) × (g.allocation.len ≡ length g.right.items) × (g.out ≡ count_out g.right.here) × (length g.right.here ≡ length g.right.items) × (length g.right.items < 2 ^ 60) × InBlock g.ptr };
+    ghost invariant = { λ g. (g.right.ptr ≡ g.ptr) × (g.right.halves ≡ []) × IfSome g.allocation (λ a. (a.ptr ≡ g.ptr) × (a.len ≡ g.len)) × (length g.right.items ≡ g.len) × (g.out ≡ count_out g.right.here) × (length g.right.here ≡ length g.right.items) × (g.len < 2 ^ 60) × InBlock g.ptr };
 }
 
 unsafe impl Send for Ground {}
 
 unsafe impl Sync for Ground {}
 
-// Where words are out, the memory is kept: whoever has them may go on to use them.
+// Where words are out, the memory is kept: whoever has them may go on to use them. A row that was given and isn't taken
+// back by `end` is dropped, as any row may be.
 impl Drop for Ground {
     #[tactic(auto, using(crate::proofs::Lists::none_out))]
     fn drop(self) {
         if self.out == 0 {
-            self.close();
+            self.end();
             return;
         }
         let Ground {
             ptr: _,
+            len: _,
             right: _,
             allocation,
             out: _,
@@ -65,29 +70,55 @@ impl Ground {
     pub fn open(alloc: Global, count: usize) -> Result<Ground, AllocError>
         ensures words { IfOk result (λ g. g.words ≡ replicate count 0) }
         ensures here { IfOk result (λ g. g.here ≡ replicate count true) }
+        ensures given { IfOk result (λ g. g.given ≡ false) }
     {
         let mut list = Vec::from_elem(alloc, 0u64, count)?;
         let ptr = list.as_mut_ptr();
         let (allocation, right) = Allocation::without_right(list);
         Ok(Ground {
             ptr,
+            len: count,
             right,
-            allocation,
+            allocation: Some(allocation),
             out: 0,
         })
     }
 
-    /// Gives the memory back. All words have to be here.
-    pub fn close(self)
+    /// The words of a row that somebody gives. They stay where they are.
+    #[tactic(auto, using(crate::proofs::Lists::count_true))]
+    pub fn over(mut row: Row) -> Ground
+        ensures words { result.words ≡ row.words }
+        ensures here { AreHere result.here (length row.words) }
+        ensures at { (result.at ≡ row.at) × (result.given ≡ true) }
+    {
+        let (ptr, len) = (row.as_mut_ptr(), row.len());
+        Ground {
+            ptr,
+            len,
+            right: row.into_right(),
+            allocation: None,
+            out: 0,
+        }
+    }
+
+    /// Ends the ground. All words have to be here. A row that was given comes back, and other memory is given back to the system.
+    pub fn end(self) -> Option<Row>
         requires { AreHere self.here (length self.words) }
+        ensures given { is_some result ≡ self.given }
+        ensures row { IfSome result (λ row. (row.at ≡ self.at) × (row.words ≡ self.words)) }
     {
         let Ground {
-            ptr: _,
+            ptr,
+            len,
             right,
             allocation,
             out: _,
         } = self;
+        let Some(allocation) = allocation else {
+            return Some(Row::of(right, ptr, len));
+        };
         drop(allocation.with_right(right));
+        None
     }
 
     /// The words of a part that is here.
@@ -110,7 +141,7 @@ impl Ground {
         requires callable { FnOnceTakesAtMut F.FnOnce change (part self.old.words from count) }
         ensures changed { (words : List ℕ) × (length words ≡ count) × FnOnceReturnsAtMut F.FnOnce change (part self.old.words from count) result words × (self.new.words ≡ spliced self.old.words from count words) }
         ensures here { self.new.here ≡ self.old.here }
-        ensures at { self.new.at ≡ self.old.at }
+        ensures at { (self.new.at ≡ self.old.at) × (self.new.given ≡ self.old.given) }
     {
         let at = unsafe { self.ptr.byte_add(from * 8) };
         let mut words = replace_with(&mut self.right, (from, count), take).into_vec(at, count);
@@ -127,7 +158,7 @@ impl Ground {
         requires here { AreHere (part self.old.here from (length values.now)) (length values.now) }
         ensures words { self.new.words ≡ spliced self.old.words from (length values.now) values.now }
         ensures here { self.new.here ≡ self.old.here }
-        ensures at { self.new.at ≡ self.old.at }
+        ensures at { (self.new.at ≡ self.old.at) × (self.new.given ≡ self.old.given) }
     {
         let at = unsafe { self.ptr.byte_add(from * 8) };
         let mut words = replace_with(&mut self.right, (from, values.len()), take).into_vec(
@@ -146,7 +177,7 @@ impl Ground {
         requires here { AreHere (part self.old.here from count) count }
         ensures words { self.new.words ≡ spliced self.old.words from count (replicate count 0) }
         ensures here { self.new.here ≡ self.old.here }
-        ensures at { self.new.at ≡ self.old.at }
+        ensures at { (self.new.at ≡ self.old.at) × (self.new.given ≡ self.old.given) }
     {
         let mut row = self.lend(from, count);
         row.words_mut().fill(0);
@@ -163,7 +194,7 @@ impl Ground {
         requires target { AreHere (part self.old.here to count) count }
         ensures words { self.new.words ≡ spliced self.old.words to count (part self.old.words from count) }
         ensures here { self.new.here ≡ self.old.here }
-        ensures at { self.new.at ≡ self.old.at }
+        ensures at { (self.new.at ≡ self.old.at) × (self.new.given ≡ self.old.given) }
     {
         let mut target = self.lend(to, count);
         target.words_mut().copy_from_slice(self.part(from, count));
@@ -178,7 +209,7 @@ impl Ground {
         ensures row { (result.at ≡ self.old.at +ₚ from * 8) × (result.words ≡ part self.old.words from count) }
         ensures words { self.new.words ≡ self.old.words }
         ensures here { self.new.here ≡ spliced self.old.here from count (replicate count false) }
-        ensures at { self.new.at ≡ self.old.at }
+        ensures at { (self.new.at ≡ self.old.at) × (self.new.given ≡ self.old.given) }
     {
         let at = unsafe { self.ptr.byte_add(from * 8) };
         let right = replace_with(&mut self.right, (from, count), take);
@@ -194,7 +225,7 @@ impl Ground {
         ensures words { self.new.words ≡ spliced self.old.words from (length row.words) row.words }
         ensures here { self.new.here ≡ spliced self.old.here from (length row.words) (replicate (length row.words) true) }
         ensures was_out { part self.old.here from (length row.words) ≡ replicate (length row.words) false }
-        ensures at { self.new.at ≡ self.old.at }
+        ensures at { (self.new.at ≡ self.old.at) × (self.new.given ≡ self.old.given) }
     {
         let count = row.len();
         replace_with(&mut self.right, (from, row.into_right()), put);

@@ -45,9 +45,17 @@ impl Row {
         }
     }
 
+    /// Where the words begin.
+    pub(crate) fn as_mut_ptr(&mut self) -> *mut u64
+        ensures place { (result ≡ self.old.at) × InBlock self.old.at }
+        ensures same { self.new ≡ self.old }
+    {
+        self.list.as_mut_ptr()
+    }
+
     /// The right to the words.
     pub(crate) fn into_right(self) -> Right
-        ensures { (result.ptr ≡ self.at) × (result.items ≡ self.words) × (result.halves ≡ []) × AreHere result.here (length self.words) }
+        ensures { (result.ptr ≡ self.at) × (result.items ≡ self.words) × (result.halves ≡ []) × AreHere result.here (length self.words) × (length self.words < 2 ^ 60) }
     {
         let Row { list } = self;
         Right::of_vec(list)

@@ -35,6 +35,28 @@ fn rows_of_each_size_come_back(rt: HostRuntime) {
     }
 }
 
+/// Half of a ground's words are given to another ground, which clears them and gives them back.
+#[tactic(auto, using(crate::proofs::Lists::part_here))]
+fn give_half(rt: &impl Abort, alloc: Global, size: usize)
+    requires { size < 2 ^ 16 }
+{
+    let mut ground = Ground::open(alloc, size + size).expect(rt, "memory");
+    let mut half = ground.lend(size, size);
+    half.words_mut().fill(7);
+    let mut given = Ground::over(half);
+    given.clear(0, size);
+    let half = given.end().expect(rt, "a row that was given");
+    assert!(rt; half.words().iter().all(|word| *word == 0), "at {size}");
+    ground.take_back(size, half);
+}
+
+#[test]
+fn rows_that_are_given_come_back(rt: HostRuntime) {
+    for size in [0, 1, 8, 64, 512] {
+        give_half(&rt, rt.alloc(), size);
+    }
+}
+
 /// A part of this size is changed, and copied into the part after it.
 #[tactic(auto, using(crate::proofs::Lists::part_here))]
 fn copy_one(ground: &mut Ground, size: usize)
@@ -58,7 +80,7 @@ fn a_thousand_grounds_are_opened_and_closed(rt: HostRuntime) {
     for place in 0..1_000 {
         let ground = Ground::open(rt.alloc(), 8).expect(&rt, "memory");
         if place % 2 == 0 {
-            ground.close();
+            ground.end();
         }
     }
 }

@@ -158,7 +158,7 @@ module _ (z : ZoneState) where
     kept_give first order accepted =
         let room = passed _ _ _ (passed _ _ _ accepted).1 in
         let held = passed _ _ _ room.1 in
-        valid_block_given z law first order (of_this_order _ order (not-false _ held.0)) (room_passed room.0)
+        valid_block_given z law first order (of_this_order _ order (not-false _ held.0)) (room_passed room.0) (passed _ _ _ held.1).0
 
 -- each call that isn't refused leaves a valid zone valid
 pub call_valid : (W : ℕ) (call : ZoneCall W) (client : ℕ) (z : ZoneState) → IsValidZone z → IsInRange call → refusal_of call z ≡ None → IsValidZone (after call client z)

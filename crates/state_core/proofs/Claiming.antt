@@ -26,7 +26,7 @@ used_by v law page frame e = by_place (map.get v.placement page) refl where
   by_place (Some place) at = some_at (λ p. takes_up (map.get v.placement p) frame) (frame_count v) page (law.pages.numbered page (not_none _ place at)) e
 
 -- a frame of a block that is handed out is handed out
-handed_by : (v : ZoneState) → IsValidZone v → (first frame : ℕ) → covers (map.get v.handed_out first) first frame ≡ true → is_handed_out v frame ≡ true
+pub handed_by : (v : ZoneState) → IsValidZone v → (first frame : ℕ) → covers (map.get v.handed_out first) first frame ≡ true → is_handed_out v frame ≡ true
 handed_by v law first frame e = by_order (map.get v.handed_out first) refl where
   by_order : (o : Option ℕ) → map.get v.handed_out first ≡ o → is_handed_out v frame ≡ true
   by_order None at = absurd (both_ways _ (ap (λ (o : Option ℕ). covers o first frame) at) e)
@@ -69,6 +69,8 @@ module _ (v : ZoneState) (law : IsValidZone v) (claimed : set.FinSet nat_cmp) (m
       each = law.blocks.each;
       disjoint = law.blocks.disjoint;
       contents = law.blocks.contents;
+      lent = law.blocks.lent;
+      lendable = law.blocks.lendable;
       claims = λ frame c. (may frame c).within;
       unclaimed = λ first frame e. false_from_ne_true _ (λ c. both_ways _ (may frame c).kept (handed_by v law first frame e));
     };

@@ -1,5 +1,5 @@
 -- A block of free frames is handed out or taken back: the zone stays valid, and the blocks are clear.
-use Rattle.std.proofs.Common.{◌≡◌, ◌≢◌, ℕ, ◌+◌, ◌*◌, ◌/◌, ◌^◌, ◌<◌, ◌≤◌, Bool, true, false, not, ◌∷◌, length, inl, inr, refl, sym, ap, ◌∙◌, arith, Option, Some, None, nat_eq, nat_le, nat_lt, ◌⊎◌, subst, ◌&&◌, ◌||◌}
+use Rattle.std.proofs.Common.{◌≡◌, ◌≢◌, ℕ, ◌+◌, ◌*◌, ◌/◌, ◌^◌, ◌<◌, ◌≤◌, Bool, true, false, not, ◌∷◌, length, inl, inr, refl, sym, ap, ◌∙◌, arith, Option, Some, None, nat_eq, nat_le, nat_lt, is_some, IsSome, ◌⊎◌, subst, ◌&&◌, ◌||◌}
 use Rattle.std.specs.FinMap as map
 use Rattle.std.specs.FinSet as set
 use Rattle.std.specs.Option.{option_map}
@@ -179,6 +179,12 @@ module _ (v : ZoneState) (first order : ℕ) (run : is_run v order first ≡ tru
           ∙ sym (ap (option_map (λ o. 2 ^ o * v.page_size)) (get_insert_other v.handed_out first f order other.1)))
     ]
 
+    lent_taken : (f : ℕ) → set.contains v.lent f ≡ true → IsSome (map.get taken.handed_out f)
+    lent_taken f e = elim (eqb_tells f first) [
+      | inl same ↦ ap is_some (get_insert_same v.handed_out first f order same.1)
+      | inr other ↦ ap is_some (get_insert_other v.handed_out first f order other.1) ∙ law.blocks.lent f e
+    ]
+
     pub valid_block_taken : IsValidZone (block_taken v first order)
     valid_block_taken = record {
       size = law.size;
@@ -186,7 +192,7 @@ module _ (v : ZoneState) (first order : ℕ) (run : is_run v order first ≡ tru
       journal = journal_noted (TakeHuge first order) law.journal spare law.journal.truthful law.journal.well_ended refl;
       agrees = record { named = law.agrees.named; in_use = law.agrees.in_use; under_way = law.agrees.under_way; handed = handed_taken; marks = law.agrees.marks };
       pages = record { numbered = law.pages.numbered; upward = law.pages.upward; apart = law.pages.apart; within = law.pages.within; clear = clear_taken; unmovable = law.pages.unmovable };
-      blocks = record { each = blocks_taken; disjoint = disjoint_taken; contents = contents_taken; claims = law.blocks.claims; unclaimed = unclaimed_taken };
+      blocks = record { each = blocks_taken; disjoint = disjoint_taken; contents = contents_taken; lent = lent_taken; lendable = law.blocks.lendable; claims = law.blocks.claims; unclaimed = unclaimed_taken };
       fingers = fingers_ended v (block_taken v first order) (TakeHuge first order) law law.fingers.ordered refl refl refl;
       sum = omega (arith, law.sum, counts_add_up (is_free taken) (is_held taken) (is_free v) (is_held v) (frame_count v) (λ frame h. balanced_taken frame));
     }
@@ -264,14 +270,20 @@ module _ (v : ZoneState) (law : IsValidZone v) (first order : ℕ) (at : map.get
         ∙ sym (ap (option_map (λ o. 2 ^ o * v.page_size)) (get_remove_other v.handed_out first f other.1)))
   ]
 
-  pub valid_block_given : length (out v.records) < v.room → IsValidZone (block_given v first order)
-  valid_block_given spare = record {
+  lent_given : set.contains v.lent first ≡ false → (f : ℕ) → set.contains v.lent f ≡ true → IsSome (map.get given.handed_out f)
+  lent_given unlent f e = elim (eqb_tells f first) [
+    | inl same ↦ absurd (both_ways _ (ap (set.contains v.lent) same.1 ∙ unlent) e)
+    | inr other ↦ ap is_some (get_remove_other v.handed_out first f other.1) ∙ law.blocks.lent f e
+  ]
+
+  pub valid_block_given : length (out v.records) < v.room → set.contains v.lent first ≡ false → IsValidZone (block_given v first order)
+  valid_block_given spare unlent = record {
     size = law.size;
     addresses = law.addresses;
     journal = journal_noted (GiveHuge first order) law.journal spare law.journal.truthful law.journal.well_ended refl;
     agrees = record { named = law.agrees.named; in_use = law.agrees.in_use; under_way = law.agrees.under_way; handed = handed_fewer; marks = law.agrees.marks };
     pages = record { numbered = law.pages.numbered; upward = law.pages.upward; apart = law.pages.apart; within = law.pages.within; clear = (λ page frame e. (or_parts _ _ (sym (held_given frame) ∙ law.pages.clear page frame e)).0); unmovable = law.pages.unmovable };
-    blocks = record { each = blocks_given; disjoint = (λ a b frame e f. law.blocks.disjoint a b frame (covers_given a frame e).1 (covers_given b frame f).1); contents = contents_given; claims = law.blocks.claims; unclaimed = λ a frame e. law.blocks.unclaimed a frame (covers_given a frame e).1 };
+    blocks = record { each = blocks_given; disjoint = (λ a b frame e f. law.blocks.disjoint a b frame (covers_given a frame e).1 (covers_given b frame f).1); contents = contents_given; lent = lent_given unlent; lendable = law.blocks.lendable; claims = law.blocks.claims; unclaimed = λ a frame e. law.blocks.unclaimed a frame (covers_given a frame e).1 };
     fingers = fingers_ended v (block_given v first order) (GiveHuge first order) law law.fingers.ordered refl refl refl;
     sum = omega (arith, law.sum, counts_add_up (is_free given) (is_held given) (is_free v) (is_held v) (frame_count v) (λ frame h. balanced_given frame));
   }

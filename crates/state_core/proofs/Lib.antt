@@ -12,6 +12,7 @@ pub mod Finding
 pub mod HandingOut
 pub mod Holding
 pub mod Isolating
+pub mod Lending
 pub mod Mapping
 pub mod Marking
 pub mod Moving

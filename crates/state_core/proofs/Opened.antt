@@ -2,6 +2,7 @@
 use Rattle.std.proofs.Common.{◌≡◌, ℕ, ◌*◌, ◌^◌, ◌≤◌, true, false, not, refl, sym, ap, ◌∙◌, arith, Option, None, is_some, length}
 use Rattle.std.specs.FinSet as set
 use Rattle.std.specs.FinMap as map
+use denote.RawPtr.{Ptr}
 use Rattle.std.specs.Option.{option_map}
 use Rattle.std.specs.Ordering.{nat_cmp}
 use Rattle.std.proofs.lemmas.Bool.{and_from, both_ways, or_from}
@@ -10,7 +11,7 @@ use Rattle.frame_core.proofs.Searches.{count_all, count_none, none_some}
 use Rattle.frame_core.specs.Below.{count_below}
 use Rattle.state_core.specs.declared.placement.Placement.{Placement}
 use Rattle.state_core.specs.declared.size.ZoneSize.{ZoneSize}
-use Rattle.state_core.specs.Opening.{opened_sized, IsZoneSize}
+use Rattle.state_core.specs.Opening.{opened_in, opened_sized, IsZoneSize}
 use Rattle.state_core.specs.Valid.{IsValidZone, is_under}
 use Rattle.state_core.specs.ZoneState.{ZoneState, frame_count, takes_up, covers, is_held, is_free}
 
@@ -69,9 +70,32 @@ module _ (words number : ℕ) (size : ZoneSize) (places : ℕ) where
       each = λ first order e. absurd (none-some _ (sym (no_block first) ∙ e));
       disjoint = λ a b frame h k. absurd (both_ways _ (uncovered a frame) h);
       contents = λ first. ap (option_map length) (map.get-empty nat_cmp first) ∙ sym (ap (option_map (λ order. 2 ^ order * words)) (no_block first));
+      lent = λ first e. absurd (both_ways _ (set.contains-empty nat_cmp first) e);
+      lendable = λ first e. absurd (both_ways _ (set.contains-empty nat_cmp first) e);
       claims = λ frame c. absurd (both_ways _ (set.contains-empty nat_cmp frame) c);
       unclaimed = λ first frame e. absurd (both_ways _ (uncovered first frame) e);
     };
     fingers = record { ordered = (omega arith, omega arith); begun = λ start e. cc; swept = λ quiet. cc };
     sum = omega (arith, free_count, page_count, held_count);
+  }
+
+  -- and so is one that was opened in memory of its caller
+  pub opened_in_valid : (at : Ptr) → IsZoneSize size → places ≤ 2 ^ 53 → IsValidZone (opened_in at words number size places)
+  opened_in_valid at within few = let law = opened_valid within few in record {
+    size = law.size;
+    addresses = law.addresses;
+    journal = law.journal;
+    agrees = law.agrees;
+    pages = law.pages;
+    blocks = record {
+      each = law.blocks.each;
+      disjoint = law.blocks.disjoint;
+      contents = law.blocks.contents;
+      lent = law.blocks.lent;
+      lendable = λ first e. refl;
+      claims = law.blocks.claims;
+      unclaimed = law.blocks.unclaimed;
+    };
+    fingers = record { ordered = law.fingers.ordered; begun = law.fingers.begun; swept = λ quiet. cc };
+    sum = law.sum;
   }

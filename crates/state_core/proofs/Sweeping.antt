@@ -58,9 +58,10 @@ module _ (v : ZoneState) (law : IsValidZone v) (calm : is_calm v ≡ true) where
     ways = λ page serial source target at. absurd (at_rest v law none_out page serial source target at);
   }
 
--- a swept zone stays swept after records that leave pins as they are, and after words of a block that is handed out are written
-pub swept_same : (v : ZoneState) (records : List Record) (room : ℕ) (contents : map.FinMap nat_cmp (List ℕ)) → ((page : ℕ) → pins records page ≡ pins v.records page) → IsSwept v → IsSwept (record v { records = records; room = room; contents = contents })
-swept_same v records room contents same swept = record {
+-- a swept zone stays swept after records that leave pins as they are, and after words of a block that is handed out are
+-- written, lent or come back
+pub swept_same : (v : ZoneState) (records : List Record) (room : ℕ) (contents : map.FinMap nat_cmp (List ℕ)) (lent : set.FinSet nat_cmp) → ((page : ℕ) → pins records page ≡ pins v.records page) → IsSwept v → IsSwept (record v { records = records; room = room; contents = contents; lent = lent })
+swept_same v records room contents lent same swept = record {
   below = swept.below;
   above = swept.above;
   unheld = swept.unheld;
@@ -73,10 +74,10 @@ swept_same v records room contents same swept = record {
   still page = ap (λ n. nat_eq n 0 && not (set.contains v.unmovable page)) (same page)
 
 pub swept_loaded : (v : ZoneState) (client : ℕ) (address : Address) (word : ℕ) → IsSwept v → IsSwept (loaded v client address word)
-swept_loaded v client address word = swept_same v _ _ v.contents (λ page. refl)
+swept_loaded v client address word = swept_same v _ _ v.contents v.lent (λ page. refl)
 
 pub swept_stored : (v : ZoneState) (client : ℕ) (address : Address) (word value : ℕ) → IsSwept v → IsSwept (stored v client address word value)
-swept_stored v client address word value = swept_same v _ _ v.contents (λ page. refl)
+swept_stored v client address word value = swept_same v _ _ v.contents v.lent (λ page. refl)
 
 -- the next pair is isolated
 

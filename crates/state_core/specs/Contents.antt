@@ -2,18 +2,20 @@
 -- written of these calls.
 use Rattle.std.specs.Prelude.{ℕ, ◌+◌, ◌*◌, ◌^◌, List, [], take, drop, not, nat_lt, if◌then◌else◌, Option, Some, None, unwrap_or}
 use Rattle.std.specs.FinMap as map
+use Rattle.std.specs.FinSet as set
 use Rattle.state_core.specs.declared.error.ZoneError.{ZoneError}
-use Rattle.state_core.specs.declared.error.ZoneError.TheVariants.{Range, NotHuge}
+use Rattle.state_core.specs.declared.error.ZoneError.TheVariants.{Range, NotHuge, Lent}
 use Rattle.state_core.specs.HandingOut.{is_order}
 use Rattle.state_core.specs.ZoneState.{ZoneState}
 use Rattle.frame_core.specs.Words.{put_from}
 
 -- why reading or writing this many words, from one on, of a block of this order from this first frame on is refused, if it
--- is: no such block is handed out, or they go past its last word
+-- is: no such block is handed out, they go past its last word, or its words are lent
 abbrev pub contents_refusal : ZoneState → ℕ → ℕ → ℕ → ℕ → Option ZoneError
 contents_refusal z first order from count =
     if not (is_order (map.get z.handed_out first) order) then Some NotHuge
     else if nat_lt (2 ^ order * z.page_size) (from + count) then Some Range
+    else if set.contains z.lent first then Some Lent
     else None
 
 -- the words of the block that is handed out from this first frame on

@@ -1,7 +1,7 @@
 -- The numbers of refusals.
 use Rattle.std.specs.Prelude.{ℕ}
 use Rattle.state_core.specs.declared.error.ZoneError.{ZoneError}
-use Rattle.state_core.specs.declared.error.ZoneError.TheVariants.{Range, JournalFull, Unmapped, Moving, Occupied, NoFrame, ShareFull, PinFull, NotPinned, Pinned, NoBlock, NotHuge, Stranger, Memory, Missing, Out, Marked, NotMarked}
+use Rattle.state_core.specs.declared.error.ZoneError.TheVariants.{Range, JournalFull, Unmapped, Moving, Occupied, NoFrame, ShareFull, PinFull, NotPinned, Pinned, NoBlock, NotHuge, Stranger, Memory, Missing, Out, Marked, NotMarked, Lent, OwnMemory}
 
 -- the number that a script prints for a refusal
 abbrev pub number_of : ZoneError → ℕ
@@ -23,3 +23,5 @@ number_of Missing = 15
 number_of Out = 16
 number_of Marked = 17
 number_of NotMarked = 18
+number_of Lent = 19
+number_of OwnMemory = 20

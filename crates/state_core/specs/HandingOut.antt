@@ -1,11 +1,12 @@
 -- The calls that hand out a block of free frames and take it back: when they are refused, and what they leave.
 use Rattle.std.specs.Prelude.{ℕ, ◌+◌, ◌*◌, ◌^◌, Bool, false, not, ◌&&◌, nat_eq, nat_le, if◌then◌else◌, Option, Some, None, is_none, replicate}
 use Rattle.std.specs.FinMap as map
+use Rattle.std.specs.FinSet as set
 use Rattle.frame_core.specs.Below.{lowest, count_from}
 use Rattle.frame_core.specs.Order.{is_aligned}
 use Rattle.frame_core.specs.declared.record.Record.TheVariants.{TakeHuge, GiveHuge}
 use Rattle.state_core.specs.declared.error.ZoneError.{ZoneError}
-use Rattle.state_core.specs.declared.error.ZoneError.TheVariants.{Range, JournalFull, NoBlock, NotHuge}
+use Rattle.state_core.specs.declared.error.ZoneError.TheVariants.{Range, JournalFull, NoBlock, NotHuge, Lent}
 use Rattle.state_core.specs.ZoneState.{ZoneState, frame_count, has_room, is_free, noted}
 
 -- whether a block of this order may begin at a frame: it is aligned, and all of it is in the zone
@@ -38,6 +39,7 @@ give_order_refusal z first order =
     if not (has_block z order first) then Some Range
     else if not (has_room z) then Some JournalFull
     else if not (is_order (map.get z.handed_out first) order) then Some NotHuge
+    else if set.contains z.lent first then Some Lent
     else None
 
 -- the zone after the block of this order, from this first frame on, was handed out: each word of a fresh block is 0

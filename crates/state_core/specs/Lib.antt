@@ -9,6 +9,7 @@ pub mod Ending
 pub mod ErrorNumber
 pub mod HandingOut
 pub mod Isolating
+pub mod Lending
 pub mod Looking
 pub mod Mapping
 pub mod Marking

@@ -1,5 +1,6 @@
 -- The calls that open a zone: with a journal that is kept, or with one that is unrecorded.
 use Rattle.std.specs.Prelude.{ℕ, ◌*◌, ◌<◌, ◌≤◌, false, Option, Some, None, [], IfSome}
+use denote.RawPtr.{Ptr}
 use Rattle.frame_core.specs.Journal.{unrecorded_places}
 use Rattle.state_core.specs.ZoneState.{ZoneState}
 use Rattle.state_core.specs.declared.size.ZoneSize.{ZoneSize}
@@ -39,7 +40,8 @@ abbrev pub places_of : Option ℕ → ℕ
 places_of None = unrecorded_places
 places_of (Some places) = places
 
--- a zone that was just opened, with this many words in a page, of this size: it has no page, no record, no block handed out and no frame claimed
+-- a zone that was just opened, with this many words in a page, of this size, in memory of its own: it has no page, no record, no block handed
+-- out and no frame claimed
 abbrev pub opened_sized : ℕ → ℕ → ZoneSize → ℕ → ZoneState
 opened_sized words number size places = record {
   number = number;
@@ -55,11 +57,17 @@ opened_sized words number size places = record {
   claimed = set.empty;
   handed_out = map.empty;
   contents = map.empty;
+  lent = set.empty;
+  memory = None;
   placement = map.empty;
   migrate = 0;
   free = 0;
   round = None;
 }
+
+-- a zone that was just opened in memory of its caller, where the words of frame 0 begin at this place
+abbrev pub opened_in : Ptr → ℕ → ℕ → ZoneSize → ℕ → ZoneState
+opened_in at words number size places = record (opened_sized words number size places) { memory = Some at }
 
 -- a zone that was just opened, with this many words in a page, and with as many addresses as a script's zone
 abbrev pub opened_with : ℕ → ℕ → ℕ → ℕ → ZoneState

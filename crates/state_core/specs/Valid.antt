@@ -1,6 +1,7 @@
 -- What is true of every zone, whatever calls were made.
 use Rattle.std.specs.Prelude.{◌≡◌, ℕ, ◌+◌, ◌*◌, ◌^◌, ◌<◌, ◌≤◌, ◌↔◌, Bool, true, false, List, length, nat_eq, Option, Some, None, is_some, IsSome, IsTrue}
 use Rattle.std.specs.FinMap as map
+use denote.RawPtr.{Ptr}
 use Rattle.std.specs.FinSet as set
 use Rattle.std.specs.Option.{option_map}
 use Rattle.std.specs.Ordering.{nat_cmp}
@@ -65,13 +66,17 @@ pub record HasValidPages (placement : map.FinMap nat_cmp Placement) (fixed : set
   -- each page that is noted as unmovable is in use
   pub unmovable : (page : ℕ) → set.contains fixed page ≡ true → IsSome (map.get placement page)
 
--- the blocks that are handed out and the frames that are claimed, in a zone of this many frames with this many words a page, are valid
-pub record HasValidBlocks (frames page_size : ℕ) (handed_out : map.FinMap nat_cmp ℕ) (words : map.FinMap nat_cmp (List ℕ)) (claimed : set.FinSet nat_cmp) : Type 0 where
+-- the blocks that are handed out, those whose words are away, and the frames that are claimed, in a zone of this many frames with this
+-- many words a page, which lies in this memory of its caller if in any, are valid
+pub record HasValidBlocks (frames page_size : ℕ) (handed_out : map.FinMap nat_cmp ℕ) (words : map.FinMap nat_cmp (List ℕ)) (away claimed : set.FinSet nat_cmp) (memory : Option Ptr) : Type 0 where
   -- each of them is a block of the zone, and no two of them overlap
   pub each : (first order : ℕ) → map.get handed_out first ≡ Some order → IsBlock frames first order
   pub disjoint : (a b frame : ℕ) → covers (map.get handed_out a) a frame ≡ true → covers (map.get handed_out b) b frame ≡ true → a ≡ b
   -- each of them has as many words as a page has for each of its frames, and there are no other words
   pub contents : (first : ℕ) → option_map length (map.get words first) ≡ option_map (λ order. 2 ^ order * page_size) (map.get handed_out first)
+  -- the words of a block are lent only where it is handed out, in a zone that lies in memory of its caller
+  pub lent : (first : ℕ) → set.contains away first ≡ true → IsSome (map.get handed_out first)
+  pub lendable : (first : ℕ) → set.contains away first ≡ true → IsSome memory
   -- a claimed frame is in the zone, and in no block that is handed out
   pub claims : (frame : ℕ) → set.contains claimed frame ≡ true → frame < frames
   pub unclaimed : (first frame : ℕ) → covers (map.get handed_out first) first frame ≡ true → set.contains claimed frame ≡ false
@@ -93,7 +98,7 @@ pub record IsValidZone (z : ZoneState) : Type 0 where
   pub journal : HasValidJournal z.records z.room
   pub agrees : AgreesWithJournal z.spaces z.vpages z.records z.placement z.handed_out z.marked
   pub pages : HasValidPages z.placement z.unmovable (frame_count z) (is_held z)
-  pub blocks : HasValidBlocks (frame_count z) z.page_size z.handed_out z.contents z.claimed
+  pub blocks : HasValidBlocks (frame_count z) z.page_size z.handed_out z.contents z.lent z.claimed z.memory
   pub fingers : HasValidFingers z
   -- each frame is free, or of a page, or held; a moving page has two frames
   pub sum : count_below (is_free z) (frame_count z) + count_below (λ page. is_some (map.get z.placement page)) (frame_count z) + length (out z.records) + count_below (is_held z) (frame_count z) ≡ frame_count z

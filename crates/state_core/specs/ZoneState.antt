@@ -2,6 +2,7 @@
 -- whether the latest round is quiet.
 use Rattle.std.specs.Prelude.{ℕ, ◌+◌, true, false, List, length, nat_eq, Option, Some, None, ◌-◌, ◌*◌, ◌/◌, ◌^◌, Bool, not, ◌&&◌, ◌||◌, ◌∷◌, take, nat_lt, nat_le, is_none, if◌then◌else◌}
 use Rattle.std.specs.FinMap as map
+use denote.RawPtr.{Ptr}
 use Rattle.frame_core.specs.Address.{is_in_table}
 use Rattle.frame_core.specs.declared.place.Address.{Address}
 use Rattle.frame_core.specs.Moves.{out}
@@ -43,6 +44,10 @@ pub record ZoneState : Type 0 where
   pub handed_out : map.FinMap nat_cmp ℕ
   -- the words of each block that is handed out, those of its frames one after the other, by its first frame
   pub contents : map.FinMap nat_cmp (List ℕ)
+  -- the first frames of the blocks whose words are lent; the words of such a block are those that it had
+  pub lent : set.FinSet nat_cmp
+  -- where the words of frame 0 begin, if the zone lies in memory of its caller; only such a zone lends words
+  pub memory : Option Ptr
   -- where each page in use is
   pub placement : map.FinMap nat_cmp Placement
   -- the migrate finger and the free finger of the two scanners: frames, from 0 to the number of frames

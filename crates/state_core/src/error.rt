@@ -47,10 +47,14 @@ pub enum ZoneError {
     Marked,
     /// The pageblock is not marked.
     NotMarked,
+    /// The words of the block are lent.
+    Lent,
+    /// The zone lies in memory of its own.
+    OwnMemory,
 }
 
 impl ZoneError {
-    /// Its number, 1 to 18, which is also what a script prints.
+    /// Its number, 1 to 20, which is also what a script prints.
     pub fn number(&self) -> u16
         ensures { result ≡ number_of self.now }
     {
@@ -73,6 +77,8 @@ impl ZoneError {
             ZoneError::Out => 16,
             ZoneError::Marked => 17,
             ZoneError::NotMarked => 18,
+            ZoneError::Lent => 19,
+            ZoneError::OwnMemory => 20,
         }
     }
 
@@ -97,6 +103,8 @@ impl ZoneError {
             ZoneError::Out => "a page is moving",
             ZoneError::Marked => "the pageblock is marked already",
             ZoneError::NotMarked => "the pageblock is not marked",
+            ZoneError::Lent => "the words of the block are lent",
+            ZoneError::OwnMemory => "the zone lies in memory of its own",
         }
     }
 }

@@ -2,6 +2,7 @@
 use Rattle.std.proofs.Common.{◌≡◌, ◌≢◌, ℕ, zero, suc, ◌+◌, ◌^◌, ◌<◌, ◌≤◌, Bool, true, false, List, length, ◌⊎◌, inl, inr, refl, sym, ap, ◌∙◌, arith}
 use Rattle.std.specs.Prelude.{Option, Some, None, slice_get, slice_set, nat_eq, nat_le, ◌&&◌, ◌||◌}
 use Rattle.std.specs.FinMap as map
+use Rattle.std.specs.FinSet as set
 use Rattle.std.proofs.Math.Bool.{or-false}
 use Rattle.std.proofs.lemmas.Bool.{and_parts, both_ways, cases_Bool, eq-eqb, eqb-true, leb-true, or_left}
 use Rattle.std.proofs.lemmas.Bool.Decides.{eqb_tells}
@@ -31,6 +32,7 @@ use Rattle.zone_tables.specs.HandedOut.{order_of}
 use Rattle.zone_tables.specs.History.{History, told}
 use Rattle.zone_tables.specs.Sound.{IsSound, state_of}
 use Rattle.zone_tables.proofs.BlockOrders.{order_here, order_there}
+use Rattle.zone_tables.proofs.LentBlocks.{first_unlent, taken_fit, taken_lent, given_fit, given_lent}
 use Rattle.zone_tables.proofs.HeldWords.{off_block, orders_put, contents_put, flag_here, flag_there, held_contents}
 use Rattle.zone_tables.proofs.SearchesAndCounts.{free_seen, orders_seen}
 use Rattle.zone_tables.proofs.Placement.{state_taken}
@@ -126,7 +128,14 @@ module _ {W : ℕ} (z : Inside W) (v : ZoneState) (sound : IsSound z v) (view : 
   take_sound spare low high history = record {
     valid = blocks.valid_block_taken v first order run sound.valid spare low high;
     orders = length-set z.handed_out first (Some order) ∙ sound.orders;
-    cleared = length-set z.cleared first false ∙ sound.cleared;
+    cleared = record {
+      count = length-set z.cleared first false ∙ sound.cleared.count;
+      lent = λ q gone. elim (eqb_tells q first) [
+        | inl same ↦ absurd (both_ways _ (first_unlent z v sound view first order run) (sym (ap (set.contains v.lent) same.1) ∙ gone))
+        | inr other ↦ flag_there z.cleared first q false other.1 ∙ sound.cleared.lent q gone
+      ];
+    };
+    lent = taken_fit z v sound view first order run;
     frames = held_states;
     tables = sound.tables;
     size = sound.size;
@@ -146,11 +155,11 @@ module _ {W : ℕ} (z : Inside W) (v : ZoneState) (sound : IsSound z v) (view : 
   take_view : (history : History) → history ≡ told z.history (TakeHuge first order) → state_of (after_take history) ≡ block_taken v first order
   take_view history is =
       let table = orders_put z first take_first (Some order) in
-      let zeros = flag_here z.cleared first false (omega (arith, take_first, sound.orders, sound.cleared)) in
+      let zeros = flag_here z.cleared first false (omega (arith, take_first, sound.orders, sound.cleared.count)) in
       let contents = contents_put z first take_first (Some order) (slice_set z.cleared first false) (λ q. flag_there z.cleared first q false)
-      ∙ ap (λ b. map.insert (held_contents z) first (words_held W z.words b first order)) zeros in
+      ∙ ap (λ b. map.insert (held_contents z) first (words_held W z.words.rows b first order)) zeros in
       let here : state_of (after_take history) ≡ block_taken (state_of z) first order =
-      λ i. record (state_of z) { records = (is i).records; room = (is i).room; round = (is i).round; handed_out = table i; contents = contents i } in
+      λ i. record (state_of z) { records = (is i).records; room = (is i).room; round = (is i).round; handed_out = table i; contents = contents i; lent = taken_lent z v sound view first order run take_first i } in
       here ∙ ap (λ (s : ZoneState). block_taken s first order) view
 
   pub take_holds : {frames : Frames} {orders : List (Option ℕ)} {cleared : List Bool} {history : History} → length (out v.records) < v.room → 3 ≤ order → order ≤ 9 →
@@ -160,7 +169,7 @@ module _ {W : ℕ} (z : Inside W) (v : ZoneState) (sound : IsSound z v) (view : 
       becomes {ideal = after_take history} (λ i. record z { frames = f i; handed_out = o i; cleared = c i; history = history }) (take_view history is) (take_sound spare low high history)
 
 -- a block is taken back
-module _ {W : ℕ} (z : Inside W) (v : ZoneState) (sound : IsSound z v) (view : state_of z ≡ v) (first order : ℕ) (at : map.get v.handed_out first ≡ Some order) where
+module _ {W : ℕ} (z : Inside W) (v : ZoneState) (sound : IsSound z v) (view : state_of z ≡ v) (first order : ℕ) (at : map.get v.handed_out first ≡ Some order) (back : set.contains v.lent first ≡ false) where
   within_given : first + 2 ^ order ≤ frame_count v
   within_given = (sound.valid.blocks.each first order at).within
 
@@ -211,9 +220,10 @@ module _ {W : ℕ} (z : Inside W) (v : ZoneState) (sound : IsSound z v) (view : 
 
   give_sound : length (out v.records) < v.room → (history : History) → IsSound (after_give history) (block_given v first order)
   give_sound spare history = record {
-    valid = blocks.valid_block_given v sound.valid first order at spare;
+    valid = blocks.valid_block_given v sound.valid first order at spare back;
     orders = length-set z.handed_out first None ∙ sound.orders;
     cleared = sound.cleared;
+    lent = given_fit z v sound view first order at back;
     frames = freed_states;
     tables = sound.tables;
     size = sound.size;
@@ -232,7 +242,7 @@ module _ {W : ℕ} (z : Inside W) (v : ZoneState) (sound : IsSound z v) (view : 
       let table = orders_put z first give_first None in
       let contents = contents_put z first give_first None z.cleared (λ q ne. refl) in
       let here : state_of (after_give history) ≡ block_given (state_of z) first order =
-      λ i. record (state_of z) { records = (is i).records; room = (is i).room; round = (is i).round; handed_out = table i; contents = contents i } in
+      λ i. record (state_of z) { records = (is i).records; room = (is i).room; round = (is i).round; handed_out = table i; contents = contents i; lent = given_lent z v sound view first order at back give_first i } in
       here ∙ ap (λ (s : ZoneState). block_given s first order) view
 
   pub give_holds : {frames : Frames} {orders : List (Option ℕ)} {history : History} → length (out v.records) < v.room →

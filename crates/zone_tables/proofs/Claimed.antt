@@ -57,6 +57,7 @@ module _ {W : ℕ} (z : Inside W) (v : ZoneState) (sound : IsSound z v) (view : 
     valid = valid;
     orders = sound.orders;
     cleared = sound.cleared;
+    lent = sound.lent;
     frames = fit;
     tables = sound.tables;
     size = sound.size;
@@ -188,6 +189,7 @@ module _ {W : ℕ} (z : Inside W) (v : ZoneState) (sound : IsSound z v) (view : 
     valid = valid_forgotten v sound.valid;
     orders = sound.orders;
     cleared = sound.cleared;
+    lent = sound.lent;
     frames = record { count = sound.frames.count; of_page = sound.frames.of_page; of_block = sound.frames.of_block; of_none = sound.frames.of_none };
     tables = sound.tables;
     size = sound.size;
@@ -207,6 +209,7 @@ module _ {W : ℕ} (z : Inside W) (v : ZoneState) (sound : IsSound z v) (view : 
     valid = valid_apart v sound.valid apart;
     orders = sound.orders;
     cleared = sound.cleared;
+    lent = sound.lent;
     frames = record { count = sound.frames.count; of_page = sound.frames.of_page; of_block = sound.frames.of_block; of_none = sound.frames.of_none };
     tables = sound.tables;
     size = sound.size;

@@ -14,6 +14,7 @@ use Rattle.frame_core.specs.declared.record.Record.TheVariants.{Isolate, Moved}
 use Rattle.frame_core.specs.declared.state.FrameState.TheVariants.{Free, Holds}
 use Rattle.frame_core.specs.History.{page_at}
 use Rattle.frame_core.specs.Moves.{isolated}
+use Rattle.frame_core.specs.LentWords.{IsHere, Words, with_rows}
 use Rattle.frame_core.specs.Words.{words_of, with_words}
 use Rattle.scan_core.specs.Frames.{Frames, free_at, holds_at, is_holding_state, true_at}
 use Rattle.scan_core.specs.NumberSet.{gathered}
@@ -34,8 +35,8 @@ use Rattle.fewest_core.proofs.Evacuation.{can_settle, placement_after, target_fr
 use Rattle.fewest_core.proofs.Moves.{target_not_source, free_unused, others_same, page_there}
 use Rattle.zone_tables.specs.declared.note.PageNote.{PageNote}
 use Rattle.zone_tables.specs.declared.zone.ZoneTables.TheInside.{Inside}
-use Rattle.zone_tables.specs.Fits.{UnmovableFit, entry_for, EntriesFit, MovesFit, NoteFits, NotesFit}
-use Rattle.zone_tables.specs.HandedOut.{order_of}
+use Rattle.zone_tables.specs.Fits.{UnmovableFit, LentFit, ClearedFit, entry_for, EntriesFit, MovesFit, NoteFits, NotesFit}
+use Rattle.zone_tables.specs.HandedOut.{order_of, is_lent_at}
 use Rattle.zone_tables.specs.History.{told}
 use Rattle.zone_tables.specs.Moves.{Moves}
 use Rattle.zone_tables.specs.Notes.{placement_of, is_unmovable_of, says_unmovable}
@@ -44,6 +45,7 @@ use Rattle.zone_tables.specs.Tabulated.{tabulated}
 use Rattle.zone_tables.specs.Contents.{contents_at}
 use Rattle.zone_tables.proofs.Facts.{held_by, is_sound}
 use Rattle.zone_tables.proofs.HeldWords.{contents_kept, held_contents}
+use Rattle.zone_tables.proofs.LentBlocks.{free_here, words_here}
 use Rattle.zone_tables.proofs.ListedAddresses.{names_of, none_listed, page_rests}
 use Rattle.zone_tables.proofs.MoveEnds.{kept_movable, moved_frames, moved_words, still_free}
 use Rattle.zone_tables.proofs.NotedPages.{placements_put, unmovable_kept}
@@ -73,11 +75,17 @@ module _ {W : ℕ} {z : Inside W} {v : ZoneState} (view : state_of z ≡ v) (inv
   unused : is_used v m.target ≡ false
   unused = free_unused v m.target is.vacant
 
-  pub source_row : m.source < length z.words
+  pub source_row : m.source < length z.words.rows
   source_row = omega (arith, source_in, sound.words.count)
 
-  pub target_row : m.target < length z.words
+  pub target_row : m.target < length z.words.rows
   target_row = omega (arith, is.within, sound.words.count)
+
+  pub source_here : IsHere z.words m.source 1
+  source_here = words_here z v sound m.page (At m.source) is.here
+
+  pub target_here : IsHere z.words m.target 1
+  target_here = free_here z v sound m.target (target_free v m sound.valid is)
 
   pub source_listed : m.source < z.tables.frames
   source_listed = omega (arith, source_in, sound.tables)
@@ -145,7 +153,7 @@ pub record Leaving {W : ℕ} (z changed : Inside W) (v : ZoneState) (m : Move) (
   -- what changed with the page's place
   pub frames : changed.frames ≡ record { states = slice_set (slice_set z.frames.states m.source Free) m.target (Holds m.page); movable = slice_set z.frames.movable m.target true; unmovable = z.frames.unmovable }
   pub tables : ReplacesInRange z.tables.entries changed.tables.entries (Present m.source) (Present m.target)
-  pub words : changed.words ≡ with_words z.words m.target (words_of z.words m.source)
+  pub words : changed.words ≡ with_rows z.words (with_words z.words.rows m.target (words_of z.words.rows m.source))
   pub notes : changed.notes ≡ slice_set z.notes m.page (record note { placement = Some (At m.target) })
   pub moves : changed.moves ≡ record z.moves { isolated = z.moves.isolated + 1; moved = z.moves.moved + 1 }
   pub history : changed.history ≡ record (told (told z.history (Isolate m.page (isolated v.records))) (Moved (isolated v.records))) { round = None }
@@ -197,16 +205,16 @@ module _ {W : ℕ} {z changed : Inside W} {v : ZoneState} {m : Move} {note : Pag
   movable_placed = subst (λ (fs : Frames). MovablePlaced z.frames.movable fs.movable (can_move v m.page) (Some (At m.target))) (sym known.frames)
       (kept_movable z.frames.movable (can_move v m.page) true m.target (omega (arith, known.may_move.within, known.sound.movable.count)) (sym known.may_move.movable))
 
-  words_settled : WordsSettled v.page_size z.words changed.words (Moving 0 m.source m.target) (At m.target)
-  words_settled = subst (λ (rows : List (List ℕ)). WordsSettled v.page_size z.words rows (Moving 0 m.source m.target) (At m.target)) (sym known.words)
-      (moved_words z.words (words_of z.words m.source) 0 m.source m.target (omega (arith, known.may_move.within, known.sound.words.count)) refl (known.sound.words.sized m.source source_within))
+  words_settled : WordsSettled v.page_size z.words.rows changed.words.rows (Moving 0 m.source m.target) (At m.target)
+  words_settled = subst (λ (rows : List (List ℕ)). WordsSettled v.page_size z.words.rows rows (Moving 0 m.source m.target) (At m.target)) (sym (ap (λ (w : Words). w.rows) known.words))
+      (moved_words z.words.rows (words_of z.words.rows m.source) 0 m.source m.target (omega (arith, known.may_move.within, known.sound.words.count)) refl (known.sound.words.sized m.source source_within))
 
-  words_placed : WordsPlaced z.words changed.words after m.page (Some (At m.target))
+  words_placed : WordsPlaced z.words.rows changed.words.rows after m.page (Some (At m.target))
   words_placed = record {
     count = words_settled.count;
     mine = λ placement w e small.
         (let is : placement ≡ At m.target = cc in
-        ap (λ (p : Placement). slice_get (words_of changed.words (words_frame p)) w) is ∙ ap (λ (ws : List ℕ). slice_get ws w) words_settled.carried
+        ap (λ (p : Placement). slice_get (words_of changed.words.rows (words_frame p)) w) is ∙ ap (λ (ws : List ℕ). slice_get ws w) words_settled.carried
         ∙ known.sound.words.each m.page (At m.source) w known.may_move.here small);
     kept = words_settled.kept;
     sized = words_settled.sized;
@@ -253,7 +261,7 @@ module _ {W : ℕ} {z changed : Inside W} {v : ZoneState} {m : Move} {note : Pag
       record {
         valid = gets.after;
         orders = ap (λ (y : Inside W). length y.handed_out) known.rest_same ∙ sound.orders;
-        cleared = ap (λ (y : Inside W). length y.cleared) known.rest_same ∙ sound.cleared;
+        cleared = subst (λ (y : Inside W). ClearedFit y.cleared (frame_count v) v.lent) (sym known.rest_same) sound.cleared;
         tables = known.frames_same ∙ sound.tables;
         size = known.size_same ∙ sound.size;
         marks = ap (λ (y : Inside W). length y.marks) known.rest_same ∙ sound.marks;
@@ -263,7 +271,8 @@ module _ {W : ℕ} {z changed : Inside W} {v : ZoneState} {m : Move} {note : Pag
         unmovable = subst (λ (fs : Frames). UnmovableFit fs.unmovable after) (sym known.frames)
             (unmovable_moved v after m.page z.frames.unmovable sound.unmovable refl (λ q ne. refl) (others_same v m) fixed fixed);
         entries = entries_fit;
-        words = words_fit v after m.page old new gets z.words changed.words sound.words words_placed leaves;
+        words = words_fit v after m.page old new gets z.words.rows changed.words.rows sound.words words_placed leaves;
+        lent = subst (λ (w : Words). LentFit w.lent v.handed_out v.lent) (sym known.words) sound.lent;
         notes = subst (λ (ns : List PageNote). NotesFit ns after) (sym known.notes) (notes_fit v after m.page old new gets z.notes left_note note_within sound.notes (λ used. note_fits) leaves);
         moves = moves_fit;
       }
@@ -278,8 +287,8 @@ module _ {W : ℕ} {z changed : Inside W} {v : ZoneState} {m : Move} {note : Pag
 
   contents_same : held_contents changed ≡ held_contents z
   contents_same =
-      (λ i. tabulated (contents_at W (known.words i) (known.rest_same i).cleared (known.rest_same i).handed_out) (length (known.rest_same i).handed_out))
-      ∙ contents_kept z v known.sound known.view m.target (words_of z.words m.source) (unheld_frame v m.target (target_free v m known.sound.valid known.may_move))
+      (λ i. tabulated (contents_at W (known.words i).rows (known.rest_same i).cleared (known.rest_same i).handed_out) (length (known.rest_same i).handed_out))
+      ∙ contents_kept z v known.sound known.view m.target (words_of z.words.rows m.source) (unheld_frame v m.target (target_free v m known.sound.valid known.may_move))
 
   -- a state after the page went, with its new place alone
   abbrev gone : ZoneState → ZoneState
@@ -307,6 +316,7 @@ module _ {W : ℕ} {z changed : Inside W} {v : ZoneState} {m : Move} {note : Pag
         claimed = (known.rest_same i).claimed.members;
         handed_out = tabulated (order_of (known.rest_same i).handed_out) (length (known.rest_same i).handed_out);
         contents = contents_same i;
+        lent = gathered (is_lent_at (known.words i).lent (known.rest_same i).handed_out) (length (known.rest_same i).handed_out);
         placement = placement_new i;
         migrate = (known.rest_same i).fingers.migrate;
         free = (known.rest_same i).fingers.free;

@@ -13,11 +13,12 @@ use Rattle.frame_core.specs.declared.state.FrameState.{FrameState}
 use Rattle.frame_core.specs.declared.state.FrameState.TheVariants.{Holds}
 use Rattle.frame_core.proofs.Maps.{no_test}
 use Rattle.frame_core.specs.declared.record.Record.TheVariants.{Map}
-use Rattle.frame_core.specs.History.{same_address, last, dirty, pins}
+use Rattle.frame_core.specs.History.{same_address, last, dirty}
 use Rattle.zone_tables.specs.History.{History, told}
 use Rattle.table_core.specs.declared.entry.Entry.TheVariants.{Present}
 use Rattle.table_core.specs.Tables.{EntryTable, Tables, ChangesOnly}
 use Rattle.frame_core.specs.Page.{blank_words}
+use Rattle.frame_core.specs.LentWords.{Words, with_rows}
 use Rattle.frame_core.specs.Words.{words_of, with_words}
 use Rattle.zone_tables.specs.declared.note.PageNote.{PageNote}
 use Rattle.zone_tables.specs.declared.zone.ZoneTables.TheInside.{Inside}
@@ -172,7 +173,7 @@ abbrev after_place : {W : ℕ} → Inside W → Bool → ℕ → ℕ → Tables 
 after_place {W} z unmovable page frame tables history = record z {
   frames = record { states = slice_set z.frames.states frame (Holds page); movable = slice_set z.frames.movable frame (not unmovable); unmovable = recounted false unmovable z.frames.unmovable (frame / 512) };
   tables = tables;
-  words = with_words z.words frame (blank_words W);
+  words = with_rows z.words (with_words z.words.rows frame (blank_words W));
   notes = slice_set z.notes page (fresh_note unmovable frame);
   history = history;
 }
@@ -193,13 +194,14 @@ module _ {W : ℕ} (z : Inside W) (v : ZoneState) (client : ℕ) (address : Addr
         valid = placed_valid v client address unmovable page frame can;
         orders = sound.orders;
         cleared = sound.cleared;
+        lent = sound.lent;
         tables = known.frames_same ∙ sound.tables;
         size = known.size_same ∙ sound.size;
         marks = sound.marks;
         claimed = sound.claimed;
         frames = frames_placed v client address unmovable page frame can z.frames.states sound.frames;
         entries = entries_placed v client address unmovable page frame can z.tables.entries tables.entries sound.entries known.tables_new;
-        words = words_placed v client address unmovable page frame can W (ap (λ (u : ZoneState). u.page_size) known.view) z.words sound.words;
+        words = words_placed v client address unmovable page frame can W (ap (λ (u : ZoneState). u.page_size) known.view) z.words.rows sound.words;
         notes = notes_placed v client address unmovable page frame can z.notes sound.notes;
         moves = record { isolated = sound.moves.isolated; moved = sound.moves.moved; back = sound.moves.back };
         movable = movable_placed v client address unmovable page frame can z.frames.movable sound.movable;
@@ -226,8 +228,8 @@ module _ {W : ℕ} (z : Inside W) (v : ZoneState) (client : ℕ) (address : Addr
       λ i. record (state_of z) { records = (known.history_is i).records; room = (known.history_is i).room; round = (known.history_is i).round; placement = placed_there i; unmovable = u i; contents = c i } in
       here ∙ ap (λ (s : ZoneState). placed s client address unmovable page frame) known.view
 
-  pub place_holds : {frames : Frames} {rows : List (List ℕ)} {notes : List PageNote} →
-      frames ≡ record { states = slice_set z.frames.states frame (Holds page); movable = slice_set z.frames.movable frame (not unmovable); unmovable = recounted false unmovable z.frames.unmovable (frame / 512) } → rows ≡ with_words z.words frame (blank_words W) →
+  pub place_holds : {frames : Frames} {rows : Words} {notes : List PageNote} →
+      frames ≡ record { states = slice_set z.frames.states frame (Holds page); movable = slice_set z.frames.movable frame (not unmovable); unmovable = recounted false unmovable z.frames.unmovable (frame / 512) } → rows ≡ with_rows z.words (with_words z.words.rows frame (blank_words W)) →
       notes ≡ notes_new → Becomes (record z { frames = frames; tables = tables; words = rows; notes = notes; history = history }) (placed v client address unmovable page frame)
   place_holds f r n =
       becomes {ideal = after_place z unmovable page frame tables history} (λ i. record z { frames = f i; tables = tables; words = r i; notes = n i; history = history }) place_view place_sound

@@ -10,6 +10,8 @@ pub mod FreshPage
 pub mod HeldWords
 pub mod InUse
 pub mod Isolation
+pub mod LendingBlocks
+pub mod LentBlocks
 pub mod ListedAddresses
 pub mod LoadsAndStores
 pub mod Marks

@@ -15,6 +15,7 @@ use Rattle.frame_core.specs.History.{page_at, is_page, last, dirty, pins, maps}
 use Rattle.zone_tables.specs.History.{History, told}
 use Rattle.frame_core.specs.Moves.{out}
 use Rattle.table_core.specs.declared.entry.Entry.TheVariants.{Present}
+use Rattle.frame_core.specs.LentWords.{IsHere, Words, with_rows}
 use Rattle.frame_core.specs.Words.{words_of, word_of, with_word}
 use Rattle.zone_tables.specs.declared.note.PageNote.{PageNote}
 use Rattle.zone_tables.specs.declared.zone.ZoneTables.TheInside.{Inside}
@@ -27,6 +28,7 @@ use Rattle.state_core.specs.ZoneState.{words_frame, ZoneState, placement_at, fra
 use Rattle.zone_tables.specs.Sound.{IsSound, state_of}
 use Rattle.zone_tables.specs.Notes.{says_unmovable}
 use Rattle.zone_tables.proofs.HeldWords.{contents_kept}
+use Rattle.zone_tables.proofs.LentBlocks.{page_here}
 use Rattle.zone_tables.proofs.NotedPages.{placements_kept, unmovable_kept}
 use Rattle.state_core.proofs.Facts.{taken, skipped, page_named, frame_within, frames_differ, not_none}
 use Rattle.zone_tables.proofs.Facts.{noted_view, is_sound, Becomes, becomes}
@@ -45,6 +47,7 @@ loaded_sound z v sound history client address frame word at spare = record {
   valid = valid_loaded v sound.valid spare client address frame word at;
   orders = sound.orders;
   cleared = sound.cleared;
+  lent = sound.lent;
   tables = sound.tables;
   size = sound.size;
   marks = sound.marks;
@@ -138,10 +141,10 @@ module _ (rows : List (List ℕ)) (v : ZoneState) (law : IsValidZone v) (fit : W
   }
 
 -- what a load reads is the last value stored
-pub word_read : {W : ℕ} (z : Inside W) (v : ZoneState) → IsSound z v → (address : Address) (frame word : ℕ) → placement_at v address ≡ Some (At frame) → word < v.page_size → word_of z.words frame word ≡ value_at v address word
+pub word_read : {W : ℕ} (z : Inside W) (v : ZoneState) → IsSound z v → (address : Address) (frame word : ℕ) → placement_at v address ≡ Some (At frame) → word < v.page_size → word_of z.words.rows frame word ≡ value_at v address word
 word_read z v sound address frame word at small =
     let page = page_named v address (At frame) at in
-    get_or_from_slice_get (words_of z.words frame) word _ 0 (sound.words.each page.0 (At frame) word page.2 small)
+    get_or_from_slice_get (words_of z.words.rows frame) word _ 0 (sound.words.each page.0 (At frame) word page.2 small)
     ∙ ap (λ (o : Option ℕ). last v.records (unwrap_or o 0) word) (sym page.1)
 
 -- what is known of the page that an address names, where the page isn't moving
@@ -151,7 +154,8 @@ pub record Resident {W : ℕ} (z : Inside W) (v : ZoneState) (address : Address)
   pub used : IsSome (map.get v.placement page)
   pub held : holder v frame ≡ Some page
   pub within : frame < frame_count v
-  pub row_within : frame < length z.words
+  pub row_within : frame < length z.words.rows
+  pub here : IsHere z.words frame 1
 
 module _ {W : ℕ} {z : Inside W} {v : ZoneState} (view : state_of z ≡ v) (invariant : IsSound z (state_of z)) {address : Address} {frame : ℕ} (at : placement_at v address ≡ Some (At frame)) where
   pub resident : (page : ℕ) × Resident z v address frame page
@@ -168,6 +172,7 @@ module _ {W : ℕ} {z : Inside W} {v : ZoneState} (view : state_of z ≡ v) (inv
           held = holder_at v sound.valid page.0 frame page.2;
           within = within;
           row_within = omega (arith, within, sound.words.count);
+          here = page_here z v sound page.0 frame (at_takes (map.get v.placement page.0) frame page.2);
         },
       )
 
@@ -191,7 +196,7 @@ pub record Storing {W : ℕ} (z : Inside W) (v : ZoneState) (client : ℕ) (addr
 
 -- the fields of a zone after a store
 abbrev pub after_store : {W : ℕ} → Inside W → ℕ → ℕ → ℕ → ℕ → PageNote → History → Inside W
-after_store z page frame word value note history = record z { words = with_word z.words frame word value; notes = slice_set z.notes page (record note { dirty = true }); history = history }
+after_store z page frame word value note history = record z { words = with_rows z.words (with_word z.words.rows frame word value); notes = slice_set z.notes page (record note { dirty = true }); history = history }
 
 pub store_view : {W : ℕ} (z : Inside W) (v : ZoneState) (client : ℕ) (address : Address) (page frame word value : ℕ) (note : PageNote) (history : History) → Storing z v client address page frame word value note history → state_of (after_store z page frame word value note history) ≡ stored v client address word value
 store_view z v client address page frame word value note history known =
@@ -200,7 +205,7 @@ store_view z v client address page frame word value note history known =
     let p = placements_kept z.notes page dirty_note within (sym (ap (option_and_then (λ (n : PageNote). n.placement)) known.note_is)) in
     let u = unmovable_kept z.notes page dirty_note within (sym (ap says_unmovable known.note_is)) in
     let free = known.sound.valid.pages.clear page frame (at_takes (map.get v.placement page) frame known.at) in
-    let c = contents_kept z v known.sound known.view frame (slice_set (words_of z.words frame) word value) free in
+    let c = contents_kept z v known.sound known.view frame (slice_set (words_of z.words.rows frame) word value) free in
     let here : state_of (after_store z page frame word value note history) ≡ state_of (record z { history = history }) = λ i. record (state_of (record z { history = history })) { placement = p i; unmovable = u i; contents = c i } in
     here ∙ noted_view z v history (Store client address word value) known.view known.history_is
 
@@ -212,20 +217,21 @@ store_sound z v client address page frame word value note history known =
       valid = valid_stored v sound.valid known.spare client address word value;
       orders = sound.orders;
       cleared = sound.cleared;
+      lent = sound.lent;
       tables = sound.tables;
       size = sound.size;
       marks = sound.marks;
       claimed = sound.claimed;
       frames = record { count = sound.frames.count; of_page = sound.frames.of_page; of_block = sound.frames.of_block; of_none = sound.frames.of_none };
       entries = record { each = sound.entries.each };
-      words = stored_words z.words v sound.valid sound.words client address page frame word value known.named known.at known.small;
-      notes = stored_notes z.words v sound.valid sound.words client address page frame word value known.named known.at known.small z.notes note sound.notes known.note_is;
+      words = stored_words z.words.rows v sound.valid sound.words client address page frame word value known.named known.at known.small;
+      notes = stored_notes z.words.rows v sound.valid sound.words client address page frame word value known.named known.at known.small z.notes note sound.notes known.note_is;
       moves = record { isolated = sound.moves.isolated; moved = sound.moves.moved; back = sound.moves.back };
       movable = record { count = sound.movable.count; each = sound.movable.each };
       unmovable = record { count = sound.unmovable.count; each = sound.unmovable.each; rest = sound.unmovable.rest };
     }
 
 pub store_holds : {W : ℕ} {z : Inside W} {v : ZoneState} {client : ℕ} {address : Address} {page frame word value : ℕ} {note : PageNote} {history : History} → Storing z v client address page frame word value note history →
-    {rows : List (List ℕ)} {notes : List PageNote} → rows ≡ with_word z.words frame word value → notes ≡ slice_set z.notes page (record note { dirty = true }) → Becomes (record z { words = rows; notes = notes; history = history }) (stored v client address word value)
+    {rows : Words} {notes : List PageNote} → rows ≡ with_rows z.words (with_word z.words.rows frame word value) → notes ≡ slice_set z.notes page (record note { dirty = true }) → Becomes (record z { words = rows; notes = notes; history = history }) (stored v client address word value)
 store_holds {z = z} {page = page} {frame = frame} {word = word} {value = value} {note = note} {history = history} known r n =
     becomes {ideal = after_store z page frame word value note history} (λ i. record z { words = r i; notes = n i; history = history }) (store_view _ _ _ _ _ _ _ _ _ _ known) (store_sound _ _ _ _ _ _ _ _ _ _ known)

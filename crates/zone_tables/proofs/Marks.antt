@@ -42,6 +42,7 @@ module _ {W : ℕ} (z : Inside W) (v : ZoneState) (sound : IsSound z v) (view : 
     valid = valid_marked v sound.valid spare block;
     orders = sound.orders;
     cleared = sound.cleared;
+    lent = sound.lent;
     marks = length-set z.marks block true ∙ sound.marks;
     claimed = sound.claimed;
     tables = sound.tables;
@@ -60,6 +61,7 @@ module _ {W : ℕ} (z : Inside W) (v : ZoneState) (sound : IsSound z v) (view : 
     valid = valid_unmarked v sound.valid spare block;
     orders = sound.orders;
     cleared = sound.cleared;
+    lent = sound.lent;
     marks = length-set z.marks block false ∙ sound.marks;
     claimed = sound.claimed;
     tables = sound.tables;

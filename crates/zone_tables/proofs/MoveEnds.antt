@@ -125,10 +125,10 @@ module _ {W : ℕ} {z : Inside W} {v : ZoneState} (view : state_of z ≡ v) (inv
   pub target_listed : target < z.tables.frames
   target_listed = omega (arith, target_inside, sound.tables)
 
-  pub source_row : source < length z.words
+  pub source_row : source < length z.words.rows
   source_row = omega (arith, source_in, sound.words.count)
 
-  pub target_row : target < length z.words
+  pub target_row : target < length z.words.rows
   target_row = omega (arith, target_inside, sound.words.count)
 
   -- the source and the target of a moving page are noted as such, and one still is after the other was freed

@@ -79,6 +79,7 @@ module _ {W : ℕ} {z : Inside W} {v : ZoneState} {page : ℕ} {entry : Record} 
         valid = known.valid;
         orders = sound.orders;
         cleared = sound.cleared;
+        lent = sound.lent;
         tables = known.frames_same ∙ sound.tables;
         size = known.size_same ∙ sound.size;
         marks = sound.marks;

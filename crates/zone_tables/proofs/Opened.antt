@@ -1,10 +1,11 @@
 -- A zone that was just opened.
 use Rattle.std.proofs.Common.{◌≡◌, ℕ, ◌*◌, ◌≤◌, Bool, true, false, List, [], length, replicate, sym, ap, ◌∙◌}
-use Rattle.std.specs.Prelude.{Option, Some, None, slice_get, unwrap_or, ◌&&◌}
+use Rattle.std.specs.Prelude.{Option, Some, None, is_some, slice_get, unwrap_or, ◌&&◌}
 use Rattle.std.specs.FinSet as set
 use Rattle.std.specs.FinMap as map
 use Rattle.std.specs.Option.{option_map, option_and_then}
 use Rattle.std.specs.Ordering.{nat_cmp}
+use Rattle.std.proofs.lemmas.Bool.{both_ways}
 use Rattle.std.proofs.lemmas.List.{length-replicate}
 use Rattle.frame_core.proofs.Searches.{count_none}
 use Rattle.state_core.specs.ZoneState.{is_in_block}
@@ -12,6 +13,8 @@ use Rattle.frame_core.proofs.Lists.{slice_get_replicate}
 use Rattle.frame_core.specs.declared.state.FrameState.TheVariants.{Free}
 use Rattle.table_core.specs.Tables.{IsBlank}
 use Rattle.frame_core.specs.Page.{blank_words}
+use Rattle.frame_core.specs.FrameSet.{has_frame}
+use Rattle.frame_core.specs.LentWords.{NoneLent}
 use Rattle.frame_core.specs.Words.{words_of}
 use Rattle.zone_tables.specs.declared.note.PageNote.{PageNote}
 use Rattle.zone_tables.specs.Moves.{Moves}
@@ -26,7 +29,7 @@ use Rattle.zone_tables.specs.Fits.{state_by}
 use Rattle.zone_tables.specs.Sound.{state_of, IsSound}
 use Rattle.scan_core.specs.Frames.{Frames, all_free, true_at}
 use Rattle.zone_tables.specs.Contents.{words_held, contents_at}
-use Rattle.zone_tables.specs.HandedOut.{order_of}
+use Rattle.zone_tables.specs.HandedOut.{order_of, is_lent_at}
 use Rattle.zone_tables.specs.Notes.{unused_note, placement_of, is_unmovable_of}
 use Rattle.scan_core.specs.NumberSet.{gathered}
 use Rattle.zone_tables.specs.Tabulated.{tabulated}
@@ -44,7 +47,8 @@ pub record IsFresh {W : ℕ} (z : Inside W) (number : ℕ) (size : ZoneSize) (pl
   pub tables : IsBlank z.tables.entries
   pub tables_frames : z.tables.frames ≡ 512 * size.blocks
   pub tables_size : z.tables.entries.size ≡ record { spaces = size.spaces; pages = size.vpages }
-  pub words : z.words ≡ replicate (512 * size.blocks) (blank_words W)
+  pub here : NoneLent z.words
+  pub words : z.words.rows ≡ replicate (512 * size.blocks) (blank_words W)
   pub notes : z.notes ≡ replicate (512 * size.blocks) unused_note
   pub handed_out : z.handed_out ≡ replicate (512 * size.blocks) None
   pub cleared : z.cleared ≡ replicate (512 * size.blocks) false
@@ -64,9 +68,11 @@ opened_view {W} z number size places fresh =
     gathered_none (true_at z.marks) (length z.marks) (λ block. ap (λ (bs : List Bool). true_at bs block) fresh.marked ∙ all_false size.blocks block) in
     let h : tabulated (order_of z.handed_out) (length z.handed_out) ≡ map.empty =
     tabulated_none (order_of z.handed_out) (length z.handed_out) (λ first. ap (λ (os : List (Option ℕ)). order_of os first) fresh.handed_out ∙ no_order (512 * size.blocks) first) in
-    let c : tabulated (contents_at W z.words z.cleared z.handed_out) (length z.handed_out) ≡ map.empty =
-    tabulated_none (contents_at W z.words z.cleared z.handed_out) (length z.handed_out)
-    (λ first. ap (option_map (words_held W z.words (true_at z.cleared first) first)) (ap (λ (os : List (Option ℕ)). order_of os first) fresh.handed_out ∙ no_order (512 * size.blocks) first)) in
+    let c : tabulated (contents_at W z.words.rows z.cleared z.handed_out) (length z.handed_out) ≡ map.empty =
+    tabulated_none (contents_at W z.words.rows z.cleared z.handed_out) (length z.handed_out)
+    (λ first. ap (option_map (words_held W z.words.rows (true_at z.cleared first) first)) (ap (λ (os : List (Option ℕ)). order_of os first) fresh.handed_out ∙ no_order (512 * size.blocks) first)) in
+    let l : gathered (is_lent_at z.words.lent z.handed_out) (length z.handed_out) ≡ set.empty =
+    gathered_none (is_lent_at z.words.lent z.handed_out) (length z.handed_out) (λ first. ap (λ (os : List (Option ℕ)). is_some (order_of os first) && has_frame z.words.lent first) fresh.handed_out ∙ ap (λ (o : Option ℕ). is_some o && has_frame z.words.lent first) (no_order (512 * size.blocks) first)) in
     let p : tabulated (placement_of z.notes) (length z.notes) ≡ map.empty =
     tabulated_none (placement_of z.notes) (length z.notes) (λ page. ap (λ (ns : List PageNote). placement_of ns page) fresh.notes ∙ no_placement (512 * size.blocks) page) in
     λ i. record {
@@ -83,6 +89,7 @@ opened_view {W} z number size places fresh =
       claimed = fresh.claimed i;
       handed_out = h i;
       contents = c i;
+      lent = l i;
       placement = p i;
       migrate = (fresh.fingers i).migrate;
       free = (fresh.fingers i).free;
@@ -96,7 +103,10 @@ pub opened_sound : {W : ℕ} (z : Inside W) (number : ℕ) (size : ZoneSize) (pl
 opened_sound {W} z number size places fresh = record {
   valid = opened_valid W number size places fresh.allowed fresh.few;
   orders = ap length fresh.handed_out ∙ length-replicate (512 * size.blocks) None;
-  cleared = ap length fresh.cleared ∙ length-replicate (512 * size.blocks) false;
+  cleared = record {
+    count = ap length fresh.cleared ∙ length-replicate (512 * size.blocks) false;
+    lent = λ first gone. absurd (both_ways _ (set.contains-empty nat_cmp first) gone);
+  };
   marks = ap length fresh.marked ∙ length-replicate size.blocks false;
   claimed = fresh.claimed_room;
   tables = fresh.tables_frames;
@@ -110,9 +120,10 @@ opened_sound {W} z number size places fresh = record {
   entries = record { each = λ address range. fresh.tables address };
   words = record {
     count = ap length fresh.words ∙ length-replicate (512 * size.blocks) (blank_words W);
-    sized = λ frame h. some_eight W z.words frame (ap (λ (rows : List (List ℕ)). slice_get rows frame) fresh.words ∙ slice_get_replicate (512 * size.blocks) frame (blank_words W) h);
+    sized = λ frame h. some_eight W z.words.rows frame (ap (λ (rows : List (List ℕ)). slice_get rows frame) fresh.words ∙ slice_get_replicate (512 * size.blocks) frame (blank_words W) h);
     each = λ page placement word e h. (let bad : None ≡ Some placement = sym (map.get-empty nat_cmp page) ∙ e in cc);
   };
+  lent = record { of_block = λ first order e. (let bad : None ≡ Some order = sym (map.get-empty nat_cmp first) ∙ e in cc); others = λ frame off. fresh.here frame };
   notes = record {
     count = ap length fresh.notes ∙ length-replicate (512 * size.blocks) unused_note;
     each = λ page note e used. absurd (clash note.placement (sym (ap (option_and_then (λ (n : PageNote). n.placement)) e) ∙ ap (λ (ns : List PageNote). placement_of ns page) fresh.notes ∙ no_placement (512 * size.blocks) page) used);

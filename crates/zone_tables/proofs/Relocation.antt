@@ -19,14 +19,14 @@ use Rattle.zone_tables.specs.declared.note.PageNote.{PageNote}
 use Rattle.zone_tables.specs.declared.zone.ZoneTables.TheInside.{Inside}
 use Rattle.state_core.specs.declared.placement.Placement.{Placement}
 use Rattle.state_core.specs.declared.placement.Placement.TheVariants.{At, Moving}
-use Rattle.zone_tables.specs.Fits.{UnmovableFit, entry_for, EntriesFit, NoteFits, NotesFit, MovesFit}
+use Rattle.zone_tables.specs.Fits.{UnmovableFit, LentFit, ClearedFit, entry_for, EntriesFit, NoteFits, NotesFit, MovesFit}
 use Rattle.state_core.specs.ZoneState.{words_frame, ZoneState, frame_count, takes_up}
 use Rattle.std.specs.FinSet as set
 use Rattle.state_core.specs.Pairs.{can_move}
 use Rattle.zone_tables.specs.Notes.{placement_of, is_unmovable_of, says_unmovable}
 use Rattle.state_core.specs.Carrying.{relocated}
 use Rattle.state_core.specs.Swept.{SweptIfQuiet}
-use Rattle.zone_tables.specs.HandedOut.{order_of}
+use Rattle.zone_tables.specs.HandedOut.{order_of, is_lent_at}
 use Rattle.zone_tables.specs.History.{told}
 use Rattle.zone_tables.specs.Sound.{state_of, IsSound}
 use Rattle.scan_core.specs.Frames.{true_at}
@@ -117,7 +117,7 @@ pub record Settling {W : ℕ} (z changed : Inside W) (v : ZoneState) (page : ℕ
   -- what changed with the page's place
   pub frames : FramesSettled z.frames.states changed.frames.states page old new
   pub tables : Replaces z.tables.entries changed.tables.entries (entry_for (Some old)) (entry_for (Some new))
-  pub words : WordsSettled v.page_size z.words changed.words old new
+  pub words : WordsSettled v.page_size z.words.rows changed.words.rows old new
   pub notes : changed.notes ≡ slice_set z.notes page (record note { placement = Some new })
   pub moves : MovesFit changed.moves (entry ∷ v.records)
   pub movable : MovableSettled z.frames.movable changed.frames.movable (can_move v page) new
@@ -131,6 +131,7 @@ pub record Settling {W : ℕ} (z changed : Inside W) (v : ZoneState) (page : ℕ
   pub frames_same : changed.tables.frames ≡ z.tables.frames
   pub size_same : changed.tables.entries.size ≡ z.tables.entries.size
   pub rest_same : record changed { frames = z.frames; tables = z.tables; words = z.words; notes = z.notes; moves = z.moves; fingers = z.fingers; history = z.history } ≡ z
+  pub lent_same : changed.words.lent ≡ z.words.lent
   pub contents_same : held_contents changed ≡ held_contents z
 
 module _ {W : ℕ} {z changed : Inside W} {v : ZoneState} {page : ℕ} {old new : Placement} {entry : Record} {note : PageNote} {migrate free : ℕ} (known : Settling z changed v page old new entry note migrate free) where
@@ -164,12 +165,12 @@ module _ {W : ℕ} {z changed : Inside W} {v : ZoneState} {page : ℕ} {old new 
       let still = known.recorded.still in
       record { last = λ q w ne. still.last q w; dirty = λ q ne. still.dirty q; pins = λ q ne. still.pins q; maps = λ q ne. still.maps q }
 
-  words_changed : WordsPlaced z.words changed.words after page (Some new)
+  words_changed : WordsPlaced z.words.rows changed.words.rows after page (Some new)
   words_changed = record {
     count = known.words.count;
     mine = λ placement w e small.
         (let is : placement ≡ new = cc in
-        ap (λ (p : Placement). slice_get (words_of changed.words (words_frame p)) w) is ∙ ap (λ (ws : List ℕ). slice_get ws w) known.words.carried
+        ap (λ (p : Placement). slice_get (words_of changed.words.rows (words_frame p)) w) is ∙ ap (λ (ws : List ℕ). slice_get ws w) known.words.carried
         ∙ known.sound.words.each page old w known.can.at small ∙ ap Some (sym (known.recorded.still.last page w)));
     kept = known.words.kept;
     sized = known.words.sized;
@@ -191,7 +192,7 @@ module _ {W : ℕ} {z changed : Inside W} {v : ZoneState} {page : ℕ} {old new 
       record {
         valid = gets.after;
         orders = ap (λ (y : Inside W). length y.handed_out) known.rest_same ∙ sound.orders;
-        cleared = ap (λ (y : Inside W). length y.cleared) known.rest_same ∙ sound.cleared;
+        cleared = subst (λ (y : Inside W). ClearedFit y.cleared (frame_count v) v.lent) (sym known.rest_same) sound.cleared;
         tables = known.frames_same ∙ sound.tables;
         size = known.size_same ∙ sound.size;
         marks = ap (λ (y : Inside W). length y.marks) known.rest_same ∙ sound.marks;
@@ -201,7 +202,8 @@ module _ {W : ℕ} {z changed : Inside W} {v : ZoneState} {page : ℕ} {old new 
         unmovable = subst (λ (counts : List ℕ). UnmovableFit counts after) (sym known.counts)
             (unmovable_moved v after page z.frames.unmovable sound.unmovable refl (λ q ne. refl) (at_other v page old new known.can entry) known.fixed known.fixed);
         entries = record { each = entries.each };
-        words = words_fit v after page (Some old) (Some new) gets z.words changed.words sound.words words_changed leaves;
+        words = words_fit v after page (Some old) (Some new) gets z.words.rows changed.words.rows sound.words words_changed leaves;
+        lent = subst (λ (l : List Bool). LentFit l v.handed_out v.lent) (sym known.lent_same) sound.lent;
         notes = subst (λ (ns : List PageNote). NotesFit ns after) (sym known.notes)
             (notes_fit v after page (Some old) (Some new) gets z.notes settled_note (slice_get_within z.notes page note known.note_is) sound.notes (λ used. note_fits) leaves);
         moves = known.moves;
@@ -235,6 +237,7 @@ module _ {W : ℕ} {z changed : Inside W} {v : ZoneState} {page : ℕ} {old new 
         claimed = (known.rest_same i).claimed.members;
         handed_out = tabulated (order_of (known.rest_same i).handed_out) (length (known.rest_same i).handed_out);
         contents = known.contents_same i;
+        lent = gathered (is_lent_at (known.lent_same i) (known.rest_same i).handed_out) (length (known.rest_same i).handed_out);
         placement = placement_new i;
         migrate = (known.fingers_are i).migrate;
         free = (known.fingers_are i).free;

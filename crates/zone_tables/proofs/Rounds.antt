@@ -21,6 +21,7 @@ begun_sound z v sound start here as_calm = record {
   valid = valid_from v sound.valid start here as_calm;
   orders = sound.orders;
   cleared = sound.cleared;
+  lent = sound.lent;
   tables = sound.tables;
   size = sound.size;
   marks = sound.marks;

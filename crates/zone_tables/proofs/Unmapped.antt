@@ -127,6 +127,7 @@ module _ {W : ℕ} (z : Inside W) (v : ZoneState) (client : ℕ) (address : Addr
           valid = gets.after;
           orders = sound.orders;
           cleared = sound.cleared;
+          lent = sound.lent;
           tables = known.frames_same ∙ sound.tables;
           size = known.size_same ∙ sound.size;
           marks = sound.marks;
@@ -143,7 +144,7 @@ module _ {W : ℕ} (z : Inside W) (v : ZoneState) (client : ℕ) (address : Addr
           entries = entries_changed v gone z.tables.entries tables.entries address Absent sound.entries known.changes
               (λ a e. sym (ap entry_for (ap (option_and_then (map.get gone.placement)) (named_here v client address page frame can a e))))
               placement_there;
-          words = words_fit v gone page (Some (At frame)) None gets z.words z.words sound.words (record { count = refl; mine = λ p w e small. cc; kept = λ g off. refl; sized = λ g has. cc }) leaves;
+          words = words_fit v gone page (Some (At frame)) None gets z.words.rows z.words.rows sound.words (record { count = refl; mine = λ p w e small. cc; kept = λ g off. refl; sized = λ g has. cc }) leaves;
           notes = notes_fit v gone page (Some (At frame)) None gets z.notes unused_note note_within sound.notes (λ used. cc) leaves;
           moves = record { isolated = sound.moves.isolated; moved = sound.moves.moved; back = sound.moves.back };
         }

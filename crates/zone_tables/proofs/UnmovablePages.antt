@@ -1,6 +1,6 @@
 -- How many unmovable pages each pageblock has, after a page came, went or moved.
-use Rattle.std.proofs.Common.{◌≡◌, ◌≢◌, ℕ, ◌+◌, ◌-◌, ◌*◌, ◌/◌, ◌<◌, ◌≤◌, Bool, true, false, List, length, length-set, inl, inr, refl, sym, ap, ◌∙◌, subst, slice_index, ne_eqb, eq-eqb, arith}
-use Rattle.std.specs.Prelude.{Option, Some, None, nat_eq, slice_get, slice_set, ◌&&◌}
+use Rattle.std.proofs.Common.{◌≡◌, ◌≢◌, ℕ, ◌+◌, ◌-◌, ◌*◌, ◌/◌, ◌<◌, ◌≤◌, Bool, true, false, List, length, inl, inr, refl, sym, ap, ◌∙◌, slice_index, ne_eqb, eq-eqb, arith}
+use Rattle.std.specs.Prelude.{Some, nat_eq, slice_get, ◌&&◌}
 use Rattle.std.specs.FinMap as map
 use Rattle.std.specs.FinSet as set
 use Rattle.std.proofs.Math.Bool.{and-false}
@@ -12,7 +12,6 @@ use Rattle.frame_core.proofs.Lists.{slice_get_set_same, slice_get_set_other}
 use Rattle.frame_core.proofs.Searches.{count_more, count_most, count_same, count_some}
 use Rattle.scan_core.specs.FrameCounts.{recounted}
 use Rattle.scan_core.proofs.RunCounts.{length_recounted}
-use Rattle.state_core.specs.declared.placement.Placement.{Placement}
 use Rattle.state_core.specs.declared.placement.Placement.TheVariants.{At, Moving}
 use Rattle.state_core.specs.Pairs.{can_move}
 use Rattle.state_core.specs.ZoneState.{ZoneState, frame_count, is_in_block, is_unmovable_in}

@@ -11,6 +11,7 @@ use Rattle.frame_core.specs.declared.place.Address.{Address}
 use Rattle.frame_core.specs.declared.record.Record.TheVariants.{Load, Store}
 use Rattle.frame_core.specs.History.{page_at, last}
 use Rattle.frame_core.specs.Moves.{out}
+use Rattle.frame_core.specs.LentWords.{Words, with_rows}
 use Rattle.frame_core.specs.Words.{words_of, words_from, put_from, with_word, with_words}
 use Rattle.state_core.specs.declared.placement.Placement.TheVariants.{At}
 use Rattle.state_core.specs.Access.{value_at, loaded, stored}
@@ -66,13 +67,13 @@ dropped f first (suc k) n =
     ∙ dropped f (first + 1) k n ∙ ap (λ (m : ℕ). each f (range_with_len m n)) from
 
 -- the words that are read are the last values stored
-pub words_read : {W : ℕ} (z : Inside W) (v : ZoneState) → IsSound z v → (address : Address) (frame from count : ℕ) → placement_at v address ≡ Some (At frame) → from + count ≤ v.page_size → words_from z.words frame from count ≡ values_at v address from count
+pub words_read : {W : ℕ} (z : Inside W) (v : ZoneState) → IsSound z v → (address : Address) (frame from count : ℕ) → placement_at v address ≡ Some (At frame) → from + count ≤ v.page_size → words_from z.words.rows frame from count ≡ values_at v address from count
 words_read z v sound address frame from count at within =
     let page = page_named v address (At frame) at in
     let rest : from + (v.page_size - from) ≡ v.page_size = omega arith in
     let first : 0 + from ≡ from = omega arith in
     let f = last v.records page.0 in
-    ap (λ (ws : List ℕ). take count (drop from ws)) (words_seen z.words v sound.words sound.valid page.0 (At frame) page.2)
+    ap (λ (ws : List ℕ). take count (drop from ws)) (words_seen z.words.rows v sound.words sound.valid page.0 (At frame) page.2)
     ∙ ap (λ (n : ℕ). take count (drop from (each f (range_with_len 0 n)))) (sym rest)
     ∙ ap (take count) (dropped f 0 from (v.page_size - from))
     ∙ ap (λ (n : ℕ). take count (each f (range_with_len n (v.page_size - from)))) first
@@ -158,14 +159,14 @@ each_hold z v client address page frame from note (value ∷ values) is =
 -- the fields of a zone after a write, all stores at once
 abbrev after_stores : {W : ℕ} → Inside W → ℕ → Address → ℕ → ℕ → ℕ → PageNote → List ℕ → Inside W
 after_stores z client address page frame from note values = record z {
-  words = with_words z.words frame (put_from (words_of z.words frame) from values);
+  words = with_rows z.words (with_words z.words.rows frame (put_from (words_of z.words.rows frame) from values));
   notes = slice_set z.notes page (record note { dirty = true });
   history = told_stores z.history client address from values;
 }
 
 -- they are the same where there is a store
 each_is : {W : ℕ} (z : Inside W) (client : ℕ) (address : Address) (page frame from : ℕ) (note : PageNote) (value : ℕ) (values : List ℕ) → after_each z client address page frame from note (value ∷ values) ≡ record z {
-  words = stored_each z.words frame from (value ∷ values);
+  words = with_rows z.words (stored_each z.words.rows frame from (value ∷ values));
   notes = slice_set z.notes page (record note { dirty = true });
   history = told_stores z.history client address from (value ∷ values);
 }
@@ -174,10 +175,10 @@ each_is z client address page frame from note value (next ∷ values) =
     let dirty : PageNote = record note { dirty = true } in
     let there = after_store z page frame from value note (told z.history (Store client address from value)) in
     each_is there client address page frame (from + 1) dirty next values
-    ∙ ap (λ (notes : List PageNote). record z { words = stored_each z.words frame from (value ∷ next ∷ values); notes = notes; history = told_stores z.history client address from (value ∷ next ∷ values) }) (set-set z.notes page dirty dirty)
+    ∙ ap (λ (notes : List PageNote). record z { words = with_rows z.words (stored_each z.words.rows frame from (value ∷ next ∷ values)); notes = notes; history = told_stores z.history client address from (value ∷ next ∷ values) }) (set-set z.notes page dirty dirty)
 
 -- the frame has a row, and the words are in it
-resident_within : {W : ℕ} (z : Inside W) (v : ZoneState) {address : Address} {page frame from : ℕ} {note : PageNote} {count : ℕ} → Writing z v address page frame from note count → (frame < length z.words) × (from + count ≤ length (words_of z.words frame))
+resident_within : {W : ℕ} (z : Inside W) (v : ZoneState) {address : Address} {page frame from : ℕ} {note : PageNote} {count : ℕ} → Writing z v address page frame from note count → (frame < length z.words.rows) × (from + count ≤ length (words_of z.words.rows frame))
 resident_within z v {address} {page} {frame} is =
     let within = frame_within v is.sound.valid page (At frame) is.at in
     (omega (arith, within, is.sound.words.count), omega (arith, is.within, is.sound.words.sized frame within))
@@ -187,12 +188,12 @@ each_at_once z v client address page frame from note [] some is = absurd (omega 
 each_at_once z v client address page frame from note (value ∷ values) some is =
     let within = resident_within z v is in
     each_is z client address page frame from note value values
-    ∙ ap (λ (rows : List (List ℕ)). record z { words = rows; notes = slice_set z.notes page (record note { dirty = true }); history = told_stores z.history client address from (value ∷ values) })
-    (stored_at_once z.words frame from (value ∷ values) within.0 within.1)
+    ∙ ap (λ (rows : List (List ℕ)). record z { words = with_rows z.words rows; notes = slice_set z.notes page (record note { dirty = true }); history = told_stores z.history client address from (value ∷ values) })
+    (stored_at_once z.words.rows frame from (value ∷ values) within.0 within.1)
 
 -- a write leaves the zone as stores one after the other do
 module _ {W : ℕ} (z : Inside W) (v : ZoneState) (client : ℕ) (address : Address) (page frame from : ℕ) (note : PageNote) (values : List ℕ) (some : 0 < length values) (is : Writing z v address page frame from note (length values)) where
-  pub stores_hold : {rows : List (List ℕ)} {notes : List PageNote} {history : History} → rows ≡ with_words z.words frame (put_from (words_of z.words frame) from values) → notes ≡ slice_set z.notes page (record note { dirty = true }) →
+  pub stores_hold : {rows : Words} {notes : List PageNote} {history : History} → rows ≡ with_rows z.words (with_words z.words.rows frame (put_from (words_of z.words.rows frame) from values)) → notes ≡ slice_set z.notes page (record note { dirty = true }) →
       history ≡ told_stores z.history client address from values → Becomes (record z { words = rows; notes = notes; history = history }) (stored_all v client address from values)
   stores_hold r n h =
       let known = each_hold z v client address page frame from note values is in

@@ -1,8 +1,9 @@
 -- How the tables of a zone stand for its state.
-use Rattle.std.specs.Prelude.{◌≡◌, ℕ, ◌<◌, Bool, true, List, length, nat_eq, if◌then◌else◌, slice_get, Option, Some, None, IsSome}
+use Rattle.std.specs.Prelude.{◌≡◌, ℕ, ◌^◌, ◌<◌, Bool, true, false, List, length, nat_eq, if◌then◌else◌, slice_get, Option, Some, None, IsSome}
 use Rattle.std.specs.FinMap as map
 use Rattle.std.specs.FinSet as set
 use Rattle.frame_core.specs.Below.{count_below}
+use Rattle.std.specs.Ordering.{nat_cmp}
 use Rattle.frame_core.specs.Address.{InRange}
 use Rattle.frame_core.specs.declared.place.Address.{Address}
 use Rattle.frame_core.specs.declared.state.FrameState.{FrameState}
@@ -14,13 +15,15 @@ use Rattle.table_core.specs.declared.entry.Entry.{Entry}
 use Rattle.table_core.specs.declared.entry.Entry.TheVariants.{Absent, Present, Migration}
 use Rattle.table_core.specs.declared.size.Size.{Size}
 use Rattle.table_core.specs.Tables.{EntryTable, entry_at}
+use Rattle.frame_core.specs.FrameSet.{has_frame, HasEach}
 use Rattle.frame_core.specs.Words.{words_of}
+use Rattle.scan_core.specs.Frames.{true_at}
 use Rattle.zone_tables.specs.Moves.{Moves}
 use Rattle.zone_tables.specs.declared.note.PageNote.{PageNote}
 use Rattle.state_core.specs.declared.placement.Placement.{Placement}
 use Rattle.state_core.specs.declared.placement.Placement.TheVariants.{At, Moving}
 use Rattle.state_core.specs.Pairs.{can_move}
-use Rattle.state_core.specs.ZoneState.{ZoneState, frame_count, is_free, is_held, is_unmovable_in, placement_at, words_frame}
+use Rattle.state_core.specs.ZoneState.{ZoneState, covers, frame_count, is_free, is_held, is_unmovable_in, placement_at, words_frame}
 
 -- the state that a page with this number and placement gives to a frame, if it takes the frame up
 abbrev pub state_by : ℕ → Option Placement → ℕ → Option (FrameState ℕ)
@@ -55,6 +58,16 @@ pub record WordsFit (rows : List (List ℕ)) (v : ZoneState) : Type 0 where
   pub count : length rows ≡ frame_count v
   pub sized : (frame : ℕ) → frame < frame_count v → length (words_of rows frame) ≡ v.page_size
   pub each : (page : ℕ) (placement : Placement) (word : ℕ) → map.get v.placement page ≡ Some placement → word < v.page_size → slice_get (words_of rows (words_frame placement)) word ≡ Some (last v.records page word)
+
+-- the frames of a block are lent where its words are away, and no other frame is lent
+pub record LentFit (lent : List Bool) (handed_out : map.FinMap nat_cmp ℕ) (away : set.FinSet nat_cmp) : Type 0 where
+  pub of_block : (first order : ℕ) → map.get handed_out first ≡ Some order → HasEach lent first (2 ^ order) (set.contains away first)
+  pub others : (frame : ℕ) → ((first : ℕ) → covers (map.get handed_out first) first frame ≡ false) → has_frame lent frame ≡ false
+
+-- each frame has its place in the list of cleared blocks, and a block whose words are away was cleared
+pub record ClearedFit (cleared : List Bool) (frames : ℕ) (away : set.FinSet nat_cmp) : Type 0 where
+  pub count : length cleared ≡ frames
+  pub lent : (first : ℕ) → set.contains away first ≡ true → true_at cleared first ≡ true
 
 -- the note of a page in use says what the journal says of the page
 pub record NoteFits (note : PageNote) (v : ZoneState) (page : ℕ) : Type 0 where

@@ -4,8 +4,8 @@ use Rattle.zone_tables.specs.declared.zone.ZoneTables.TheInside.{Inside}
 use Rattle.state_core.specs.ZoneState.{ZoneState, frame_count}
 use Rattle.state_core.specs.Valid.{IsValidZone}
 use Rattle.zone_tables.specs.Contents.{contents_at}
-use Rattle.zone_tables.specs.Fits.{table_size, FramesFit, EntriesFit, WordsFit, NotesFit, MovesFit, MovableFit, UnmovableFit}
-use Rattle.zone_tables.specs.HandedOut.{order_of}
+use Rattle.zone_tables.specs.Fits.{table_size, FramesFit, EntriesFit, WordsFit, LentFit, ClearedFit, NotesFit, MovesFit, MovableFit, UnmovableFit}
+use Rattle.zone_tables.specs.HandedOut.{order_of, is_lent_at}
 use Rattle.zone_tables.specs.Notes.{placement_of, is_unmovable_of}
 use Rattle.scan_core.specs.Frames.{true_at}
 use Rattle.scan_core.specs.NumberSet.{gathered}
@@ -26,7 +26,8 @@ state_of {W} z = record {
   apart = z.apart;
   claimed = z.claimed.members;
   handed_out = tabulated (order_of z.handed_out) (length z.handed_out);
-  contents = tabulated (contents_at W z.words z.cleared z.handed_out) (length z.handed_out);
+  contents = tabulated (contents_at W z.words.rows z.cleared z.handed_out) (length z.handed_out);
+  lent = gathered (is_lent_at z.words.lent z.handed_out) (length z.handed_out);
   placement = tabulated (placement_of z.notes) (length z.notes);
   migrate = z.fingers.migrate;
   free = z.fingers.free;
@@ -37,7 +38,7 @@ state_of {W} z = record {
 pub record IsSound {W : ℕ} (z : Inside W) (v : ZoneState) : Type 0 where
   pub valid : IsValidZone v
   pub orders : length z.handed_out ≡ frame_count v
-  pub cleared : length z.cleared ≡ frame_count v
+  pub cleared : ClearedFit z.cleared (frame_count v) v.lent
   pub marks : length z.marks ≡ v.blocks
   pub claimed : frame_count v ≤ z.claimed.bound
   pub frames : FramesFit z.frames.states v
@@ -46,6 +47,7 @@ pub record IsSound {W : ℕ} (z : Inside W) (v : ZoneState) : Type 0 where
   pub tables : z.tables.frames ≡ frame_count v
   pub size : z.tables.entries.size ≡ table_size v
   pub entries : EntriesFit z.tables.entries v
-  pub words : WordsFit z.words v
+  pub words : WordsFit z.words.rows v
+  pub lent : LentFit z.words.lent v.handed_out v.lent
   pub notes : NotesFit z.notes v
   pub moves : MovesFit z.moves v.records

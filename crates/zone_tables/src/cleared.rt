@@ -4,6 +4,7 @@ ghost use Rattle.std.specs.Prelude.{◌≡◌, ◌+◌, ◌^◌, ◌<◌, ◌≤
 ghost use Rattle.std.specs.List.{All};
 ghost use Rattle.zone_tables.specs.Contents.{words_held};
 ghost use Rattle.scan_core.specs.Frames.{true_at};
+ghost use Rattle.frame_core.specs.LentWords.{IsHere, LentStays};
 ghost use Rattle.frame_core.specs.Words.{HasBlock};
 
 use frame_core::{FixedVec, FrameNo, Order, WordsOf};
@@ -45,10 +46,12 @@ impl Cleared {
     /// Sets the words of a block to 0, unless that was done since it was handed out.
     pub fn clear<const W: usize>(&mut self, words: &mut WordsOf<W>, first: FrameNo, order: Order)
         requires listed { first < length self.old }
-        requires within { first + 2 ^ order ≤ length words.old }
+        requires within { first + 2 ^ order ≤ length words.old.rows }
+        requires here { IsHere words.old first (2 ^ order) }
         ensures noted { self.new ≡ slice_set self.old first true }
-        ensures words { HasBlock words.old words.new first (2 ^ order) (words_held W words.old (true_at self.old first) first order) }
-        ensures sized { All (λ row. length row ≡ W) words.old → All (λ row. length row ≡ W) words.new }
+        ensures words { HasBlock words.old.rows words.new.rows first (2 ^ order) (words_held W words.old.rows (true_at self.old first) first order) }
+        ensures sized { All (λ row. length row ≡ W) words.old.rows → All (λ row. length row ≡ W) words.new.rows }
+        ensures lent { LentStays words.old words.new }
     {
         let first_place = first.get() as usize;
         if !self.blocks[first_place] {

@@ -1,7 +1,8 @@
 //! Reading and writing the words of blocks that are handed out.
 
-ghost use Rattle.std.specs.Prelude.{◌≡◌, ◌+◌, ◌*◌, ◌^◌, ◌≤◌, ℕ, List, length, nat_le, IsTrue};
+ghost use Rattle.std.specs.Prelude.{◌≡◌, ◌+◌, ◌*◌, ◌^◌, ◌≤◌, ℕ, List, false, length, nat_le, IsTrue};
 ghost use Rattle.std.specs.FinMap as map;
+ghost use Rattle.std.specs.FinSet as set;
 ghost use Rattle.std.specs.Fn.{FnOnceTakesAtMut, FnOnceReturnsAtMut};
 ghost use Rattle.state_core.specs.Contents.{contents_of, contents_from, contents_written};
 ghost use Rattle.state_core.specs.HandingOut.{is_order};
@@ -17,13 +18,14 @@ impl<const W: usize> ZoneTables<W> {
         ensures has { result ≡ nat_le (from + count) (2 ^ order * self.now.page_size) }
         ensures within { IsTrue result → from + count ≤ 2 ^ order * W }
     {
-        let words = self.words.block(first, order.frames()).len();
-        from <= words && count <= words - from
+        let words = order.frames() as u128 * self.words.page_words() as u128;
+        from as u128 + count as u128 <= words
     }
 
     /// Reads words of a block that is handed out, from one on, as many as there is room for.
     pub fn read_block(&mut self, first: FrameNo, order: Order, from: usize, values: &mut [u64])
         requires held { IsTrue (is_order (map.get self.old.handed_out first) order) }
+        requires here { set.contains self.old.lent first ≡ false }
         requires within { from + length values.old ≤ 2 ^ order * W }
         ensures values { values.new ≡ contents_from self.old first from (length values.old) }
         ensures step { self.new ≡ self.old }
@@ -42,6 +44,7 @@ impl<const W: usize> ZoneTables<W> {
         change: F,
     ) -> R
         requires held { IsTrue (is_order (map.get self.old.handed_out first) order) }
+        requires here { set.contains self.old.lent first ≡ false }
         requires callable { FnOnceTakesAtMut F.FnOnce change (contents_of self.old first) }
         ensures changed { (words : List ℕ) × (length words ≡ 2 ^ order * self.old.page_size) × FnOnceReturnsAtMut F.FnOnce change (contents_of self.old first) result words × (self.new ≡ contents_written self.old first 0 words) }
         ensures valid { IsValidZone self.new }
@@ -53,6 +56,7 @@ impl<const W: usize> ZoneTables<W> {
     /// Writes words of a block that is handed out, from one on.
     pub fn write_block(&mut self, first: FrameNo, order: Order, from: usize, values: &[u64])
         requires held { IsTrue (is_order (map.get self.old.handed_out first) order) }
+        requires here { set.contains self.old.lent first ≡ false }
         requires within { from + length values.now ≤ 2 ^ order * W }
         ensures step { self.new ≡ contents_written self.old first from values.now }
         ensures valid { IsValidZone self.new }

@@ -4,6 +4,7 @@ ghost use Rattle.std.specs.Prelude.{◌≡◌, ◌≢◌, ◌<◌, ◌≤◌, �
 ghost use Rattle.std.specs.FinMap as map;
 ghost use Rattle.frame_core.specs.History.{pins};
 ghost use Rattle.frame_core.specs.Moves.{out, isolated, moved, put_back};
+ghost use Rattle.frame_core.specs.LentWords.{IsHere, with_rows};
 ghost use Rattle.frame_core.specs.Words.{words_of, with_words};
 ghost use Rattle.state_core.specs.Valid.{IsValidZone};
 ghost use Rattle.state_core.specs.Ending.{HasCause, IsSettled, is_own, moved_to_target, put_back_to_source};
@@ -179,10 +180,10 @@ impl<const W: usize> ZoneTables<W> {
 #[inline(always)]
 fn fill_target<const W: usize>(words: &mut WordsOf<W>, way: &Move, copy: Option<&PageOf<W>>)
     requires apart { way.now.source ≢ way.now.target }
-    requires source { way.now.source < length words.old }
-    requires target { way.now.target < length words.old }
-    requires same { IfSome copy (λ page. page.now.words ≡ words_of words.old way.now.source) }
-    ensures { words.new ≡ with_words words.old way.now.target (words_of words.old way.now.source) }
+    requires source { (way.now.source < length words.old.rows) × IsHere words.old way.now.source 1 }
+    requires target { (way.now.target < length words.old.rows) × IsHere words.old way.now.target 1 }
+    requires same { IfSome copy (λ page. page.now.words ≡ words_of words.old.rows way.now.source) }
+    ensures { words.new ≡ with_rows words.old (with_words words.old.rows way.now.target (words_of words.old.rows way.now.source)) }
 {
     match copy {
         Some(page) => words.write_in(way.target, page),

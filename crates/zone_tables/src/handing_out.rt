@@ -1,7 +1,8 @@
 //! Handing blocks out, and taking them back.
 
-ghost use Rattle.std.specs.Prelude.{◌≡◌, ◌≤◌, IsTrue, IfSome};
+ghost use Rattle.std.specs.Prelude.{◌≡◌, ◌≤◌, false, IsTrue, IfSome};
 ghost use Rattle.std.specs.FinMap as map;
+ghost use Rattle.std.specs.FinSet as set;
 ghost use Rattle.frame_core.specs.Below.{count_below};
 ghost use Rattle.state_core.specs.HandingOut.{has_block, is_order, is_run, lowest_run, block_taken, block_given};
 ghost use Rattle.state_core.specs.Valid.{IsValidZone};
@@ -70,6 +71,7 @@ impl<const W: usize> ZoneTables<W> {
     pub fn take_back(&mut self, first: FrameNo, order: Order)
         requires room { IsTrue (has_room self.old) }
         requires held { IsTrue (is_order (map.get self.old.handed_out first) order) }
+        requires here { set.contains self.old.lent first ≡ false }
         ensures step { self.new ≡ block_given self.old first order }
         ensures valid { IsValidZone self.new }
     {

@@ -5,7 +5,7 @@ ghost use Rattle.state_core.specs.Valid.{IsValidZone};
 ghost use Rattle.state_core.specs.Looking.{info_of};
 ghost use Rattle.state_core.specs.Opening.{size_of};
 ghost use Rattle.state_core.specs.ZoneState.{frame_count};
-ghost use Rattle.zone_tables.specs.Fits.{EntriesFit, FramesFit, MovableFit, WordsFit};
+ghost use Rattle.zone_tables.specs.Fits.{EntriesFit, FramesFit, LentFit, MovableFit, WordsFit};
 
 use crate::zone::ZoneTables;
 use frame_core::{Journal, WordsOf, ZoneNo};
@@ -89,8 +89,9 @@ impl<const W: usize> ZoneTables<W> {
     /// The words of each frame. The frame in which a page stands has the words of this page; while a page is moving, the one
     /// that it left has them.
     pub fn words(&self) -> &WordsOf<W>
-        ensures words { WordsFit result.now self.now }
-        ensures frames { length result.now ≡ frame_count self.now }
+        ensures words { WordsFit result.now.rows self.now }
+        ensures lent { LentFit result.now.lent self.now.handed_out self.now.lent }
+        ensures frames { length result.now.rows ≡ frame_count self.now }
     {
         &self.words
     }

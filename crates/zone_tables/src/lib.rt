@@ -19,6 +19,7 @@ mod information;
 mod isolating;
 mod kept_note;
 mod kept_order;
+mod lending;
 mod looking;
 mod mapping;
 mod marking;

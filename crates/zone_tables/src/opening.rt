@@ -1,6 +1,7 @@
 ghost use Rattle.std.specs.Prelude.{◌≡◌, ◌<◌, ◌≤◌, ◌*◌, [], None, false, replicate, IfOk, IfErr, IfSome};
 ghost use Rattle.std.specs.FinSet as set;
 ghost use Rattle.frame_core.specs.Journal.{unrecorded_places};
+ghost use Rattle.frame_core.specs.LentWords.{NoneLent};
 ghost use Rattle.frame_core.specs.Page.{blank_words};
 ghost use Rattle.scan_core.specs.Frames.{all_free};
 ghost use Rattle.table_core.specs.Tables.{IsBlank};
@@ -91,7 +92,8 @@ fn open_memory<const W: usize>(
     ensures frames { IfOk result (λ memory. memory.0 ≡ all_free size.blocks) }
     ensures tables { IfOk result (λ memory. IsBlank memory.1.entries × (memory.1.frames ≡ 512 * size.blocks)) }
     ensures size { IfOk result (λ memory. memory.1.entries.size ≡ record { spaces = size.spaces; pages = size.vpages }) }
-    ensures words { IfOk result (λ memory. memory.2 ≡ replicate (512 * size.blocks) (blank_words W)) }
+    ensures words { IfOk result (λ memory. memory.2.rows ≡ replicate (512 * size.blocks) (blank_words W)) }
+    ensures here { IfOk result (λ memory. NoneLent memory.2) }
 {
     let frames = Frames::open(alloc, size.blocks)?;
     let tables = Tables::open(alloc, size.blocks, size.spaces, size.vpages)?;

@@ -1,4 +1,4 @@
-use Rattle.std.proofs.Common.{◌≡◌, ℕ, ◌+◌, ◌^◌, ◌<◌, ◌≤◌, length, refl, sym, ap, ◌∙◌, subst, arith}
+use Rattle.std.proofs.Common.{◌≡◌, ◌+◌, ◌≤◌, length, refl, sym, ap, ◌∙◌, arith}
 use Rattle.std.specs.List.{length_refill}
 use Rattle.row_core.specs.Owned.{count_out}
 use Rattle.row_core.specs.Parts.{part}
@@ -21,10 +21,10 @@ invariant_of-self g c =
       c.replace_with-2.ensures.0 ∙ c.replace_with.ensures.0.0 ∙ c.self.invariant.0,
       c.replace_with-2.ensures.2,
       c.self.invariant.2,
-      c.self.invariant.3 ∙ sym long,
+      long ∙ c.self.invariant.3,
       c.self.invariant.4 ∙ ap count_out (sym here),
       c.replace_with-2.new.dest.lengths,
-      subst (λ (k : ℕ). k < 2 ^ 60) (sym long) c.self.invariant.6,
+      c.self.invariant.6,
       c.self.invariant.7,
     )
 

@@ -10,6 +10,7 @@ use Rattle.zone_tables.proofs.Tables.{placement_seen, words_seen, note_seen, mov
 use Rattle.zone_tables.specs.Fits.{MovesFit}
 use Rattle.zone_tables.specs.Moves.{Moves}
 use Rattle.zone_tables.proofs.HeldWords.{contents_kept}
+use Rattle.zone_tables.proofs.LentBlocks.{unheld_here, words_here}
 use Rattle.zone_tables.specs.declared.zone.ZoneTables.TheInside.{Inside}
 use Rattle.state_core.specs.declared.placement.Placement.TheVariants.{At, Moving}
 use Rattle.state_core.specs.Carrying.{relocated, words_now}
@@ -42,9 +43,11 @@ fill_target-requires g c =
     let apart = two_frames c.self.view_is c.self.invariant way.page c.requires.placed in
     let source = source_row c.self.view_is c.self.invariant way.page c.requires.placed in
     let target = target_row c.self.view_is c.self.invariant way.page c.requires.placed in
-    let seen : words_of c.self.inside.words way.source ≡ words_now c.args.self.now way.page = words_seen c.self.inside.words c.args.self.now sound.words sound.valid way.page (Moving way.serial way.source way.target) c.requires.placed in
+    let seen : words_of c.self.inside.words.rows way.source ≡ words_now c.args.self.now way.page = words_seen c.self.inside.words.rows c.args.self.now sound.words sound.valid way.page (Moving way.serial way.source way.target) c.requires.placed in
     let same = subst (λ (words : List ℕ). IfSome c.args.copy (λ page. page.now.words ≡ words)) (sym seen) c.requires.words in
-    (omega arith, (omega arith, (apart, (source, (target, same)))))
+    let source_here = words_here c.self.inside c.args.self.now sound way.page _ c.requires.placed in
+    let target_here = unheld_here c.self.inside c.args.self.now sound way.target (target_unheld c.self.view_is c.self.invariant way.page c.requires.placed) in
+    (omega arith, (omega arith, (apart, ((source, source_here), ((target, target_here), same)))))
 
 pub place-requires : goal.place-requires
 place-requires g c = ap is_some (placement_seen c.self.inside c.args.self.now c.self.view_is c.args.way.now.page ∙ c.requires.placed)
@@ -91,8 +94,8 @@ settling {g = g} c =
       fixed = moving_movable v z.frames.unmovable sound.unmovable way.page way.serial way.source way.target at;
       counts = ap (λ (fs : Frames). fs.unmovable) (frames_are c);
       tables = c.to_present.ensures.replaced;
-      words = subst (λ (rows : List (List ℕ)). WordsSettled v.page_size z.words rows (Moving way.serial way.source way.target) (At way.target)) (sym c.fill_target.ensures)
-          (moved_words z.words (words_of z.words way.source) way.serial way.source way.target (omega (arith, target_here, sound.words.count)) refl (sound.words.sized way.source source_in));
+      words = subst (λ (rows : List (List ℕ)). WordsSettled v.page_size z.words.rows rows (Moving way.serial way.source way.target) (At way.target)) (sym (ap (λ w. w.rows) c.fill_target.ensures))
+          (moved_words z.words.rows (words_of z.words.rows way.source) way.serial way.source way.target (omega (arith, target_here, sound.words.count)) refl (sound.words.sized way.source source_in));
       notes = c.place.ensures c.get-note.result c.get-note.ensures;
       moves = subst (λ (moves : Moves). MovesFit moves (Moved way.serial ∷ v.records)) (sym c.arrive.ensures)
           (record { isolated = sound.moves.isolated; moved = ap (λ n. n + 1) sound.moves.moved; back = sound.moves.back });
@@ -103,8 +106,9 @@ settling {g = g} c =
       frames_same = c.to_present.ensures.frames;
       size_same = c.to_present.ensures.size;
       rest_same = refl;
-      contents_same = ap (λ (rows : List (List ℕ)). tabulated (contents_at g.row.W rows z.cleared z.handed_out) (length z.handed_out)) c.fill_target.ensures
-          ∙ contents_kept z v sound c.self.view_is way.target (words_of z.words way.source) (target_unheld c.self.view_is c.self.invariant c.args.way.now.page c.requires.placed);
+      lent_same = ap (λ w. w.lent) c.fill_target.ensures;
+      contents_same = ap (λ (rows : List (List ℕ)). tabulated (contents_at g.row.W rows z.cleared z.handed_out) (length z.handed_out)) (ap (λ w. w.rows) c.fill_target.ensures)
+          ∙ contents_kept z v sound c.self.view_is way.target (words_of z.words.rows way.source) (target_unheld c.self.view_is c.self.invariant c.args.way.now.page c.requires.placed);
     }
 
 pub invariant_of-self : goal.invariant_of-self

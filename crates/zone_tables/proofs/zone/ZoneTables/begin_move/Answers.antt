@@ -87,7 +87,7 @@ settling c =
       fixed = movable_only v pair.page is.from.movable;
       counts = ap (λ (fs : Frames). fs.unmovable) frames_are;
       tables = c.to_migration.ensures.replaced;
-      words = isolated_words z.words v sound.words (isolated v.records) pair.source pair.target (omega arith) target_in;
+      words = isolated_words z.words.rows v sound.words (isolated v.records) pair.source pair.target (omega arith) target_in;
       notes = c.place.ensures _ (noted c) ∙ ap (λ (n : ℕ). slice_set z.notes pair.page (record (note_of z pair.page) { placement = Some (Moving n pair.source pair.target) })) serial;
       moves = subst (λ (moves : Moves). MovesFit moves (Isolate pair.page (isolated v.records) ∷ v.records)) (sym c.isolate-serial.ensures.noted)
           (record { isolated = ap (λ n. n + 1) sound.moves.isolated; moved = sound.moves.moved; back = sound.moves.back });
@@ -98,6 +98,7 @@ settling c =
       frames_same = c.to_migration.ensures.frames;
       size_same = c.to_migration.ensures.size;
       rest_same = refl;
+      lent_same = refl;
       contents_same = refl;
     }
 

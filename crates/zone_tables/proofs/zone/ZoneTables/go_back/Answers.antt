@@ -75,7 +75,7 @@ settling c =
       fixed = moving_movable v z.frames.unmovable sound.unmovable way.page way.serial way.source way.target at;
       counts = ap (λ (fs : Frames). fs.unmovable) (frames_are c);
       tables = c.to_present.ensures.replaced;
-      words = back_words z.words v sound.words way.serial way.source way.target source_in;
+      words = back_words z.words.rows v sound.words way.serial way.source way.target source_in;
       notes = c.place.ensures c.get-note.result c.get-note.ensures;
       moves = subst (λ (moves : Moves). MovesFit moves (Back c.args.cause way.serial ∷ v.records)) (sym c.go_back.ensures)
           (record { isolated = sound.moves.isolated; moved = sound.moves.moved; back = ap (λ n. n + 1) sound.moves.back });
@@ -86,6 +86,7 @@ settling c =
       frames_same = c.to_present.ensures.frames;
       size_same = c.to_present.ensures.size;
       rest_same = refl;
+      lent_same = refl;
       contents_same = refl;
     }
 

@@ -52,8 +52,14 @@ copy-requires g c = (
   (
     away.apart c.self.view_is c.self.invariant _ c.requires.may_move c.requires.accepted,
     (
-      away.source_row c.self.view_is c.self.invariant _ c.requires.may_move c.requires.accepted,
-      away.target_row c.self.view_is c.self.invariant _ c.requires.may_move c.requires.accepted,
+      (
+        away.source_row c.self.view_is c.self.invariant _ c.requires.may_move c.requires.accepted,
+        away.source_here c.self.view_is c.self.invariant _ c.requires.may_move c.requires.accepted,
+      ),
+      (
+        away.target_row c.self.view_is c.self.invariant _ c.requires.may_move c.requires.accepted,
+        away.target_here c.self.view_is c.self.invariant _ c.requires.may_move c.requires.accepted,
+      ),
     ),
   ),
 )

@@ -7,6 +7,7 @@ use Rattle.state_core.proofs.Placed.{CanPlace}
 use Rattle.zone_tables.proofs.Facts.{is_sound, Becomes}
 use Rattle.zone_tables.proofs.FreshPage.{Placing, place_holds}
 use Rattle.zone_tables.proofs.Entries.{in_tables}
+use Rattle.zone_tables.proofs.LentBlocks.{free_here}
 use Rattle.zone_tables.proofs.ListedAddresses.{count_none, none_left}
 use Rattle.zone_tables.proofs.SearchesAndCounts.{free_seen}
 use Rattle.zone_tables.proofs.Tables.{placement_seen}
@@ -41,6 +42,11 @@ fill-requires-clause-few g c =
 pub fill-requires-clause-free : goal.fill-requires-clause-free
 fill-requires-clause-free g c =
     free_seen c.self.inside.frames.states c.args.self.now (is_sound c.self.view_is c.self.invariant).frames c.args.frame c.requires.within ∙ c.requires.free
+
+pub blank-requires : goal.blank-requires
+blank-requires g c =
+    let sound = is_sound c.self.view_is c.self.invariant in
+    (omega arith, (omega (arith, c.requires.within, sound.words.count), free_here c.self.inside c.args.self.now sound c.args.frame c.requires.free))
 
 pub add-requires-clause-within : goal.add-requires-clause-within
 add-requires-clause-within g c =

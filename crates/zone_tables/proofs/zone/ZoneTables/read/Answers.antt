@@ -11,7 +11,9 @@ use Rattle.zone_tables.proofs.zone.ZoneTables.read.Goals as goal
 use Rattle.zone_tables.proofs.zone.ZoneTables.read.Goals.{After-note}
 
 pub load-value-requires : goal.load-value-requires
-load-value-requires g c = omega (arith, (resident c.self.view_is c.self.invariant c.requires.frame).1.row_within)
+load-value-requires g c =
+    let is = (resident c.self.view_is c.self.invariant c.requires.frame).1 in
+    (omega arith, (omega arith, (is.row_within, is.here)))
 
 value_is : {g : Over} (c : After-note g) → c.load-value.result ≡ value_at c.args.self.now c.args.address c.args.word
 value_is c =

@@ -12,7 +12,8 @@ use Rattle.zone_tables.proofs.zone.ZoneTables.read_words.Goals.{After-note_each}
 
 pub load_words-requires : goal.load_words-requires
 load_words-requires g c =
-    (omega arith, ((resident c.self.view_is c.self.invariant c.requires.frame).1.row_within, omega (arith, c.get.ensures.value, c.requires.within)))
+    let is = (resident c.self.view_is c.self.invariant c.requires.frame).1 in
+    (omega arith, (is.row_within, (is.here, omega (arith, c.get.ensures.value, c.requires.within))))
 
 module _ {g : Over} (c : After-note_each g) where
   abbrev count : ℕ
@@ -29,7 +30,7 @@ module _ {g : Over} (c : After-note_each g) where
   values_are : c.load_words.new.values ≡ values_at c.args.self.now c.args.address c.args.from count
   values_are =
       c.load_words.ensures.values
-      ∙ ap (λ (from : ℕ). words_from c.self.inside.words c.args.frame from count) c.get.ensures.value
+      ∙ ap (λ (from : ℕ). words_from c.self.inside.words.rows c.args.frame from count) c.get.ensures.value
       ∙ words_read c.self.inside c.args.self.now reading.sound c.args.address c.args.frame c.args.from count c.requires.frame
       (omega (arith, c.requires.within, ap (λ (v : ZoneState). v.page_size) c.self.view_is))
 

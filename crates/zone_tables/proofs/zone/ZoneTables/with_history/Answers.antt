@@ -36,6 +36,7 @@ fresh c = record {
   tables = c.in_ok-frames.ensures.tables.0;
   tables_frames = c.in_ok-frames.ensures.tables.1;
   tables_size = c.in_ok-frames.ensures.size;
+  here = c.in_ok-frames.ensures.here;
   words = c.in_ok-frames.ensures.words;
   notes = c.in_ok-notes.ensures;
   handed_out = c.in_ok-handed_out.ensures.handed_out;

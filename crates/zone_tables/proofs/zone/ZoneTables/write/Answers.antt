@@ -21,7 +21,9 @@ unreachable-requires g c =
     c.in_default.not-Some is.0 (c.holder.ensures.holder ∙ is.1.held)
 
 pub store-requires : goal.store-requires
-store-requires g c = (omega arith, (omega arith, (resident c.self.view_is c.self.invariant c.requires.frame).1.row_within))
+store-requires g c =
+    let is = (resident c.self.view_is c.self.invariant c.requires.frame).1 in
+    (omega arith, (omega arith, (is.row_within, is.here)))
 
 -- the page that the frame holds
 its : {g : Over} (c : After-note g) → Resident c.self.inside c.args.self.now c.args.address c.args.frame c.in-Some.page

@@ -1,5 +1,6 @@
 use Rattle.std.proofs.Common.{◌≡◌, ℕ, ◌<◌, length, leb-true, ap, sym, ◌∙◌, arith}
 use Rattle.std.specs.Prelude.{Some, slice_get}
+use Rattle.frame_core.specs.LentWords.{with_rows}
 use Rattle.frame_core.specs.Words.{words_of, with_words, put_from}
 use Rattle.state_core.specs.Bulk.{stored_all}
 use Rattle.state_core.specs.ZoneState.{ZoneState}
@@ -26,7 +27,8 @@ unreachable-requires g c =
 
 pub store_words-requires : goal.store_words-requires
 store_words-requires g c =
-    (omega arith, ((resident c.self.view_is c.self.invariant c.requires.frame).1.row_within, omega (arith, c.get.ensures.value, c.requires.within)))
+    let is = (resident c.self.view_is c.self.invariant c.requires.frame).1 in
+    (omega arith, (is.row_within, (is.here, omega (arith, c.get.ensures.value, c.requires.within))))
 
 pub store-requires : goal.store-requires
 store-requires g c = use_seen c.self.inside c.self.view_is c.in-Some.page (resident_in c.self.view_is c.self.invariant c.requires.frame (sym c.holder.ensures.holder ∙ c.in-Some.is)).used
@@ -55,7 +57,7 @@ module _ {g : Over} (c : After-note_each g) where
 
   written : Becomes (record c.self.inside { words = c.store_words.new.self; notes = c.store.new.self; history = c.note_each.new.self }) (stored_all c.args.self.now c.args.client c.args.address c.args.from c.args.values.now)
   written =
-      let rows = c.store_words.ensures.stored ∙ ap (λ (from : ℕ). with_words c.self.inside.words c.args.frame (put_from (words_of c.self.inside.words c.args.frame) from c.args.values.now)) c.get.ensures.value in
+      let rows = c.store_words.ensures.stored ∙ ap (λ (from : ℕ). with_rows c.self.inside.words (with_words c.self.inside.words.rows c.args.frame (put_from (words_of c.self.inside.words.rows c.args.frame) from c.args.values.now))) c.get.ensures.value in
       let notes = c.store.ensures (note_of c.self.inside c.in-Some.page) seen in
       let history = c.note_each.ensures ∙ ap (λ (from : ℕ). told_stores c.self.inside.history c.args.client c.args.address from c.args.values.now) c.noted.ensures.value in
       stores_hold c.self.inside c.args.self.now c.args.client c.args.address c.in-Some.page c.args.frame c.args.from (note_of c.self.inside c.in-Some.page) c.args.values.now some writing rows notes history
