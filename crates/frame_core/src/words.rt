@@ -69,6 +69,7 @@ impl<const W: usize> Words<W> {
         ensures frames { IfOk result (λ words. length words.rows ≡ frames) }
         ensures here { IfOk result NoneLent }
         ensures at { IfOk result (λ words. (words.at ≡ memory.at) × (words.given ≡ true)) }
+        ensures sized { IfOk result (λ words. All (λ row. length row ≡ W) words.rows) }
         ensures refused { IfErr result (λ row. row ≡ memory) }
     {
         let Ok((blank_frames, lent_frames)) = open_sets(alloc, frames, blank) else {
@@ -92,6 +93,13 @@ impl<const W: usize> Words<W> {
     {
         let Words { ground, .. } = self;
         ground.end()
+    }
+
+    /// Whether the words lie in memory that was given.
+    pub fn is_given(&self) -> bool
+        ensures { result ≡ self.now.given }
+    {
+        self.ground.is_given()
     }
 
     /// How many words a page has.

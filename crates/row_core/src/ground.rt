@@ -121,6 +121,13 @@ impl Ground {
         None
     }
 
+    /// Whether the words lie in a row that somebody gave.
+    pub fn is_given(&self) -> bool
+        ensures { result ≡ self.now.given }
+    {
+        self.allocation.is_none()
+    }
+
     /// The words of a part that is here.
     #[inline(always)]
     pub fn part(&self, from: usize, count: usize) -> &[u64]

@@ -4,7 +4,7 @@ use Rattle.frame_core.specs.BlankFrames.{AreBlank}
 use Rattle.frame_core.specs.FrameSet.{has_frame}
 use Rattle.frame_core.specs.LentInside.{here_of}
 use Rattle.frame_core.specs.Words.{rows_of}
-use Rattle.frame_core.proofs.FlatRows.{given_blank, length-rows_of}
+use Rattle.frame_core.proofs.FlatRows.{given_blank, length-rows_of, rows_sized}
 use Rattle.frame_core.proofs.FrameSets.{none_in}
 use Rattle.frame_core.proofs.LentFrames.{here_of-replicate}
 use Rattle.frame_core.proofs.words.Words.open_in.Goals as goal
@@ -22,6 +22,9 @@ invariant_of-result g c =
 
 pub returns-clause-frames : goal.returns-clause-frames
 returns-clause-frames g c = length-rows_of g.row.W c.args.frames c.over.result.words
+
+pub returns-clause-sized : goal.returns-clause-sized
+returns-clause-sized g c = rows_sized g.row.W c.args.frames c.over.result.words (ap length c.over.ensures.words ∙ c.requires.count)
 
 pub returns-clause-here : goal.returns-clause-here
 returns-clause-here g c = λ frame. ap (λ lent. has_frame lent frame) c.in-Ok.ensures.1 ∙ none_in c.args.frames frame
