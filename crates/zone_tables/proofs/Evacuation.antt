@@ -42,7 +42,7 @@ use Rattle.zone_tables.specs.Moves.{Moves}
 use Rattle.zone_tables.specs.Notes.{placement_of, is_unmovable_of, says_unmovable}
 use Rattle.zone_tables.specs.Sound.{state_of, IsSound}
 use Rattle.zone_tables.specs.Tabulated.{tabulated}
-use Rattle.zone_tables.specs.Contents.{contents_at}
+use Rattle.zone_tables.specs.Contents.{contents_at, memory_of}
 use Rattle.zone_tables.proofs.Facts.{held_by, is_sound}
 use Rattle.zone_tables.proofs.HeldWords.{contents_kept, held_contents}
 use Rattle.zone_tables.proofs.LentBlocks.{free_here, words_here}
@@ -317,6 +317,7 @@ module _ {W : ℕ} {z changed : Inside W} {v : ZoneState} {m : Move} {note : Pag
         handed_out = tabulated (order_of (known.rest_same i).handed_out) (length (known.rest_same i).handed_out);
         contents = contents_same i;
         lent = gathered (is_lent_at (known.words i).lent (known.rest_same i).handed_out) (length (known.rest_same i).handed_out);
+        memory = memory_of (known.words i);
         placement = placement_new i;
         migrate = (known.rest_same i).fingers.migrate;
         free = (known.rest_same i).fingers.free;

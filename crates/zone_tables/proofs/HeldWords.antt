@@ -1,6 +1,6 @@
 -- The words of blocks that are handed out: which steps leave them, and what the others make of them.
 use Rattle.std.proofs.Common.{◌≡◌, ◌≢◌, ℕ, ◌+◌, ◌-◌, ◌^◌, ◌<◌, ◌≤◌, Bool, true, false, List, [], length, take, drop, get_or, ◌⊎◌, inl, inr, refl, sym, ap, subst, ◌∙◌, arith}
-use Rattle.std.specs.Prelude.{Option, Some, None, slice_get, slice_set, unwrap_or}
+use Rattle.std.specs.Prelude.{Option, Some, None, slice_get, slice_set, unwrap_or, if◌then◌else◌}
 use Rattle.std.specs.FinMap as map
 use Rattle.std.specs.FinSet as set
 use Rattle.std.specs.List.{All}
@@ -87,12 +87,12 @@ module _ {old new : List (List ℕ)} {first n : ℕ} {words : List ℕ} (has : H
       ∙ get_or-drop (first + n) old (frame - (first + n)) [] ∙ sym (ap (λ (i : ℕ). get_or old i []) at) ∙ sym (unwrap_or-slice_get old frame [])
 
 -- a block is written twice
-pub written_again : {old between new : List (List ℕ)} {first n : ℕ} {words then : List ℕ} → HasBlock old between first n words → HasBlock between new first n then → HasBlock old new first n then
+pub written_again : {old between new : List (List ℕ)} {first n : ℕ} {words next : List ℕ} → HasBlock old between first n words → HasBlock between new first n next → HasBlock old new first n next
 written_again a b = record { here = b.here; before = b.before ∙ a.before; after = b.after ∙ a.after; count = b.count ∙ a.count }
 
 -- and what is lent stays
 pub stays_again : (old between new : Words) → LentStays old between → LentStays between new → LentStays old new
-stays_again old between new a b = (b.0 ∙ a.0, b.1 ∙ a.1)
+stays_again old between new a b = (b.0 ∙ a.0, b.1 ∙ a.1, b.2 ∙ a.2)
 
 -- a frame outside a block is below its first frame or above its last
 pub off_block : (first order frame : ℕ) → in_block first order frame ≡ false → (frame < first) ⊎ (first + 2 ^ order ≤ frame)
@@ -176,7 +176,7 @@ module _ {W : ℕ} (z : Inside W) (v : ZoneState) (sound : IsSound z v) (view : 
       block_view =
           let table = tabulated_put (contents_at W z.words.rows z.cleared z.handed_out) (contents_at W rows flags z.handed_out) (length z.handed_out) first (Some words)
           (contents_past W z.words.rows z.cleared z.handed_out) (contents_past W rows flags z.handed_out) contents_here contents_there in
-          let here : state_of after_block ≡ record (state_of z) { contents = map.insert (state_of z).contents first words } = λ i. record (state_of z) { contents = table i; lent = gathered (is_lent_at (stays.1 i) z.handed_out) (length z.handed_out) } in
+          let here : state_of after_block ≡ record (state_of z) { contents = map.insert (state_of z).contents first words } = λ i. record (state_of z) { contents = table i; lent = gathered (is_lent_at (stays.1 i) z.handed_out) (length z.handed_out); memory = if stays.2 i then Some (stays.0 i) else None } in
           here ∙ ap (λ (s : ZoneState). record s { contents = map.insert s.contents first words }) view
 
       -- the frame with the words of a page is in no block

@@ -1,27 +1,30 @@
 -- The words of a block are lent, or come back: the tables still stand for the zone.
 use Rattle.std.proofs.Common.{◌≡◌, ◌≢◌, ℕ, ◌+◌, ◌*◌, ◌^◌, ◌<◌, ◌≤◌, Bool, true, false, List, [], ◌∷◌, length, replicate, inl, inr, refl, sym, ap, subst, ◌∙◌, arith}
-use Rattle.std.specs.Prelude.{Option, Some, None, is_some, ◌&&◌, if◌then◌else◌}
+use Rattle.std.specs.Prelude.{Option, Some, None, IsSome, is_none, is_some, not, ◌&&◌, if◌then◌else◌}
+use denote.RawPtr.{Ptr, ◌+ₚ◌}
 use Rattle.std.specs.FinMap as map
 use Rattle.std.specs.FinSet as set
 use Rattle.std.specs.List.{All}
+use Rattle.std.specs.Option.{option_map}
 use Rattle.std.specs.Ordering.{nat_cmp}
 use Rattle.std.proofs.lemmas.Bool.{both_ways, cases_Bool}
 use Rattle.std.proofs.lemmas.Bool.Decides.{eqb_tells, leb_tells}
 use Rattle.std.proofs.lemmas.Nat.{pow_pos}
+use Rattle.std.proofs.lemmas.Option.{same_Some}
 use Rattle.frame_core.specs.FrameSet.{has_frame, HasNow}
-use Rattle.frame_core.specs.LentWords.{Words}
+use Rattle.frame_core.specs.LentWords.{Words, place_of}
 use Rattle.frame_core.specs.Words.{HasBlock}
 use Rattle.scan_core.specs.Frames.{true_at}
 use Rattle.scan_core.specs.NumberSet.{gathered}
 use Rattle.state_core.specs.Contents.{contents_of}
-use Rattle.state_core.specs.Lending.{block_returned}
+use Rattle.state_core.specs.Lending.{block_place, block_returned}
 use Rattle.state_core.specs.Valid.{IsValidZone}
 use Rattle.state_core.specs.ZoneState.{ZoneState, covers}
 use Rattle.state_core.proofs.Contents.{length_contents, valid_contents_written}
 use Rattle.state_core.proofs.Entries.{contains_insert_same, contains_insert_other, contains_remove_same, contains_remove_other}
 use Rattle.state_core.proofs.HandingOut.{in_block}
 use Rattle.state_core.proofs.Lending.{valid_block_returned}
-use Rattle.zone_tables.specs.Contents.{contents_at, words_held}
+use Rattle.zone_tables.specs.Contents.{contents_at, memory_of, words_held}
 use Rattle.zone_tables.specs.Fits.{LentFit, WordsFit}
 use Rattle.zone_tables.specs.HandedOut.{order_of, is_lent_at}
 use Rattle.zone_tables.specs.Sound.{IsSound, state_of}
@@ -37,7 +40,7 @@ use Rattle.zone_tables.proofs.Tabulating.{gathered_put}
 abbrev pub away_then : set.FinSet nat_cmp → ℕ → Bool → set.FinSet nat_cmp
 away_then lent first goes = if goes then set.insert lent first else set.remove lent first
 
-module _ {W : ℕ} (z : Inside W) (v : ZoneState) (sound : IsSound z v) (view : state_of z ≡ v) (first order : ℕ) (at : map.get v.handed_out first ≡ Some order) (given : Words) (rows : given.rows ≡ z.words.rows) (goes : Bool) (now : HasNow z.words.lent given.lent first (2 ^ order) goes) where
+module _ {W : ℕ} (z : Inside W) (v : ZoneState) (sound : IsSound z v) (view : state_of z ≡ v) (first order : ℕ) (at : map.get v.handed_out first ≡ Some order) (given : Words) (rows : given.rows ≡ z.words.rows) (place : (given.at ≡ z.words.at) × (given.given ≡ z.words.given)) (goes : Bool) (now : HasNow z.words.lent given.lent first (2 ^ order) goes) where
   -- the fields after that
   abbrev after : Inside W
   after = record z { words = given }
@@ -87,7 +90,7 @@ module _ {W : ℕ} (z : Inside W) (v : ZoneState) (sound : IsSound z v) (view : 
   lent_view : state_of after ≡ record v { lent = away_then v.lent first goes }
   lent_view =
       let contents : tabulated (contents_at W given.rows z.cleared z.handed_out) (length z.handed_out) ≡ held_contents z = ap (λ (rs : List (List ℕ)). tabulated (contents_at W rs z.cleared z.handed_out) (length z.handed_out)) rows in
-      let here : state_of after ≡ record (state_of z) { lent = away_then (state_of z).lent first goes } = λ i. record (state_of z) { contents = contents i; lent = lent_put i } in
+      let here : state_of after ≡ record (state_of z) { lent = away_then (state_of z).lent first goes } = λ i. record (state_of z) { contents = contents i; lent = lent_put i; memory = if place.1 i then Some (place.0 i) else None } in
       here ∙ ap (λ (s : ZoneState). record s { lent = away_then s.lent first goes }) view
 
   lent_sound : (goes ≡ true → true_at z.cleared first ≡ true) → IsValidZone (record v { lent = away_then v.lent first goes }) → IsSound after (record v { lent = away_then v.lent first goes })
@@ -123,7 +126,7 @@ no_words [] none = refl
 no_words (word ∷ words) none = absurd (omega (arith, none))
 
 -- a row comes back, of a block whose words were lent wherever a page has words
-module _ {W : ℕ} (z : Inside W) (v : ZoneState) (sound : IsSound z v) (view : state_of z ≡ v) (first order : ℕ) (at : map.get v.handed_out first ≡ Some order) (given : Words) (place : given.at ≡ z.words.at) (words : List ℕ) (long : length words ≡ 2 ^ order * v.page_size)
+module _ {W : ℕ} (z : Inside W) (v : ZoneState) (sound : IsSound z v) (view : state_of z ≡ v) (first order : ℕ) (at : map.get v.handed_out first ≡ Some order) (given : Words) (place : (given.at ≡ z.words.at) × (given.given ≡ z.words.given)) (words : List ℕ) (long : length words ≡ 2 ^ order * v.page_size)
     (has : HasBlock z.words.rows given.rows first (2 ^ order) words) (now : HasNow z.words.lent given.lent first (2 ^ order) false) (was : 0 < v.page_size → set.contains v.lent first ≡ true) (sized : All (λ row. length row ≡ W) given.rows) where
   size : W ≡ v.page_size
   size = ap (λ (u : ZoneState). u.page_size) view
@@ -149,14 +152,46 @@ module _ {W : ℕ} (z : Inside W) (v : ZoneState) (sound : IsSound z v) (view : 
       (valid_contents_written v sound.valid first order at 0 words (omega (arith, long)))
 
   written_view : state_of (record z { words = back }) ≡ written
-  written_view = block_view z v sound view first order at back (place, refl) words has z.cleared (λ q ne. refl) (held (true_at z.cleared first) refl)
+  written_view = block_view z v sound view first order at back (place.0, refl, place.1) words has z.cleared (λ q ne. refl) (held (true_at z.cleared first) refl)
 
   written_sound : IsSound (record z { words = back }) written
   written_sound =
-      block_sound z v sound view first order at back (place, refl) words has z.cleared (λ q ne. refl) (held (true_at z.cleared first) refl)
+      block_sound z v sound view first order at back (place.0, refl, place.1) words has z.cleared (λ q ne. refl) (held (true_at z.cleared first) refl)
       refl (λ gone. sound.cleared.lent first gone) (map.insert v.contents first words) sized written_valid
 
   pub returned_holds : Becomes (record z { words = given }) (block_returned v first words)
   returned_holds =
-      lent_holds (record z { words = back }) written written_sound written_view first order at given refl false now (λ bad. absurd (both_ways false refl bad))
+      lent_holds (record z { words = back }) written written_sound written_view first order at given refl (refl, refl) false now (λ bad. absurd (both_ways false refl bad))
       (valid_block_returned v sound.valid first order at words long)
+
+-- the words of a zone lie in memory of its own, or of its caller
+module _ {W : ℕ} (z : Inside W) (v : ZoneState) (view : state_of z ≡ v) where
+  memory_seen : memory_of z.words ≡ v.memory
+  memory_seen = ap (λ (u : ZoneState). u.memory) view
+
+  pub own_seen : not z.words.given ≡ is_none v.memory
+  own_seen = by z.words.given ∙ ap is_none memory_seen where
+    by : (given : Bool) → not given ≡ is_none (if given then Some z.words.at else None)
+    by true = refl
+    by false = refl
+
+  module _ (first : ℕ) where
+    -- a block begins where its first frame does
+    pub block_placed : is_none v.memory ≡ false → Some (place_of W z.words first) ≡ block_place v first
+    block_placed lies = by z.words.given refl where
+      by : (given : Bool) → z.words.given ≡ given → Some (place_of W z.words first) ≡ block_place v first
+      by true e =
+          (let memory : Some z.words.at ≡ v.memory = sym (ap (λ (given : Bool). if given then Some z.words.at else None) e) ∙ memory_seen in
+          let size : W ≡ v.page_size = ap (λ (u : ZoneState). u.page_size) view in
+          λ i. option_map (λ (at : Ptr). at +ₚ first * size i * 8) (memory i))
+      by false e = absurd (both_ways _ lies (ap is_none (sym memory_seen ∙ ap (λ (given : Bool). if given then Some z.words.at else None) e)))
+
+    pub row_placed : (at : Ptr) → Some at ≡ block_place v first → at ≡ place_of W z.words first
+    row_placed at is = same_Some _ _ (is ∙ sym (block_placed (by v.memory refl))) where
+      by : (memory : Option Ptr) → v.memory ≡ memory → is_none v.memory ≡ false
+      by (Some place) e = ap is_none e
+      by None e = (let bad : Some at ≡ None = is ∙ ap (option_map (λ (p : Ptr). p +ₚ first * v.page_size * 8)) e in cc)
+
+pub is_given : (memory : Option Ptr) → is_none memory ≡ false → IsSome memory
+is_given (Some at) lies = refl
+is_given None lies = absurd (both_ways _ lies refl)

@@ -1,14 +1,16 @@
 -- A zone that was just opened.
-use Rattle.std.proofs.Common.{◌≡◌, ℕ, ◌*◌, ◌≤◌, Bool, true, false, List, [], length, replicate, sym, ap, ◌∙◌}
-use Rattle.std.specs.Prelude.{Option, Some, None, is_some, slice_get, unwrap_or, ◌&&◌}
+use Rattle.std.proofs.Common.{◌≡◌, ℕ, ◌*◌, ◌<◌, ◌≤◌, Bool, true, false, List, [], length, replicate, sym, ap, ◌∙◌, arith}
+use Rattle.std.specs.Prelude.{Option, Some, None, is_some, slice_get, unwrap_or, IfSome, ◌&&◌, if◌then◌else◌}
 use Rattle.std.specs.FinSet as set
 use Rattle.std.specs.FinMap as map
+use Rattle.std.specs.List.{All}
 use Rattle.std.specs.Option.{option_map, option_and_then}
 use Rattle.std.specs.Ordering.{nat_cmp}
 use Rattle.std.proofs.lemmas.Bool.{both_ways}
-use Rattle.std.proofs.lemmas.List.{length-replicate}
+use Rattle.std.proofs.lemmas.List.{get_or_default, length-replicate}
+use Rattle.std.proofs.lemmas.Option.{unwrap_or-slice_get}
 use Rattle.frame_core.proofs.Searches.{count_none}
-use Rattle.state_core.specs.ZoneState.{is_in_block}
+use Rattle.state_core.specs.ZoneState.{ZoneState, is_in_block}
 use Rattle.frame_core.proofs.Lists.{slice_get_replicate}
 use Rattle.frame_core.specs.declared.state.FrameState.TheVariants.{Free}
 use Rattle.table_core.specs.Tables.{IsBlank}
@@ -23,18 +25,20 @@ use Rattle.zone_tables.specs.declared.zone.ZoneTables.TheInside.{Inside}
 use Rattle.state_core.specs.declared.placement.Placement.{Placement}
 use Rattle.state_core.specs.declared.placement.Placement.TheVariants.{At}
 use Rattle.state_core.specs.declared.size.ZoneSize.{ZoneSize}
-use Rattle.state_core.specs.Opening.{opened_sized, IsZoneSize}
+use Rattle.state_core.specs.Opening.{opened_sized, places_of, HasPlaces, IsZoneSize}
 use Rattle.frame_core.specs.Journal.{unrecorded_places}
+use Rattle.state_core.specs.Valid.{IsValidZone}
+use denote.RawPtr.{Ptr}
 use Rattle.zone_tables.specs.Fits.{state_by}
 use Rattle.zone_tables.specs.Sound.{state_of, IsSound}
 use Rattle.scan_core.specs.Frames.{Frames, all_free, true_at}
-use Rattle.zone_tables.specs.Contents.{words_held, contents_at}
+use Rattle.zone_tables.specs.Contents.{words_held, contents_at, memory_of}
 use Rattle.zone_tables.specs.HandedOut.{order_of, is_lent_at}
 use Rattle.zone_tables.specs.Notes.{unused_note, placement_of, is_unmovable_of}
 use Rattle.scan_core.specs.NumberSet.{gathered}
 use Rattle.zone_tables.specs.Tabulated.{tabulated}
 use Rattle.zone_tables.proofs.Tabulating.{tabulated_none, gathered_none}
-use Rattle.state_core.proofs.Opened.{unheld, opened_valid}
+use Rattle.state_core.proofs.Opened.{unheld, opened_valid, opened_in_valid}
 use Rattle.state_core.proofs.Placed.{clash}
 
 -- the fields of a zone that was just opened
@@ -48,7 +52,8 @@ pub record IsFresh {W : ℕ} (z : Inside W) (number : ℕ) (size : ZoneSize) (pl
   pub tables_frames : z.tables.frames ≡ 512 * size.blocks
   pub tables_size : z.tables.entries.size ≡ record { spaces = size.spaces; pages = size.vpages }
   pub here : NoneLent z.words
-  pub words : z.words.rows ≡ replicate (512 * size.blocks) (blank_words W)
+  pub count : length z.words.rows ≡ 512 * size.blocks
+  pub sized : All (λ row. length row ≡ W) z.words.rows
   pub notes : z.notes ≡ replicate (512 * size.blocks) unused_note
   pub handed_out : z.handed_out ≡ replicate (512 * size.blocks) None
   pub cleared : z.cleared ≡ replicate (512 * size.blocks) false
@@ -60,7 +65,11 @@ pub record IsFresh {W : ℕ} (z : Inside W) (number : ℕ) (size : ZoneSize) (pl
   pub moves : z.moves ≡ record { isolated = 0; moved = 0; back = 0 }
   pub history : z.history ≡ record { records = []; room = places; round = None }
 
-pub opened_view : {W : ℕ} (z : Inside W) (number : ℕ) (size : ZoneSize) (places : ℕ) → IsFresh z number size places → state_of z ≡ opened_sized W number size places
+-- the state of such a zone
+abbrev pub opened : {W : ℕ} → Inside W → ℕ → ZoneSize → ℕ → ZoneState
+opened {W} z number size places = record (opened_sized W number size places) { memory = memory_of z.words }
+
+pub opened_view : {W : ℕ} (z : Inside W) (number : ℕ) (size : ZoneSize) (places : ℕ) → IsFresh z number size places → state_of z ≡ opened z number size places
 opened_view {W} z number size places fresh =
     let u : gathered (is_unmovable_of z.notes) (length z.notes) ≡ set.empty =
     gathered_none (is_unmovable_of z.notes) (length z.notes) (λ page. ap (λ (ns : List PageNote). is_unmovable_of ns page) fresh.notes ∙ all_movable (512 * size.blocks) page) in
@@ -90,18 +99,33 @@ opened_view {W} z number size places fresh =
       handed_out = h i;
       contents = c i;
       lent = l i;
+      memory = memory_of z.words;
       placement = p i;
       migrate = (fresh.fingers i).migrate;
       free = (fresh.fingers i).free;
       round = (fresh.history i).round;
     }
 
-some_eight : (size : ℕ) (rows : List (List ℕ)) (frame : ℕ) → slice_get rows frame ≡ Some (blank_words size) → length (words_of rows frame) ≡ size
-some_eight size rows frame e = ap (λ (o : Option (List ℕ)). length (unwrap_or o [])) e ∙ length-replicate size 0
+-- a journal that is kept has no more places than one that is unrecorded
+pub few_places : (places : Option ℕ) → IfSome places HasPlaces → places_of places ≤ unrecorded_places
+few_places None has = omega arith
+few_places (Some places) has = omega (arith, has.1)
 
-pub opened_sound : {W : ℕ} (z : Inside W) (number : ℕ) (size : ZoneSize) (places : ℕ) → IsFresh z number size places → IsSound z (opened_sized W number size places)
+-- each row of blank words has those of a page
+pub blank_sized : (size n : ℕ) (rows : List (List ℕ)) → rows ≡ replicate n (blank_words size) → All (λ row. length row ≡ size) rows
+blank_sized size n rows blank k d h =
+    let within : k < n = omega (arith, h, ap length blank ∙ length-replicate n (blank_words size)) in
+    let row = ap (λ (rs : List (List ℕ)). slice_get rs k) blank ∙ slice_get_replicate n k (blank_words size) within in
+    ap length (get_or_default rows k d [] h ∙ sym (unwrap_or-slice_get rows k [])) ∙ ap (λ (o : Option (List ℕ)). length (unwrap_or o [])) row ∙ length-replicate size 0
+
+-- it is valid, whether its words lie in memory of its own or of its caller
+opened_holds : (size_of number : ℕ) (size : ZoneSize) (places : ℕ) → IsZoneSize size → places ≤ unrecorded_places → (given : Bool) (at : Ptr) → IsValidZone (record (opened_sized size_of number size places) { memory = if given then Some at else None })
+opened_holds size_of number size places allowed few true at = opened_in_valid size_of number size places at allowed few
+opened_holds size_of number size places allowed few false at = opened_valid size_of number size places allowed few
+
+pub opened_sound : {W : ℕ} (z : Inside W) (number : ℕ) (size : ZoneSize) (places : ℕ) → IsFresh z number size places → IsSound z (opened z number size places)
 opened_sound {W} z number size places fresh = record {
-  valid = opened_valid W number size places fresh.allowed fresh.few;
+  valid = opened_holds W number size places fresh.allowed fresh.few z.words.given z.words.at;
   orders = ap length fresh.handed_out ∙ length-replicate (512 * size.blocks) None;
   cleared = record {
     count = ap length fresh.cleared ∙ length-replicate (512 * size.blocks) false;
@@ -119,8 +143,8 @@ opened_sound {W} z number size places fresh = record {
   };
   entries = record { each = λ address range. fresh.tables address };
   words = record {
-    count = ap length fresh.words ∙ length-replicate (512 * size.blocks) (blank_words W);
-    sized = λ frame h. some_eight W z.words.rows frame (ap (λ (rows : List (List ℕ)). slice_get rows frame) fresh.words ∙ slice_get_replicate (512 * size.blocks) frame (blank_words W) h);
+    count = fresh.count;
+    sized = λ frame h. ap length (unwrap_or-slice_get z.words.rows frame []) ∙ fresh.sized frame [] (omega (arith, h, fresh.count));
     each = λ page placement word e h. (let bad : None ≡ Some placement = sym (map.get-empty nat_cmp page) ∙ e in cc);
   };
   lent = record { of_block = λ first order e. (let bad : None ≡ Some order = sym (map.get-empty nat_cmp first) ∙ e in cc); others = λ frame off. fresh.here frame };

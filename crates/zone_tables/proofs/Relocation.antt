@@ -28,6 +28,7 @@ use Rattle.state_core.specs.Carrying.{relocated}
 use Rattle.state_core.specs.Swept.{SweptIfQuiet}
 use Rattle.zone_tables.specs.HandedOut.{order_of, is_lent_at}
 use Rattle.zone_tables.specs.History.{told}
+use Rattle.zone_tables.specs.Contents.{memory_of}
 use Rattle.zone_tables.specs.Sound.{state_of, IsSound}
 use Rattle.scan_core.specs.Frames.{true_at}
 use Rattle.scan_core.specs.NumberSet.{gathered}
@@ -132,6 +133,7 @@ pub record Settling {W : ℕ} (z changed : Inside W) (v : ZoneState) (page : ℕ
   pub size_same : changed.tables.entries.size ≡ z.tables.entries.size
   pub rest_same : record changed { frames = z.frames; tables = z.tables; words = z.words; notes = z.notes; moves = z.moves; fingers = z.fingers; history = z.history } ≡ z
   pub lent_same : changed.words.lent ≡ z.words.lent
+  pub memory_same : memory_of changed.words ≡ memory_of z.words
   pub contents_same : held_contents changed ≡ held_contents z
 
 module _ {W : ℕ} {z changed : Inside W} {v : ZoneState} {page : ℕ} {old new : Placement} {entry : Record} {note : PageNote} {migrate free : ℕ} (known : Settling z changed v page old new entry note migrate free) where
@@ -238,6 +240,7 @@ module _ {W : ℕ} {z changed : Inside W} {v : ZoneState} {page : ℕ} {old new 
         handed_out = tabulated (order_of (known.rest_same i).handed_out) (length (known.rest_same i).handed_out);
         contents = known.contents_same i;
         lent = gathered (is_lent_at (known.lent_same i) (known.rest_same i).handed_out) (length (known.rest_same i).handed_out);
+        memory = known.memory_same i;
         placement = placement_new i;
         migrate = (known.fingers_are i).migrate;
         free = (known.fingers_are i).free;

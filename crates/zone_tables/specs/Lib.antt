@@ -1,5 +1,6 @@
 pub mod Contents
 pub mod Fits
+pub mod Fresh
 pub mod HandedOut
 pub mod HandedOutInside
 pub mod History

@@ -3,7 +3,7 @@ use Rattle.std.specs.Prelude.{◌≡◌, ℕ, ◌≤◌, length}
 use Rattle.zone_tables.specs.declared.zone.ZoneTables.TheInside.{Inside}
 use Rattle.state_core.specs.ZoneState.{ZoneState, frame_count}
 use Rattle.state_core.specs.Valid.{IsValidZone}
-use Rattle.zone_tables.specs.Contents.{contents_at}
+use Rattle.zone_tables.specs.Contents.{contents_at, memory_of}
 use Rattle.zone_tables.specs.Fits.{table_size, FramesFit, EntriesFit, WordsFit, LentFit, ClearedFit, NotesFit, MovesFit, MovableFit, UnmovableFit}
 use Rattle.zone_tables.specs.HandedOut.{order_of, is_lent_at}
 use Rattle.zone_tables.specs.Notes.{placement_of, is_unmovable_of}
@@ -28,6 +28,7 @@ state_of {W} z = record {
   handed_out = tabulated (order_of z.handed_out) (length z.handed_out);
   contents = tabulated (contents_at W z.words.rows z.cleared z.handed_out) (length z.handed_out);
   lent = gathered (is_lent_at z.words.lent z.handed_out) (length z.handed_out);
+  memory = memory_of z.words;
   placement = tabulated (placement_of z.notes) (length z.notes);
   migrate = z.fingers.migrate;
   free = z.fingers.free;

@@ -15,7 +15,7 @@ use Rattle.zone_tables.specs.declared.zone.ZoneTables.TheInside.{Inside}
 use Rattle.state_core.specs.declared.placement.Placement.TheVariants.{At, Moving}
 use Rattle.state_core.specs.Carrying.{relocated, words_now}
 use Rattle.state_core.specs.Ending.{IsSettled, target_of}
-use Rattle.zone_tables.specs.Contents.{contents_at}
+use Rattle.zone_tables.specs.Contents.{contents_at, memory_of}
 use Rattle.zone_tables.specs.Tabulated.{tabulated}
 use Rattle.state_core.specs.ZoneState.{ZoneState}
 use Rattle.state_core.proofs.Facts.{not_none}
@@ -107,6 +107,7 @@ settling {g = g} c =
       size_same = c.to_present.ensures.size;
       rest_same = refl;
       lent_same = ap (λ w. w.lent) c.fill_target.ensures;
+      memory_same = ap memory_of c.fill_target.ensures;
       contents_same = ap (λ (rows : List (List ℕ)). tabulated (contents_at g.row.W rows z.cleared z.handed_out) (length z.handed_out)) (ap (λ w. w.rows) c.fill_target.ensures)
           ∙ contents_kept z v sound c.self.view_is way.target (words_of z.words.rows way.source) (target_unheld c.self.view_is c.self.invariant c.args.way.now.page c.requires.placed);
     }

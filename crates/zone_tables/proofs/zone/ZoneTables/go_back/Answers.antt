@@ -87,6 +87,7 @@ settling c =
       size_same = c.to_present.ensures.size;
       rest_same = refl;
       lent_same = refl;
+      memory_same = refl;
       contents_same = refl;
     }
 

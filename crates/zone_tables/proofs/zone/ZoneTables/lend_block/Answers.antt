@@ -1,6 +1,7 @@
-use Rattle.std.proofs.Common.{◌≡◌, ℕ, true, ap, sym, subst, ◌∙◌, arith}
+use Rattle.std.proofs.Common.{◌≡◌, ℕ, ◌*◌, true, ap, sym, subst, ◌∙◌, arith}
 use Rattle.std.specs.Prelude.{Some}
 use Rattle.std.specs.FinMap as map
+use denote.RawPtr.{Ptr, ◌+ₚ◌}
 use Rattle.frame_core.specs.FrameSet.{HasNow}
 use Rattle.frame_core.specs.Words.{block_words}
 use Rattle.state_core.specs.Lending.{block_lent}
@@ -12,7 +13,7 @@ use Rattle.zone_tables.proofs.Facts.{is_sound, Becomes}
 use Rattle.zone_tables.proofs.BlockFrames.{order_held}
 use Rattle.zone_tables.proofs.BlockWords.{is_noted, read_holds, rows_sized, still_here, words_read}
 use Rattle.zone_tables.proofs.HeldWords.{block_listed, block_rows}
-use Rattle.zone_tables.proofs.LendingBlocks.{lent_holds}
+use Rattle.zone_tables.proofs.LendingBlocks.{block_placed, is_given, lent_holds}
 use Rattle.zone_tables.proofs.LentBlocks.{block_here}
 use Rattle.zone_tables.proofs.zone.ZoneTables.lend_block.Given.{Over}
 use Rattle.zone_tables.proofs.zone.ZoneTables.lend_block.Goals as goal
@@ -51,10 +52,10 @@ module _ {g : Over} (c : After-lend_block g) where
 
   lends : Becomes (record cleared { words = c.lend_block.new.self }) (block_lent c.args.self.now c.args.first)
   lends =
-      lent_holds cleared c.args.self.now (is_sound clears.1 clears.0) clears.1 c.args.first c.args.order at c.lend_block.new.self c.lend_block.ensures.rows true
+      lent_holds cleared c.args.self.now (is_sound clears.1 clears.0) clears.1 c.args.first c.args.order at c.lend_block.new.self c.lend_block.ensures.rows c.lend_block.ensures.at true
       (subst (λ (n : ℕ). HasNow c.clear.new.words.lent c.lend_block.new.self.lent c.args.first n true) c.frames.ensures.value c.lend_block.ensures.lent)
       (λ goes. is_noted c.self.inside c.args.self.now sound c.self.view_is c.args.first c.args.order at _ c.clear.ensures.noted c.clear.new.words c.clear.ensures.lent)
-      (valid_block_lent c.args.self.now sound.valid c.args.first c.args.order at)
+      (valid_block_lent c.args.self.now sound.valid c.args.first c.args.order at (is_given c.args.self.now.memory c.in_ok-may_lend.ensures.given))
 
 pub invariant_of-self : goal.invariant_of-self
 invariant_of-self g c = (lends c).0
@@ -63,6 +64,11 @@ pub returns-clause-words : goal.returns-clause-words
 returns-clause-words g c =
     c.lend_block.ensures.row.1 ∙ ap (block_words c.clear.new.words.rows c.args.first) c.frames.ensures.value
     ∙ words_read c.self.inside c.args.self.now (sound c) c.self.view_is c.args.first c.args.order (at c) _ c.clear.ensures.noted c.clear.new.words c.clear.ensures.lent c.clear.ensures.words
+
+pub returns-clause-place : goal.returns-clause-place
+returns-clause-place g c =
+    ap Some c.lend_block.ensures.row.0 ∙ ap (λ (at : Ptr). Some (at +ₚ c.args.first * g.row.W * 8)) c.clear.ensures.lent.0
+    ∙ block_placed c.self.inside c.args.self.now c.self.view_is c.args.first c.in_ok-may_lend.ensures.given
 
 pub returns-clause-ok : goal.returns-clause-ok
 returns-clause-ok g c = (lends c).1
