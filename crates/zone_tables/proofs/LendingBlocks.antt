@@ -1,6 +1,6 @@
 -- The words of a block are lent, or come back: the tables still stand for the zone.
 use Rattle.std.proofs.Common.{◌≡◌, ◌≢◌, ℕ, ◌+◌, ◌*◌, ◌^◌, ◌<◌, ◌≤◌, Bool, true, false, List, [], ◌∷◌, length, replicate, inl, inr, refl, sym, ap, subst, ◌∙◌, arith}
-use Rattle.std.specs.Prelude.{Option, Some, None, IsSome, is_none, is_some, not, ◌&&◌, if◌then◌else◌}
+use Rattle.std.specs.Prelude.{Option, Some, None, IfSome, IsSome, is_none, is_some, not, ◌&&◌, if◌then◌else◌}
 use denote.RawPtr.{Ptr, ◌+ₚ◌}
 use Rattle.std.specs.FinMap as map
 use Rattle.std.specs.FinSet as set
@@ -14,6 +14,7 @@ use Rattle.std.proofs.lemmas.Option.{same_Some}
 use Rattle.frame_core.specs.FrameSet.{has_frame, HasNow}
 use Rattle.frame_core.specs.LentWords.{Words, place_of}
 use Rattle.frame_core.specs.Words.{HasBlock}
+use Rattle.row_core.specs.Seen.{Row}
 use Rattle.scan_core.specs.Frames.{true_at}
 use Rattle.scan_core.specs.NumberSet.{gathered}
 use Rattle.state_core.specs.Contents.{contents_of}
@@ -195,3 +196,10 @@ module _ {W : ℕ} (z : Inside W) (v : ZoneState) (view : state_of z ≡ v) wher
 pub is_given : (memory : Option Ptr) → is_none memory ≡ false → IsSome memory
 is_given (Some at) lies = refl
 is_given None lies = absurd (both_ways _ lies refl)
+
+-- memory that comes back is that which was given
+pub row_back : (back : Option Row) (given : Bool) (at : Ptr) → is_some back ≡ given → IfSome back (λ row. row.at ≡ at) → option_map (λ row. row.at) back ≡ (if given then Some at else None)
+row_back (Some row) true at is same = ap Some same
+row_back (Some row) false at is same = absurd (both_ways _ is refl)
+row_back None true at is same = absurd (both_ways _ refl is)
+row_back None false at is same = refl

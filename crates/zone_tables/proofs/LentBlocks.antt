@@ -3,16 +3,18 @@ use Rattle.std.proofs.Common.{◌≡◌, ℕ, ◌^◌, ◌<◌, true, false, len
 use Rattle.std.specs.Prelude.{Option, Some, None, IsSome, is_some, slice_set, ◌&&◌}
 use Rattle.std.specs.FinMap as map
 use Rattle.std.specs.FinSet as set
+use Rattle.std.specs.Ordering.{nat_cmp}
 use Rattle.std.proofs.lemmas.Bool.{both_ways, cases_Bool, false_from_ne_true, or_left}
 use Rattle.std.proofs.lemmas.Bool.Decides.{eqb_tells}
 use Rattle.std.proofs.lemmas.List.{length-set}
 use Rattle.std.proofs.lemmas.Nat.{pow_pos}
+use Rattle.frame_core.proofs.Searches.{some_one}
 use Rattle.frame_core.specs.FrameSet.{has_frame}
 use Rattle.frame_core.specs.LentWords.{IsHere}
 use Rattle.scan_core.specs.NumberSet.{gathered}
 use Rattle.state_core.specs.HandingOut.{is_run, block_taken, block_given}
 use Rattle.state_core.specs.declared.placement.Placement.{Placement}
-use Rattle.state_core.specs.ZoneState.{ZoneState, covers, is_free, is_held, is_handed_out, takes_up, words_frame}
+use Rattle.state_core.specs.ZoneState.{ZoneState, covers, frame_count, is_free, is_held, is_handed_out, takes_up, words_frame}
 use Rattle.state_core.proofs.Claiming.{handed_by}
 use Rattle.state_core.proofs.Entries.{get_insert_same, get_insert_other, get_remove_same, get_remove_other}
 use Rattle.state_core.proofs.Facts.{takes_own}
@@ -54,6 +56,18 @@ module _ {W : ℕ} (z : Inside W) (v : ZoneState) (sound : IsSound z v) where
 
   pub block_here : (first order : ℕ) → map.get v.handed_out first ≡ Some order → set.contains v.lent first ≡ false → IsHere z.words first (2 ^ order)
   block_here first order at back frame least most = sound.lent.of_block first order at frame least most ∙ back
+
+  -- where no block is lent, no frame is
+  pub none_lent : v.lent ≡ set.empty → (frame : ℕ) → has_frame z.words.lent frame ≡ false
+  none_lent none frame = elim (cases_Bool (is_handed_out v frame)) [
+    | inl held ↦ (let at = some_one (λ first. covers (map.get v.handed_out first) first frame) (frame_count v) held in by at.0 (map.get v.handed_out at.0) refl at.2)
+    | inr free ↦ sound.lent.others frame (λ first. false_from_ne_true _ (λ covered. both_ways _ free (handed_by v sound.valid first frame covered)))
+  ] where
+    by : (first : ℕ) (o : Option ℕ) → map.get v.handed_out first ≡ o → covers (map.get v.handed_out first) first frame ≡ true → has_frame z.words.lent frame ≡ false
+    by first None at covered = absurd (both_ways _ (ap (λ (o : Option ℕ). covers o first frame) at) covered)
+    by first (Some order) at covered =
+        (let parts = blocks.in_block_parts first order frame (sym (ap (λ (o : Option ℕ). covers o first frame) at) ∙ covered) in
+        sound.lent.of_block first order at frame parts.0 parts.1 ∙ ap (λ (lent : set.FinSet nat_cmp). set.contains lent first) none ∙ set.contains-empty nat_cmp first)
 
 -- a free block is handed out: none of it is lent
 module _ {W : ℕ} (z : Inside W) (v : ZoneState) (sound : IsSound z v) (view : state_of z ≡ v) (first order : ℕ) (run : is_run v order first ≡ true) where

@@ -1,6 +1,7 @@
 ghost use Rattle.std.specs.Prelude.{◌≡◌, ◌≤◌, ◌*◌, [], None, false, length, replicate, IsTrue, IfOk, IfErr, IfSome};
 ghost use Rattle.std.specs.FinSet as set;
 ghost use Rattle.std.specs.List.{All};
+ghost use Rattle.std.specs.Option.{option_map};
 ghost use Rattle.frame_core.specs.LentWords.{NoneLent};
 ghost use Rattle.scan_core.specs.Frames.{all_free};
 ghost use Rattle.table_core.specs.Tables.{IsBlank};
@@ -68,6 +69,16 @@ impl<const W: usize> ZoneTables<W> {
         };
         let words = WordsOf::open_in(alloc, 512 * size.blocks, memory, blank)?;
         Ok(Self::of(number, size, parts, words))
+    }
+
+    /// Ends the zone, no words of which may be lent. Memory that its caller gave comes back, and other memory is given back to the system.
+    pub fn end(self) -> Option<Row>
+        requires { self.lent ≡ set.empty }
+        ensures at { option_map (λ row. row.at) result ≡ self.entry.memory }
+        ensures count { IfSome result (λ row. length row.words ≡ 512 * self.entry.blocks * self.entry.page_size) }
+    {
+        let ZoneTables { words, .. } = self;
+        words.end()
     }
 
     /// The empty zone that these make up.
