@@ -12,7 +12,7 @@ use Rattle.frame_core.specs.Moves.{out, put_back}
 use Rattle.state_core.specs.declared.call.ZoneAnswer.TheVariants.{Mapped, Frame, Value}
 use Rattle.state_core.specs.declared.call.ZoneCall.{ZoneCall}
 use Rattle.state_core.specs.declared.call.ZoneCall.TheVariants.{Map, MapAt, Load, Store, Share, Unmap, Pin, Unpin, TakeOrder, GiveOrder, Mark, Unmark}
-use Rattle.state_core.specs.declared.error.ZoneError.TheVariants.{JournalFull, Occupied, NoFrame, Range, ShareFull, Unmapped, PinFull, NotPinned, Pinned, NoBlock, NotHuge, Marked, NotMarked}
+use Rattle.state_core.specs.declared.error.ZoneError.TheVariants.{JournalFull, Occupied, NoFrame, Range, ShareFull, Unmapped, PinFull, NotPinned, Pinned, NoBlock, NotHuge, Marked, NotMarked, Lent}
 use Rattle.state_core.specs.declared.information.Look.TheVariants as look
 use Rattle.state_core.specs.declared.placement.Placement.{Placement}
 use Rattle.state_core.specs.declared.placement.Placement.TheVariants.{At, Moving}
@@ -137,7 +137,7 @@ module _ (z w : ZoneState) (same : IsSame z w) where
   give_agrees : (first order : ℕ) → give_order_refusal z first order ≡ give_order_refusal w first order
   give_agrees first order = λ i.
       cond (not (has_block (line z w same i) order first)) (Some Range)
-      (cond (not (room_same z w same i)) (Some JournalFull) (cond (not (is_order (map.get (same.handed_out i) first) order)) (Some NotHuge) None))
+      (cond (not (room_same z w same i)) (Some JournalFull) (cond (not (is_order (map.get (same.handed_out i) first) order)) (Some NotHuge) (cond (set.contains (same.lent i) first) (Some Lent) None)))
 
   pub taken_agrees : (first order : ℕ) → IsSame (block_taken z first order) (block_taken w first order)
   taken_agrees first order =

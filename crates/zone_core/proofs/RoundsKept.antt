@@ -29,6 +29,8 @@ module _ (z w : ZoneState) (rest_z : IsAtRest z) (rest_w : IsAtRest w) (same : I
     claimed = same.claimed i;
     handed_out = same.handed_out i;
     contents = same.contents i;
+    lent = same.lent i;
+    memory = same.memory i;
     frame = λ page. final_frame (map.get (same.placement i) page);
     migrate = 0;
     free = 512 * same.blocks i;

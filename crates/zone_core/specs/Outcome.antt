@@ -3,6 +3,7 @@ use Rattle.std.specs.Prelude.{◌≡◌, ℕ, Bool, ◌+◌, ◌-◌, List, [], 
 use Rattle.std.specs.FinMap as map
 use Rattle.std.specs.FinSet as set
 use Rattle.std.specs.Ordering.{nat_cmp}
+use denote.RawPtr.{Ptr}
 use Rattle.frame_core.specs.declared.record.Record.{Record}
 use Rattle.frame_core.specs.declared.record.Record.TheVariants.{Moved, Back}
 use Rattle.frame_core.specs.Moves.{out, put_back}
@@ -42,6 +43,8 @@ pub record Outcome : Type 0 where
   pub claimed : set.FinSet nat_cmp
   pub handed_out : map.FinMap nat_cmp ℕ
   pub contents : map.FinMap nat_cmp (List ℕ)
+  pub lent : set.FinSet nat_cmp
+  pub memory : Option Ptr
   pub frame : ℕ → Option ℕ
   pub migrate : ℕ
   pub free : ℕ
@@ -64,6 +67,8 @@ outcome_of z = record {
   claimed = z.claimed;
   handed_out = z.handed_out;
   contents = z.contents;
+  lent = z.lent;
+  memory = z.memory;
   frame = λ page. final_frame (map.get z.placement page);
   migrate = z.migrate;
   free = z.free;
@@ -86,6 +91,8 @@ pub record IsSame (z w : ZoneState) : Type 0 where
   pub claimed : z.claimed ≡ w.claimed
   pub handed_out : z.handed_out ≡ w.handed_out
   pub contents : z.contents ≡ w.contents
+  pub lent : z.lent ≡ w.lent
+  pub memory : z.memory ≡ w.memory
   -- the same calls in the same order, and as many moves that ended either way
   pub records : without_ends z.records ≡ without_ends w.records
   pub length_is : length z.records ≡ length w.records

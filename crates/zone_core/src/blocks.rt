@@ -34,7 +34,7 @@ impl<const W: usize, I: Ledger, M: Ledger, B: Ledger> Zone<W, I, M, B> {
 
     /// Takes back a block that was handed out, by its first frame and its order. All of its frames are free again.
     ///
-    /// Refused as Range where the zone has no such block, as JournalFull, or as NotHuge where the block isn't handed out.
+    /// Refused as Range where the zone has no such block, as JournalFull, as NotHuge where the block isn't handed out, or as Lent.
     pub fn give_order(&mut self, first: FrameNo, order: Order) -> Result<(), ZoneError>
         ensures refused { result_err result ≡ give_order_refusal self.old first order }
         ensures err { OnErr result (self.new ≡ self.old) }
@@ -65,7 +65,8 @@ impl<const W: usize, I: Ledger, M: Ledger, B: Ledger> Zone<W, I, M, B> {
 
     /// Takes back a pageblock that was handed out as one block.
     ///
-    /// Refused as Range where the zone has no such pageblock, as JournalFull, or as NotHuge where the pageblock isn't handed out.
+    /// Refused as Range where the zone has no such pageblock, as JournalFull, as NotHuge where the pageblock isn't handed out, or as
+    /// Lent.
     pub fn give_huge(&mut self, block: BlockNo) -> Result<(), ZoneError>
         ensures refused { result_err result ≡ give_order_refusal self.old (512 * block) 9 }
         ensures err { OnErr result (self.new ≡ self.old) }

@@ -24,8 +24,8 @@ impl<const W: usize, I: Ledger, M: Ledger, B: Ledger> Zone<W, I, M, B> {
     /// this project's own rule: the kernel clears a huge page before it is handed out. No record is written, and a full journal
     /// refuses nothing.
     ///
-    /// Refused as NotHuge where no block of this order is handed out from this frame on, or as Range where the words go past
-    /// its last one.
+    /// Refused as NotHuge where no block of this order is handed out from this frame on, as Range where the words go past
+    /// its last one, or as Lent.
     pub fn read_block(
         &mut self,
         first: FrameNo,
@@ -46,8 +46,8 @@ impl<const W: usize, I: Ledger, M: Ledger, B: Ledger> Zone<W, I, M, B> {
 
     /// Writes words of a block that is handed out, from one on. No page and no other block changes.
     ///
-    /// Refused as NotHuge where no block of this order is handed out from this frame on, or as Range where the words go past
-    /// its last one.
+    /// Refused as NotHuge where no block of this order is handed out from this frame on, as Range where the words go past
+    /// its last one, or as Lent.
     pub fn write_block(
         &mut self,
         first: FrameNo,

@@ -274,7 +274,7 @@ impl<const W: usize> BareZone<W> {
 
     /// Takes back a block that was handed out, by its first frame and its order.
     ///
-    /// Refused as Range where the zone has no such block, as JournalFull, or as NotHuge where the block isn't handed out.
+    /// Refused as Range where the zone has no such block, as JournalFull, as NotHuge where the block isn't handed out, or as Lent.
     #[inline(always)]
     pub fn give_order(&mut self, first: FrameNo, order: Order) -> Result<(), ZoneError>
         ensures made { IsMade {W = W} (call.GiveOrder first order) 0 self.old self.new result }
@@ -288,6 +288,9 @@ impl<const W: usize> BareZone<W> {
         }
         if !self.tables.is_handed_out(first, order) {
             return Err(ZoneError::NotHuge);
+        }
+        if self.tables.is_lent(first) {
+            return Err(ZoneError::Lent);
         }
         self.tables.take_back(first, order);
         Ok(())

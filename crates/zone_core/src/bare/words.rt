@@ -1,7 +1,8 @@
 //! Reading and writing several words in one call: of a page, or of a block that is handed out.
 
-ghost use Rattle.std.specs.Prelude.{◌≡◌, ◌+◌, ◌*◌, ◌^◌, ◌≤◌, ℕ, List, length, IsTrue, IfOk, OnOk, OnErr};
+ghost use Rattle.std.specs.Prelude.{◌≡◌, ◌+◌, ◌*◌, ◌^◌, ◌≤◌, ℕ, List, false, length, IsTrue, IfOk, OnOk, OnErr};
 ghost use Rattle.std.specs.FinMap as map;
+ghost use Rattle.std.specs.FinSet as set;
 ghost use Rattle.std.specs.Fn.{FnOnceTakesAtMut, FnOnceReturnsAtMut};
 ghost use Rattle.std.specs.Result.{result_err};
 ghost use Rattle.state_core.specs.Bulk.{bulk_refusal, values_at, loaded_all, stored_all};
@@ -75,8 +76,8 @@ impl<const W: usize> BareZone<W> {
     /// this project's own rule: the kernel clears a huge page before it is handed out. No record is written, and a full journal
     /// refuses nothing.
     ///
-    /// Refused as NotHuge where no block of this order is handed out from this frame on, or as Range where the words go past
-    /// its last one.
+    /// Refused as NotHuge where no block of this order is handed out from this frame on, as Range where the words go past
+    /// its last one, or as Lent.
     pub fn read_block(
         &mut self,
         first: FrameNo,
@@ -99,8 +100,8 @@ impl<const W: usize> BareZone<W> {
 
     /// Writes words of a block that is handed out, from one on. No page and no other block changes.
     ///
-    /// Refused as NotHuge where no block of this order is handed out from this frame on, or as Range where the words go past
-    /// its last one.
+    /// Refused as NotHuge where no block of this order is handed out from this frame on, as Range where the words go past
+    /// its last one, or as Lent.
     pub fn write_block(
         &mut self,
         first: FrameNo,
@@ -123,7 +124,7 @@ impl<const W: usize> BareZone<W> {
     /// Lends all words of a block that is handed out to `change`, as one slice, and gives what it answers. The slice has the
     /// words that `read_block` reads, and what `change` leaves there is written as by `write_block`.
     ///
-    /// Refused as NotHuge where no block of this order is handed out from this frame on. Then `change` isn't called.
+    /// Refused as NotHuge where no block of this order is handed out from this frame on, or as Lent. Then `change` isn't called.
     pub fn with_block<R, F: FnOnce(&mut [u64]) -> R>(
         &mut self,
         first: FrameNo,
@@ -153,12 +154,16 @@ impl<const W: usize> BareZone<W> {
         ensures refused { result_err result ≡ contents_refusal self.now first order from count }
         ensures held { OnOk result (IsTrue (is_order (map.get self.now.handed_out first) order)) }
         ensures within { OnOk result (from + count ≤ 2 ^ order * W) }
+        ensures here { OnOk result (set.contains self.now.lent first ≡ false) }
     {
         if !self.tables.is_handed_out(first, order) {
             return Err(ZoneError::NotHuge);
         }
         if !self.tables.has_words_from(first, order, from, count) {
             return Err(ZoneError::Range);
+        }
+        if self.tables.is_lent(first) {
+            return Err(ZoneError::Lent);
         }
         Ok(())
     }

@@ -1,4 +1,4 @@
-use Rattle.std.proofs.Common.{◌≡◌, ◌∙◌, true, ap, subst, sym}
+use Rattle.std.proofs.Common.{◌≡◌, ◌∙◌, true, ap, subst, sym, is_some, arith}
 use Rattle.std.specs.FinMap as map
 use Rattle.state_core.specs.HandingOut.{is_order, is_run}
 use Rattle.state_core.specs.Valid.{IsValidZone}
@@ -6,6 +6,10 @@ use Rattle.state_core.specs.ZoneState.{ZoneState}
 use Rattle.state_core.proofs.HandingOut.{run_given}
 use Rattle.zone_tables.proofs.BlockFrames.{order_held}
 use Rattle.zone_core.proofs.bare.BareZone.give_order.Goals as goal
+
+pub is_lent-requires : goal.is_lent-requires
+is_lent-requires g c =
+    (omega arith, ap (λ (v : ZoneState). is_some (map.get v.handed_out c.args.first)) (c.deref-4.ensures ∙ sym c.deref-3.ensures) ∙ ap is_some (order_held _ c.args.order (sym c.is_handed_out.ensures ∙ c.if-not-is_handed_out.false)))
 
 pub returns-clause-run : goal.returns-clause-run
 returns-clause-run g c =
