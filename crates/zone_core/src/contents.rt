@@ -68,7 +68,7 @@ impl<const W: usize, I: Ledger, M: Ledger, B: Ledger> Zone<W, I, M, B> {
     /// Lends all words of a block that is handed out to `change`, as one slice, and gives what it answers. The slice has the
     /// words that `read_block` reads, and what `change` leaves there is written as by `write_block`.
     ///
-    /// Refused as NotHuge where no block of this order is handed out from this frame on. Then `change` isn't called.
+    /// Refused as NotHuge where no block of this order is handed out from this frame on, or as Lent. Then `change` isn't called.
     pub fn with_block<R, F: FnOnce(&mut [u64]) -> R>(
         &mut self,
         first: FrameNo,

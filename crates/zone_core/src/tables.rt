@@ -3,7 +3,7 @@
 ghost use Rattle.std.specs.Prelude.{◌≡◌, ◌<◌, ℕ, Some, length};
 ghost use Rattle.std.specs.FinMap as map;
 ghost use Rattle.frame_core.specs.History.{last};
-ghost use Rattle.zone_tables.specs.Fits.{EntriesFit, FramesFit, MovableFit, WordsFit};
+ghost use Rattle.zone_tables.specs.Fits.{EntriesFit, FramesFit, LentFit, MovableFit, WordsFit};
 ghost use Rattle.state_core.specs.ZoneState.{frame_count, words_frame};
 ghost use Rattle.state_core.specs.declared.placement.Placement.{Placement};
 ghost use Rattle.frame_core.specs.Words.{word_of};
@@ -34,11 +34,12 @@ impl<const W: usize, I: Ledger, M: Ledger, B: Ledger> Zone<W, I, M, B> {
     /// The words of each frame. The frame in which a page stands has the words of this page; while a page is moving, the one
     /// that it left has them.
     pub fn words(&self) -> &WordsOf<W>
-        ensures words { WordsFit result.now self.now }
-        ensures frames { length result.now ≡ frame_count self.now }
+        ensures words { WordsFit result.now.rows self.now }
+        ensures lent { LentFit result.now.lent self.now.handed_out self.now.lent }
+        ensures frames { length result.now.rows ≡ frame_count self.now }
         // `Words::load` answers the value that was stored last in this word of the page, or 0.
         ensures last { (page : ℕ) (placement : Placement) (word : ℕ) → map.get self.now.placement page ≡ Some placement
-            → word < self.now.page_size → word_of result.now (words_frame placement) word ≡ last self.now.records page word }
+            → word < self.now.page_size → word_of result.now.rows (words_frame placement) word ≡ last self.now.records page word }
     {
         self.bare.words()
     }
