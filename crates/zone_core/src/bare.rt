@@ -16,6 +16,7 @@ mod calls;
 mod claiming;
 mod evacuating;
 mod free_runs;
+mod lending;
 mod moving;
 mod one_thread;
 mod reserving;
