@@ -55,6 +55,9 @@ one u = vstruct (vcons u vnil)
 abbrev pub two : Val → Val → Val
 two u v = vstruct (vcons u (vcons v vnil))
 
+abbrev pub three : Val → Val → Val → Val
+three u v w = vstruct (vcons u (vcons v (vcons w vnil)))
+
 module _ {M : Type 1} {𝓤 : Ura M} {𝓛 : Logic 𝓤} {K : Type 0} {Γ : List (Item 𝓤)} {G : Goal 𝓤 𝓛.H} where
   -- what is owned is one machine value, of its type
   pub tells : K → (R : RattleType) → Laws R → (x : R.Denot) (vs : List Val) → ((v : Val) → vs ≡ v ∷ [] → Good R v → Seq K 𝓛 (‵ (R.own_val x (v ∷ [])) ∷ Γ) G) → Seq K 𝓛 (‵ (R.own_val x vs) ∷ Γ) G

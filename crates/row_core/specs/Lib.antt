@@ -1,3 +1,4 @@
+pub mod Held
 pub mod Lends
 pub mod Owned
 pub mod Parts

@@ -1,12 +1,13 @@
 -- What is owned of the words of an allocation, and what a `&` to them lends.
-use Rattle.std.specs.Prelude.{◌≡◌, refl, ℕ, zero, suc, ◌+◌, Bool, true, false, List, [], ◌∷◌}
+use Rattle.std.specs.Prelude.{◌≡◌, refl, ℕ, zero, suc, ◌+◌, Bool, true, false, List, [], ◌∷◌, length}
 use Rattle.std.specs.Coded.{Coded, code_by, coded×, coded_ℕ}
 use base.Fraction.{full_share}
 use base.Share
 use base.Fml.{Lft, Fml, Share, ftrue, fsep}
+use denote.Array.{Array}
 use denote.Builtin.{u64}
 use denote.Memory.{part_at, shared_of}
-use denote.RawPtr.{Ptr, coded_ptr, block_ptr, block_of, count_of}
+use denote.RawPtr.{Ptr, coded_ptr, block_ptr, block_of, count_of, lies_at}
 use denote.Sharing.{nothing, beside}
 
 -- p points into a block
@@ -40,6 +41,10 @@ abbrev pub words_owned : Share → List ℕ → List Bool → ℕ → ℕ → Fm
 words_owned share [] here b o = ftrue
 words_owned share (word ∷ words) [] b o = ftrue
 words_owned share (word ∷ words) (is_here ∷ here) b o = fsep (word_owned share is_here word b o) (words_owned share words here b (o + 8))
+
+-- all of these words, from p on; nothing lies at null
+abbrev pub words_at : Ptr → List ℕ → Fml
+words_at p words = lies_at (Array u64 (length words)) full_share p words
 
 -- what a `&` to them lends
 abbrev pub word_lent : Bool → ℕ → ℕ → ℕ → Lft → Fml

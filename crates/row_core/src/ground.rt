@@ -86,16 +86,16 @@ impl Ground {
 
     /// The words of a row that somebody gives. They stay where they are.
     #[tactic(auto, using(crate::proofs::Lists::count_true))]
-    pub fn over(mut row: Row) -> Ground
+    pub fn over(row: Row) -> Ground
         ensures words { result.words ≡ row.words }
         ensures here { AreHere result.here (length row.words) }
         ensures at { (result.at ≡ row.at) × (result.given ≡ true) }
     {
-        let (ptr, len) = (row.as_mut_ptr(), row.len());
+        let (right, ptr, len) = row.into_parts();
         Ground {
             ptr,
             len,
-            right: row.into_right(),
+            right,
             allocation: None,
             out: 0,
         }
@@ -234,8 +234,8 @@ impl Ground {
         ensures was_out { part self.old.here from (length row.words) ≡ replicate (length row.words) false }
         ensures at { (self.new.at ≡ self.old.at) × (self.new.given ≡ self.old.given) }
     {
-        let count = row.len();
-        replace_with(&mut self.right, (from, row.into_right()), put);
+        let (right, _, count) = row.into_parts();
+        replace_with(&mut self.right, (from, right), put);
         self.out -= count;
     }
 }

@@ -45,20 +45,15 @@ impl Row {
         }
     }
 
-    /// Where the words begin.
-    pub(crate) fn as_mut_ptr(&mut self) -> *mut u64
-        ensures place { (result ≡ self.old.at) × InBlock self.old.at }
-        ensures same { self.new ≡ self.old }
+    /// The right to the words, where they begin and how many there are: what `of` makes a row of.
+    #[inline(always)]
+    pub(crate) fn into_parts(self) -> (Right, *mut u64, usize)
+        ensures { (result.0.ptr ≡ self.at) × (result.0.items ≡ self.words) × (result.0.halves ≡ []) × AreHere result.0.here (length self.words)
+            × (result.1 ≡ self.at) × InBlock self.at × (result.2 ≡ length self.words) × (length self.words < 2 ^ 60) }
     {
-        self.list.as_mut_ptr()
-    }
-
-    /// The right to the words.
-    pub(crate) fn into_right(self) -> Right
-        ensures { (result.ptr ≡ self.at) × (result.items ≡ self.words) × (result.halves ≡ []) × AreHere result.here (length self.words) × (length self.words < 2 ^ 60) }
-    {
-        let Row { list } = self;
-        Right::of_vec(list)
+        let Row { mut list } = self;
+        let (at, len) = (list.as_mut_ptr(), list.len());
+        (Right::of_vec(list), at, len)
     }
 
     /// The words.
@@ -108,9 +103,8 @@ impl Row {
         ensures first { (result.0.at ≡ self.at) × (result.0.words ≡ take mid self.words) }
         ensures second { (result.1.at ≡ self.at +ₚ mid * 8) × (result.1.words ≡ drop mid self.words) }
     {
-        let Row { mut list } = self;
-        let (at, len) = (list.as_mut_ptr(), list.len());
-        let (first, second) = Right::of_vec(list).cut(mid);
+        let (right, at, len) = self.into_parts();
+        let (first, second) = right.cut(mid);
         let after = unsafe { at.byte_add(mid * 8) };
         (Row::of(first, at, mid), Row::of(second, after, len - mid))
     }
@@ -121,9 +115,9 @@ impl Row {
         requires most { length self.words + length after.words < 2 ^ 60 }
         ensures { (result.at ≡ self.at) × (result.words ≡ self.words ++ after.words) }
     {
-        let Row { mut list } = self;
-        let (at, len) = (list.as_mut_ptr(), list.len() + after.len());
-        Row::of(Right::of_vec(list).join(after.into_right()), at, len)
+        let (first, at, len) = self.into_parts();
+        let (second, _, more) = after.into_parts();
+        Row::of(first.join(second), at, len + more)
     }
 
     /// Parts the right to the words in two halves. From then on nobody writes them, and who has a half reads them.
@@ -131,9 +125,8 @@ impl Row {
         ensures first { (result.0.at ≡ self.at) × (result.0.words ≡ self.words) × (result.0.is_first ≡ true) }
         ensures second { (result.1.at ≡ self.at) × (result.1.words ≡ self.words) × (result.1.is_first ≡ false) }
     {
-        let Row { mut list } = self;
-        let (at, len) = (list.as_mut_ptr(), list.len());
-        let (first, second) = Right::of_vec(list).halve();
+        let (right, at, len) = self.into_parts();
+        let (first, second) = right.halve();
         (Half::of(first, at, len), Half::of(second, at, len))
     }
 }
