@@ -1,5 +1,8 @@
 -- Sets of frames of which so many frames change.
-use Rattle.std.proofs.Common.{◌≡◌, ℕ, ◌+◌, ◌-◌, ◌<◌, ◌≤◌, Bool, false, ◌⊎◌, inl, inr, List, ◌++◌, length, take, drop, get_or, replicate, sym, ap, subst, ◌∙◌, arith}
+use Rattle.std.proofs.Common.{◌≡◌, ℕ, zero, suc, ◌+◌, ◌-◌, ◌<◌, ◌≤◌, Bool, true, false, ◌⊎◌, inl, inr, List, [], ◌∷◌, ◌++◌, length, take, drop, get_or, replicate, refl, sym, ap, subst, ◌∙◌, arith}
+use Rattle.std.specs.Prelude.{◌↔◌, not, IsTrue}
+use Rattle.std.specs.List.{list_all}
+use Rattle.std.proofs.lemmas.Bool.{true≢false}
 use Rattle.std.proofs.lemmas.List.{get_or-append-add, get_or_append_left, get_or-drop, get_or_past, get_or-replicate, get_or-take, length-replicate, take_at}
 use Rattle.std.proofs.lemmas.Option.{unwrap_or-slice_get}
 use Rattle.std.proofs.lemmas.Bool.{cases_lt}
@@ -64,3 +67,18 @@ none_in n frame = by_order (cases_lt frame n)
     by_order : (frame < n) ⊎ (n ≤ frame) → has_frame (replicate n false) frame ≡ false
     by_order (inl below) = unwrap_or-slice_get (replicate n false) frame false ∙ get_or-replicate n frame false false below
     by_order (inr past) = unwrap_or-slice_get (replicate n false) frame false ∙ get_or_past (replicate n false) frame false (omega (arith, past, length-replicate n false))
+
+-- whether no frame is in a set
+none_there : (set : List Bool) → list_all not set ≡ true → (frame : ℕ) → has_frame set frame ≡ false
+none_there [] all frame = refl
+none_there (true ∷ set) all frame = absurd (true≢false (sym all))
+none_there (false ∷ set) all zero = refl
+none_there (false ∷ set) all (suc frame) = none_there set all frame
+
+tells_none : (set : List Bool) → ((frame : ℕ) → has_frame set frame ≡ false) → list_all not set ≡ true
+tells_none [] none = refl
+tells_none (true ∷ set) none = absurd (true≢false (none 0))
+tells_none (false ∷ set) none = tells_none set (λ frame. none (suc frame))
+
+pub none_tells : (set : List Bool) → IsTrue (list_all not set) ↔ ((frame : ℕ) → has_frame set frame ≡ false)
+none_tells set = (none_there set, tells_none set)

@@ -1,6 +1,7 @@
 //! Sets of a zone's frames.
 
-ghost use Rattle.std.specs.Prelude.{◌≡◌, ◌+◌, ◌<◌, ◌≤◌, true, false, length, replicate, slice_set, IfOk};
+ghost use Rattle.std.specs.Prelude.{◌≡◌, ◌+◌, ◌<◌, ◌≤◌, not, true, false, length, replicate, slice_set, IfOk};
+ghost use Rattle.std.specs.List.{list_all};
 ghost use Rattle.row_core.specs.Parts.{spliced};
 ghost use Rattle.frame_core.specs.FrameSet.{has_frame};
 
@@ -39,6 +40,13 @@ impl FrameSet {
         ensures { result ≡ has_frame self.now frame }
     {
         self.has[frame.get() as usize]
+    }
+
+    /// Whether no frame is in the set. It looks at each frame.
+    pub fn is_empty(&self) -> bool
+        ensures { result ≡ list_all not self.now }
+    {
+        self.has.iter().all(|has| !*has)
     }
 
     /// Puts a frame into the set.

@@ -24,7 +24,9 @@ fn lend_one(
     assert!(rt; !words.is_lent(beside), "at {frames}");
     row.words_mut().fill(7);
     words.store(beside, word, 9);
+    assert!(rt; !words.lends_none(), "at {frames}");
     words.take_block_back(first, frames, row);
+    assert!(rt; words.lends_none(), "at {frames}");
     assert_eq!(rt; words.block(first, frames).first(), Some(&7), "at {frames}");
     assert_eq!(rt; words.block(first, frames).last(), Some(&7), "at {frames}");
     assert_eq!(rt; words.load(beside, word), 9, "at {frames}");

@@ -234,6 +234,13 @@ impl<const W: usize> Words<W> {
         self.lent_frames.contains(frame)
     }
 
+    /// Whether the words of no frame are lent. It looks at each frame.
+    pub fn lends_none(&self) -> bool
+        ensures { IsTrue result ↔ NoneLent self.now }
+    {
+        self.lent_frames.is_empty()
+    }
+
     /// Lends the words of so many frames, from a first one on, as a row. Nothing is copied. Where the row is dropped, they stay lent.
     pub fn lend_block(&mut self, first: FrameNo, frames: u32) -> Row
         requires frames { first + frames ≤ length self.old.rows }

@@ -155,7 +155,7 @@ impl FrameSet {
         self.groups.regroup(block, before, before - frames);
     }
 
-    /// A page comes to a frame. The pageblock has an unmovable page more, where it is unmovable.
+    /// A page comes to a frame. Where it is unmovable, the pageblock counts one more, and had at most 16,777,216 before.
     #[inline(always)]
     pub(crate) fn add_page(&mut self, frame: FrameNo, unmovable: bool)
         requires within { frame < self.old.bound }
@@ -168,7 +168,7 @@ impl FrameSet {
         }
     }
 
-    /// A page goes from a frame. The pageblock has an unmovable page less, where it is unmovable.
+    /// A page goes from a frame. Where it is unmovable, the pageblock counts one less, and had one.
     #[inline(always)]
     pub(crate) fn remove_page(&mut self, frame: FrameNo, unmovable: bool)
         requires within { frame < self.old.bound }
@@ -284,7 +284,8 @@ impl FrameSet {
         }
     }
 
-    /// The lowest frame of the set in a pageblock without an unmovable page that isn't whole, if there is one, and else the lowest of all.
+    /// The lowest frame of the set in a pageblock without an unmovable page: in one that isn't whole, if there is one, and else in one that
+    /// is. Where each pageblock has an unmovable page or no frame in the set, the lowest frame of all.
     pub(crate) fn lowest_without_unmovable(&self) -> Option<FrameNo>
         ensures lowest { result ≡ frame_without_unmovable (set.contains self.now.members) self.now.unmovable self.now.bound }
         ensures member { IfSome result (λ frame. set.contains self.now.members frame ≡ true) }

@@ -120,6 +120,7 @@ impl Frames {
     }
 
     /// Puts a page into a free frame. `movable` says whether the page may be taken from it, and `unmovable` whether it is an unmovable page.
+    /// The pageblock counts such a page, so before there are at most 16,777,216 of them; a pageblock has 512 frames.
     #[inline(always)]
     pub fn fill(&mut self, frame: FrameNo, page: PageNo, movable: bool, unmovable: bool)
         requires free { free_at self.old.states frame ≡ true }
@@ -135,7 +136,8 @@ impl Frames {
         self.kept[index] = KeptState::of(FrameState::Holds(page));
     }
 
-    /// Takes the page of a frame out of use: the frame is free. `unmovable` says whether it is an unmovable page.
+    /// Takes the page of a frame out of use: the frame is free. `unmovable` says whether it is an unmovable page, which was counted when it
+    /// came to the pageblock.
     #[inline(always)]
     pub fn empty(&mut self, frame: FrameNo, unmovable: bool)
         requires page { holds_at self.old.states frame ≡ true }

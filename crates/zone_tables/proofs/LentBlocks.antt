@@ -1,5 +1,5 @@
 -- Which frames of a zone are lent.
-use Rattle.std.proofs.Common.{◌≡◌, ℕ, ◌^◌, ◌<◌, true, false, length, inl, inr, refl, sym, ap, ◌∙◌, arith}
+use Rattle.std.proofs.Common.{◌≡◌, ℕ, ◌^◌, ◌<◌, Bool, true, false, length, inl, inr, refl, sym, ap, ◌∙◌, arith}
 use Rattle.std.specs.Prelude.{Option, Some, None, IsSome, is_some, slice_set, ◌&&◌}
 use Rattle.std.specs.FinMap as map
 use Rattle.std.specs.FinSet as set
@@ -26,7 +26,7 @@ use Rattle.zone_tables.specs.Fits.{LentFit}
 use Rattle.zone_tables.specs.HandedOut.{order_of, is_lent_at}
 use Rattle.zone_tables.specs.Sound.{IsSound, state_of}
 use Rattle.zone_tables.proofs.BlockOrders.{order_there}
-use Rattle.zone_tables.proofs.Tabulating.{gathered_same}
+use Rattle.zone_tables.proofs.Tabulating.{gathered_none, gathered_same}
 
 module _ {W : ℕ} (z : Inside W) (v : ZoneState) (sound : IsSound z v) where
   -- a frame that isn't held is in no block, so that it isn't lent
@@ -68,6 +68,15 @@ module _ {W : ℕ} (z : Inside W) (v : ZoneState) (sound : IsSound z v) where
     by first (Some order) at covered =
         (let parts = blocks.in_block_parts first order frame (sym (ap (λ (o : Option ℕ). covers o first frame) at) ∙ covered) in
         sound.lent.of_block first order at frame parts.0 parts.1 ∙ ap (λ (lent : set.FinSet nat_cmp). set.contains lent first) none ∙ set.contains-empty nat_cmp first)
+
+-- where no frame is lent, no block is
+pub no_block_lent : {W : ℕ} (z : Inside W) (v : ZoneState) → state_of z ≡ v → ((frame : ℕ) → has_frame z.words.lent frame ≡ false) → v.lent ≡ set.empty
+no_block_lent z v view none =
+    ap (λ (u : ZoneState). u.lent) (sym view) ∙ gathered_none (is_lent_at z.words.lent z.handed_out) (length z.handed_out) (λ q. both (is_some (order_of z.handed_out q)) (none q))
+  where
+    both : (b : Bool) {c : Bool} → c ≡ false → (b && c) ≡ false
+    both true is = is
+    both false is = refl
 
 -- a free block is handed out: none of it is lent
 module _ {W : ℕ} (z : Inside W) (v : ZoneState) (sound : IsSound z v) (view : state_of z ≡ v) (first order : ℕ) (run : is_run v order first ≡ true) where

@@ -1,6 +1,6 @@
 //! Lending the words of blocks that are handed out, and taking them back.
 
-ghost use Rattle.std.specs.Prelude.{◌≡◌, ◌<◌, ◌*◌, ◌^◌, Some, true, false, length, is_none, IsSome, IsTrue, IfErr, IfOk, OnErr, OnOk};
+ghost use Rattle.std.specs.Prelude.{◌≡◌, ◌<◌, ◌*◌, ◌^◌, ◌↔◌, Some, true, false, length, is_none, IsSome, IsTrue, IfErr, IfOk, OnErr, OnOk};
 ghost use Rattle.std.specs.FinMap as map;
 ghost use Rattle.std.specs.FinSet as set;
 ghost use Rattle.std.specs.Option.{option_map};
@@ -22,6 +22,13 @@ impl<const W: usize> ZoneTables<W> {
         ensures { result ≡ set.contains self.now.lent first }
     {
         self.words.is_lent(first)
+    }
+
+    /// Whether the words of no block are lent. It looks at each frame.
+    pub fn lends_none(&self) -> bool
+        ensures { IsTrue result ↔ (self.now.lent ≡ set.empty) }
+    {
+        self.words.lends_none()
     }
 
     /// Lends the words of a block that is handed out, as a row. Nothing is copied. Until they come back, no call

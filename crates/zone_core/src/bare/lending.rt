@@ -1,6 +1,6 @@
 //! A zone in memory of its caller: the words of its blocks are lent as rows.
 
-ghost use Rattle.std.specs.Prelude.{◌≡◌, ◌<◌, ◌≤◌, ◌*◌, ◌^◌, Some, true, length, replicate, IsTrue, IfErr, IfOk, IfSome, OnErr, OnOk};
+ghost use Rattle.std.specs.Prelude.{◌≡◌, ◌<◌, ◌≤◌, ◌*◌, ◌^◌, ◌↔◌, Some, true, is_none, length, replicate, IsTrue, IfErr, IfOk, IfSome, OnErr, OnOk};
 ghost use Rattle.std.specs.FinSet as set;
 ghost use Rattle.std.specs.Option.{option_map};
 ghost use Rattle.std.specs.Result.{result_err};
@@ -42,6 +42,20 @@ impl<const W: usize> BareZone<W> {
             Ok(tables) => Ok(BareZone { tables }),
             Err(failed) => Err(failed.value.end().unwrap()),
         }
+    }
+
+    /// Whether the words of no block are lent. It looks at each frame.
+    pub fn lends_none(&self) -> bool
+        ensures { IsTrue result ↔ (self.now.lent ≡ set.empty) }
+    {
+        self.tables.lends_none()
+    }
+
+    /// Whether the words of the zone lie in memory of its own. Then none can be lent.
+    pub fn owns_memory(&self) -> bool
+        ensures { result ≡ is_none self.now.memory }
+    {
+        self.tables.owns_memory()
     }
 
     /// Lends the words of a block that is handed out, as a row. Nothing is copied. Until they come back, no call reads or writes them,

@@ -319,7 +319,7 @@ fn lower(one: Option<u32>, other: Option<u32>) -> Option<u32>
     }
 }
 
-/// How many frames of an open run are free at least, if it has fewer pages than a run, if there is one.
+/// The fewest free frames that an open run has if it has fewer pages than the given one; 0 where none is given.
 fn least_free(order: Order, next: Option<OpenRun>) -> u32
     requires { IfSome next (λ run. run.pages ≤ 2 ^ order) }
     ensures { result ≡ least_free (2 ^ order) next }
