@@ -6,6 +6,7 @@ pub mod Keepers
 pub mod Kinds
 pub mod Lent
 pub mod Looks
+pub mod Memory
 pub mod Moving
 pub mod Owned
 pub mod Records

@@ -25,7 +25,7 @@ use state_core::{ZoneError, ZoneSize};
 use std::alloc::Global;
 
 /// The number of an opening of a pool that is open.
-const OPEN: u32 = 52;
+pub(crate) const OPEN: u32 = 52;
 
 /// Opens a closed pool: an empty zone whose pages have 8 or 512 words, with 1 to 32,768 pageblocks of 512 frames and with 8 address spaces of
 /// 4,096 virtual pages. No record of its history is kept in memory.
@@ -86,7 +86,7 @@ pub extern "C" fn compactd_open_sized(
 }
 
 /// The places of a journal that is kept, or none where there are 0.
-fn some_places(places: u32) -> Option<u32>
+pub(crate) fn some_places(places: u32) -> Option<u32>
     ensures { result ≡ some_places places }
 {
     (places > 0).then_some(places)

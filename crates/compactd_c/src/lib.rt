@@ -1,6 +1,6 @@
 //! The pool for C: a handle, and the calls that C makes on it.
 //!
-//! Each call answers 0, or the number of its refusal: 1 to 18 as a zone numbers them, 51 where the pool is closed, 52 where it is
+//! Each call answers 0, or the number of its refusal: 1 to 20 as a zone numbers them, 51 where the pool is closed, 52 where it is
 //! open already, 53 where the scanners of a round have met, 54 where no page is moving. Comments name them as `c/include/compactd.h`
 //! does. A refused call changes nothing. A call for many pages answers the first refusal of a page, and changes nothing for that one.
 #![tactic(auto)]
@@ -16,6 +16,7 @@ mod exports;
 mod free_runs;
 mod keeping;
 mod looking;
+mod memory;
 mod moving;
 mod pool;
 mod records;

@@ -36,6 +36,8 @@ ghost use Rattle.compactd_c.specs.Records.{record_refused};
 ghost use Rattle.compactd_c.specs.Told.{geometry_of, places_of};
 ghost use Rattle.compactd_c.specs.Carried.{IsOwn, is_moving, moving_page_of, words_of, isolate_refused, commit_refused};
 
+mod lending;
+
 use crate::asked::{Asked, address, word_of};
 use crate::carrying::MovingPage;
 use crate::looking::{Geometry, RESERVED};

@@ -1,6 +1,6 @@
 //! Words in the hands of C: those of a row, or none.
 
-ghost use Rattle.std.specs.Prelude.{◌≡◌, ◌<◌, length, Option, Some, None};
+ghost use Rattle.std.specs.Prelude.{◌≡◌, ◌<◌, length, Option, Some, None, IfSome};
 ghost use Rattle.row_core.specs.Held.{held_at, held_code};
 ghost use Rattle.row_core.specs.Seen.{Row as Seen};
 
@@ -48,7 +48,7 @@ impl HeldWords {
 
     /// The row of the words, if there are some.
     pub fn into_row(self) -> Option<Row>
-        ensures { result ≡ self.row }
+        ensures { (result ≡ self.row) × IfSome result (λ row. 0 < length row.words) }
     {
         let HeldWords { at, len } = self;
         if len == 0 {

@@ -1,6 +1,6 @@
 //! A zone without ledgers, as one thread alone has it.
 
-ghost use Rattle.std.specs.Prelude.{◌≡◌, ◌+◌, ◌/◌, ◌^◌, ◌≤◌, ◌&&◌, ℕ, true, Option, Some, None, is_some, if◌then◌else◌, IfOk, IfErr};
+ghost use Rattle.std.specs.Prelude.{◌≡◌, ◌+◌, ◌/◌, ◌^◌, ◌≤◌, ◌&&◌, ◌↔◌, ℕ, true, Option, Some, None, is_some, if◌then◌else◌, IsTrue, IfOk, IfErr};
 ghost use Rattle.frame_core.specs.declared.record.Record.{Record};
 ghost use Rattle.state_core.specs.Clear.{BlocksAreApart, BlocksAreClear};
 ghost use Rattle.state_core.specs.Valid.{IsValidZone};
@@ -106,7 +106,7 @@ impl<const W: usize> BareZone<W> {
     }
 
     /// An empty zone of any size, whose journal keeps its records in so many places, or is unrecorded where that is none. The tables of
-    /// the addresses take 8 bytes for each, whether or not it is ever mapped.
+    /// the addresses take 4 bytes for each, whether or not it is ever mapped.
     ///
     /// Refused as Range unless each number of the size is in its range and there are 1 to 65,536 places, else as Memory where there isn't
     /// enough.
@@ -122,7 +122,7 @@ impl<const W: usize> BareZone<W> {
         ensures zone { IfOk result (λ zone. zone ≡ opened_sized W number size (places_of places)) }
         ensures valid { IfOk result (λ zone. IsValidZone zone) }
     {
-        if !size.is_valid() || places.is_some_and(|count| count < 1 || count > MOST_PLACES) {
+        if !is_allowed(size, places) {
             return Err(ZoneError::Range);
         }
         let tables = ZoneTables::open(alloc, number, size, places)?;
@@ -224,6 +224,13 @@ impl<const W: usize> BareZone<W> {
     {
         self.tables.journal()
     }
+}
+
+/// Whether a zone may be opened with this size, and with a journal of so many places or an unrecorded one.
+pub(crate) fn is_allowed(size: ZoneSize, places: Option<u32>) -> bool
+    ensures { IsTrue result ↔ IsAllowed size places }
+{
+    size.is_valid() && !places.is_some_and(|count| count < 1 || count > MOST_PLACES)
 }
 
 /// The tables in a place of their own in memory, so that a zone is small to move, or the error Memory where there is none.

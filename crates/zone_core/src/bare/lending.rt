@@ -11,7 +11,7 @@ ghost use Rattle.state_core.specs.Pairs.{HaveMet};
 ghost use Rattle.state_core.specs.Valid.{IsValidZone};
 ghost use Rattle.zone_core.specs.ZoneIdentity.{HasIdentity};
 
-use crate::bare::BareZone;
+use crate::bare::{BareZone, is_allowed};
 use frame_core::{FrameNo, Order, ZoneNo};
 use row_core::Row;
 use state_core::{ZoneError, ZoneSize};
@@ -19,9 +19,39 @@ use std::alloc::Global;
 use zone_tables::ZoneTables;
 
 impl<const W: usize> BareZone<W> {
-    /// An empty zone of any size in memory of its caller, which is `blank` if all its words are known to be 0. Its journal is that of
-    /// `open_sized`. Where there isn't enough memory for the rest, a row of this memory comes back.
+    /// An empty zone of any size in memory of its caller, which is `blank` if all its words are known to be 0: the words of frame 0
+    /// come first. Its journal is that of `open_sized`. The rest of the zone takes memory of its own.
+    ///
+    /// Refused as Range unless each number of the size is in its range, there are 1 to 65,536 places, and the memory has exactly the
+    /// words of all frames; else as Memory where there isn't enough for the rest. The caller's memory comes back then. After Memory no
+    /// clause says what its words are.
     pub fn open_in(
+        alloc: Global,
+        number: ZoneNo,
+        size: ZoneSize,
+        places: Option<u32>,
+        memory: Row,
+        blank: bool,
+    ) -> Result<BareZone<W>, (ZoneError, Row)>
+        requires words { W ≤ 65536 }
+        requires blank { IsTrue blank → memory.words ≡ replicate (length memory.words) 0 }
+        ensures range { ¬ (IsAllowed size places × (length memory.words ≡ 512 * size.blocks * W)) → result ≡ Err (ZoneError.Range, memory) }
+        ensures memory { IsAllowed size places → length memory.words ≡ 512 * size.blocks * W → IfErr result (λ back. back.0 ≡ ZoneError.Memory) }
+        ensures back { IfErr result (λ back. (back.1.at ≡ memory.at) × (length back.1.words ≡ length memory.words)) }
+        ensures zone { IfOk result (λ zone. zone ≡ opened_in memory.at W number size (places_of places)) }
+        ensures valid { IfOk result (λ zone. IsValidZone zone) }
+    {
+        if !is_allowed(size, places) || memory.len() != 512 * size.blocks as usize * W {
+            return Err((ZoneError::Range, memory));
+        }
+        match Self::made_in(alloc, number, size, places, memory, blank) {
+            Ok(zone) => Ok(zone),
+            Err(memory) => Err((ZoneError::Memory, memory)),
+        }
+    }
+
+    /// The same where nothing is out of range.
+    fn made_in(
         alloc: Global,
         number: ZoneNo,
         size: ZoneSize,

@@ -13,7 +13,7 @@ use types.Logic.{Logic}
 use types.Match.{live}
 use types.Run.{bin, branches, lit, returns_within, skips}
 use Rattle.std.proofs.raw_atomic.Walks.{leaves}
-use Rattle.std.specs.Prelude.{Option, Some, None}
+use Rattle.std.specs.Prelude.{Option, Some, None, IfSome}
 use Rattle.core.proofs.option.Made.{Some-of, none_of}
 use Rattle.std_alloc.proofs.ResultValues.{and_tt}
 use Rattle.row_core.specs.Held.{held_at}
@@ -51,6 +51,7 @@ into_row_spec 𝓤 𝓛 𝓜 𝓡 wired =
     f.Key.name fn (code.unfolded 𝓤 𝓛.H 𝓜 𝓡 wired) (λ z are.
     let Post : Val → SProp 𝓤 = (walk_of 𝓛 f.ended stayed c).post z in let vss = z.0.4 in
     let held = z.0.3.0 in let p = held.at in let n = held.len in
+    let Promised = λ (told : Option Seen). (told ≡ held.row) × IfSome told (λ row. 0 < length row.words) in
     let G = triple_of 𝓛 g.signature (g.spec 𝓛 𝓜.mem 𝓡.returns) in
     qed 𝓛 ((raw (alive 𝓛 f.ended.signature z.0.0 z.0.1) ⊛ ‵ (owns (types_at f.ended.signature.params z.0.0) z.0.3 vss)) ∷ ‵ ftrue ∷ []) ∵
     move ! (1 ∷ []) $ drop ! $ split ! $ move ! (1 ∷ []) $
@@ -65,7 +66,7 @@ into_row_spec 𝓤 𝓛 𝓜 𝓡 wired =
     sets ! (of_opd ! (get_in ! (fld ! refl (stop !)) (sub ! 1 refl (whole !)))) refl (tt, record { fits = lit< tt }) $
     sets ! (bin ! (get ! refl) (lit ! tt) tt) refl (tt, tt) $ first ! $ branches ! (get ! refl)
     (λ _. sets ! (agg ! (and_then ! (lit ! tt) (no_more !))) refl (tt, (record { fits = lit< tt }, tt)) $ returns_within ! Post refl (look_at ! 0 refl) $ free_all ! refl $
-    use0 𝓛 (raw (fact 𝓤 (None ≡ held.row))) (fact_i 𝓤 (None ≡ held.row) (emp 𝓤) (sym closed)) $ use0 𝓛 (‵ (Out.own_val None (live 0 vnil ∷ []))) (none_of 𝓛 Row.the_row) $
+    use0 𝓛 (raw (fact 𝓤 (Promised None))) (fact_i 𝓤 (Promised None) (emp 𝓤) (sym closed, tt)) $ use0 𝓛 (‵ (Out.own_val None (live 0 vnil ∷ []))) (none_of 𝓛 Row.the_row) $
     nothing ! $ nothing ! $ fjoin ! $ move ! (3 ∷ []) $ by ! (leaves 𝓛 f.ended stayed c z (live 0 vnil) None (tt, tt) (tt, tt)))
     (λ wrong. absurd wrong)))
     -- [the words; the tokens]
@@ -93,7 +94,8 @@ into_row_spec 𝓤 𝓛 𝓜 𝓡 wired =
     tells ! Row.the_row the_row_laws d (v ∷ []) (λ u same good. lands_as ! (ap only same) refl good $
     let w : Val = live 1 (vcons u vnil) in let full : T (has_ty (layout Out) w) × WT w = (and_tt _ good.0, (record { fits = lit< tt }, (good.1, tt))) in
     let back : Some d ≡ held.row = (λ i. Some (record { at = ((told.0 ∙ sym is) ∙ sym at) i; words = told.1 i })) ∙ sym has in
+    let some : 0 < length d.words = omega (arith, pos, long, ap (λ (l : List ℕ). length l) told.1) in
     sets ! (agg ! (and_then ! (lit ! tt) (and_then ! (get ! refl) (no_more !)))) refl full $
     returns ! (look_at ! 0 refl) $ free_all ! refl $ use1 𝓛 (‵ (Out.own_val (Some d) (w ∷ []))) (Some-of 𝓛 Row.the_row d u) $
-    use0 𝓛 (raw (fact 𝓤 (Some d ≡ held.row))) (fact_i 𝓤 (Some d ≡ held.row) (emp 𝓤) back) $
+    use0 𝓛 (raw (fact 𝓤 (Promised (Some d)))) (fact_i 𝓤 (Promised (Some d)) (emp 𝓤) (back, some)) $
     nothing ! $ nothing ! $ fjoin ! $ move ! (3 ∷ 0 ∷ 2 ∷ 1 ∷ []) $ by ! (leaves 𝓛 f.ended stayed c z w (Some d) (tt, tt) (tt, tt)))))))))))))))

@@ -1,0 +1,34 @@
+-- Pools in memory of the caller's, and the words of their blocks in the caller's hands.
+use Rattle.std.specs.Prelude.{◌≡◌, ℕ, ◌*◌, ◌^◌, List, [], length, ◌&&◌, nat_eq, is_none, if◌then◌else◌, Option, Some, None}
+use Rattle.std.specs.FinSet as set
+use Rattle.row_core.specs.Seen.{Row}
+use Rattle.state_core.specs.Lending.{lend_refusal, return_refusal}
+use Rattle.state_core.specs.Opening.{IsAllowed}
+use Rattle.state_core.specs.ZoneState.{ZoneState}
+use Rattle.state_core.specs.declared.error.ZoneError.{ZoneError}
+use Rattle.state_core.specs.declared.error.ZoneError.TheVariants.{Lent, OwnMemory}
+use Rattle.compactd_c.specs.Asked.{is_block, ranged}
+use Rattle.compactd_c.specs.Kinds.{IsPageSize}
+use Rattle.compactd_c.specs.Sizes.{size_with, some_places}
+
+-- the words in the caller's hands; none where there are none
+abbrev pub words_in : Option Row → List ℕ
+words_in None = []
+words_in (Some row) = row.words
+
+-- a pool may be opened with these numbers in memory of the caller's, which has the words of all frames and no other
+abbrev pub IsOpenableIn : ℕ → ℕ → ℕ → ℕ → ℕ → Option Row → Type 0
+IsOpenableIn page_words blocks spaces vpages places memory =
+    IsPageSize page_words × IsAllowed (size_with blocks spaces vpages) (some_places places) × (length (words_in memory) ≡ 512 * blocks * page_words)
+
+-- why a pool doesn't give its memory back, if it doesn't: the memory is its own, or words of a block are lent
+abbrev pub end_refusal : ZoneState → Option ZoneError
+end_refusal z = if is_none z.memory then Some OwnMemory else if nat_eq (set.len z.lent) 0 then None else Some Lent
+
+-- why lending the words of a block is refused, if it is
+abbrev pub block_refusal : ℕ → ℕ → ZoneState → Option ZoneError
+block_refusal first order z = ranged (is_block first order) (lend_refusal z first order)
+
+-- why taking these words back for a block is refused, if it is
+abbrev pub back_refusal : ℕ → ℕ → List ℕ → ZoneState → Option ZoneError
+back_refusal first order words z = ranged (is_block first order && nat_eq (length words) (2 ^ order * z.page_size)) (return_refusal z first order)

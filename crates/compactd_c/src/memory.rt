@@ -1,0 +1,177 @@
+//! What C calls for a pool in memory of its own, and to have the words of a block by a pointer.
+
+ghost use Rattle.std.specs.Prelude.{◌≡◌, ◌<◌, ◌*◌, length, replicate, None, Some, IsTrue, IfErr, IfOk, IfSome};
+ghost use Rattle.compactd_c.specs.Answers.{answer, left};
+ghost use Rattle.compactd_c.specs.Memory.{back_refusal, block_refusal, end_refusal, words_in, IsOpenableIn};
+ghost use Rattle.compactd_c.specs.Sizes.{size_with, some_places};
+ghost use Rattle.state_core.specs.Contents.{contents_of};
+ghost use Rattle.state_core.specs.Lending.{block_lent, block_place, block_returned};
+ghost use Rattle.state_core.specs.Opening.{opened_in, places_of};
+ghost use Rattle.state_core.specs.ZoneState.{ZoneState};
+
+use crate::calls::{CLOSED, number};
+use crate::exports::{OPEN, some_places};
+use crate::pool::Pool;
+use crate::zone::Zone;
+use row_core::{HeldWords, Row};
+use state_core::{ZoneError, ZoneSize};
+use std::alloc::Global;
+use std::mem::replace;
+
+/// Opens a closed pool of any size in memory of its caller's: the words of frame 0 come first, and `memory` has those of all frames and no
+/// other. Where it `is_blank`, which no call tests, all its words are 0. No word of a frame is read or written before the frame is used. The
+/// memory is the pool's until `compactd_close_in`.
+///
+/// Refused as OPEN where the pool is open, as RANGE where a number is out of its range or there are fewer words or more, or as MEMORY
+/// where there isn't enough memory for the tables. The memory stays the caller's then; after MEMORY no clause says what its words are.
+#[unsafe(no_mangle)]
+pub extern "C" fn compactd_open_in(
+    alloc: Global,
+    pool: &mut Pool,
+    page_words: u32,
+    blocks: u32,
+    spaces: u32,
+    vpages: u32,
+    places: u32,
+    memory: &mut HeldWords,
+    is_blank: bool,
+) -> u32
+    requires { IsTrue is_blank → words_in memory.old.row ≡ replicate (length (words_in memory.old.row)) 0 }
+    ensures open { ¬ (pool.old.zone ≡ None) → result ≡ 52 }
+    ensures range { pool.old.zone ≡ None → ¬ (IsOpenableIn page_words blocks spaces vpages places memory.old.row) → result ≡ 1 }
+    ensures memory { pool.old.zone ≡ None → IsOpenableIn page_words blocks spaces vpages places memory.old.row → ¬ (result ≡ 0) → result ≡ 14 }
+    ensures zone { result ≡ 0 → IfSome memory.old.row (λ row. pool.new.zone ≡ Some (opened_in row.at page_words 0 (size_with blocks spaces vpages) (places_of (some_places places)))) }
+    ensures taken { result ≡ 0 → (memory.new.row ≡ None) × ¬ (memory.old.row ≡ None) }
+    ensures kept { ¬ (result ≡ 0) → pool.new.zone ≡ pool.old.zone }
+    ensures back { ¬ (result ≡ 0) → ¬ (result ≡ 14) → memory.new.row ≡ memory.old.row }
+    ensures place { result ≡ 14 → IfSome memory.old.row (λ old. IfSome memory.new.row (λ new. (new.at ≡ old.at) × (length new.words ≡ length old.words))) × ¬ (memory.new.row ≡ None) }
+{
+    if let Some(_) = pool.zone() {
+        return OPEN;
+    }
+    let Some(row) = replace(memory, HeldWords::none()).into_row() else {
+        return number(ZoneError::Range);
+    };
+    let size = ZoneSize {
+        blocks,
+        spaces,
+        vpages,
+    };
+    match open_boxed(alloc, page_words, size, some_places(places), row, is_blank) {
+        Ok(zone) => {
+            pool.put(alloc, zone);
+            0
+        }
+        Err((error, row)) => {
+            *memory = HeldWords::of(row);
+            number(error)
+        }
+    }
+}
+
+/// A zone in memory of its caller, in a place of its own.
+fn open_boxed(
+    alloc: Global,
+    page_words: u32,
+    size: ZoneSize,
+    places: Option<u32>,
+    memory: Row,
+    is_blank: bool,
+) -> Result<Box<Zone>, (ZoneError, Row)>
+    requires { IsTrue is_blank → memory.words ≡ replicate (length memory.words) 0 }
+    ensures range { ¬ (IsPageSize page_words × IsAllowed size places × (length memory.words ≡ 512 * size.blocks * page_words)) → result ≡ Err (ZoneError.Range, memory) }
+    ensures memory { IsPageSize page_words → IsAllowed size places → length memory.words ≡ 512 * size.blocks * page_words → IfErr result (λ back. back.0 ≡ ZoneError.Memory) }
+    ensures back { IfErr result (λ back. (back.1.at ≡ memory.at) × (length back.1.words ≡ length memory.words)) }
+    ensures zone { IfOk result (λ zone. zone.value ≡ opened_in memory.at page_words 0 size (places_of places)) }
+{
+    let zone = Zone::open_in(alloc, page_words, size, places, memory, is_blank)?;
+    match Box::new(alloc, zone) {
+        Ok(zone) => Ok(zone),
+        Err(failed) => Err((ZoneError::Memory, failed.value.end().unwrap())),
+    }
+}
+
+/// Closes a pool in memory of its caller's, and gives that memory back.
+///
+/// Refused as OWN_MEMORY where the pool lies in memory of its own, as LENT where words of a block are lent, or as CLOSED.
+#[unsafe(no_mangle)]
+pub extern "C" fn compactd_close_in(alloc: Global, pool: &mut Pool, memory: &mut HeldWords) -> u32
+    ensures answer { result ≡ answer pool.old.zone end_refusal }
+    ensures closed { result ≡ 0 → pool.new.zone ≡ None }
+    ensures memory { (z : ZoneState) → pool.old.zone ≡ Some z → result ≡ 0 → IfSome memory.new.row (λ row. (Some row.at ≡ z.memory) × (length row.words ≡ 512 * z.blocks * z.page_size)) }
+    ensures given { result ≡ 0 → ¬ (memory.new.row ≡ None) }
+    ensures kept { ¬ (result ≡ 0) → (pool.new.zone ≡ pool.old.zone) × (memory.new.row ≡ memory.old.row) }
+{
+    let Some(zone) = pool.zone() else {
+        return CLOSED;
+    };
+    if let Some(error) = zone.end_refusal() {
+        return number(error);
+    }
+    let Some(row) = ended(alloc, pool) else {
+        unreachable!();
+    };
+    *memory = HeldWords::of(row);
+    0
+}
+
+/// Lends the words of a block that is handed out. They are the caller's until `compactd_return_block`. A fresh block holds zeros. Nothing
+/// is copied.
+///
+/// Refused as RANGE where a number is out of its range, as NOT_HUGE, as LENT where they are lent already, as OWN_MEMORY where the pool
+/// lies in memory of its own, or as CLOSED.
+#[unsafe(no_mangle)]
+pub extern "C" fn compactd_block_words(
+    pool: &mut Pool,
+    first: u32,
+    order: u32,
+    words: &mut HeldWords,
+) -> u32
+    ensures answer { result ≡ answer pool.old.zone (block_refusal first order) }
+    ensures zone { pool.new.zone ≡ left pool.old.zone (block_refusal first order) (λ z. block_lent z first) }
+    ensures words { (z : ZoneState) → pool.old.zone ≡ Some z → result ≡ 0 → IfSome words.new.row (λ row. (row.words ≡ contents_of z first) × (Some row.at ≡ block_place z first)) }
+    ensures given { result ≡ 0 → ¬ (words.new.row ≡ None) }
+    ensures kept { ¬ (result ≡ 0) → words.new.row ≡ words.old.row }
+{
+    let Some(zone) = pool.zone() else {
+        return CLOSED;
+    };
+    match zone.lend_block(first, order) {
+        Ok(row) => {
+            *words = HeldWords::of(row);
+            0
+        }
+        Err(error) => number(error),
+    }
+}
+
+/// Takes back the words of a block that `compactd_block_words` lent, which no call tests. The block has what was left in them.
+///
+/// Refused as RANGE where a number is out of its range or the block has another number of words, as NOT_HUGE, or as CLOSED.
+#[unsafe(no_mangle)]
+pub extern "C" fn compactd_return_block(
+    pool: &mut Pool,
+    first: u32,
+    order: u32,
+    words: &mut HeldWords,
+) -> u32
+    requires { (z : ZoneState) → pool.old.zone ≡ Some z → IfSome words.old.row (λ row. Some row.at ≡ block_place z first) }
+    ensures answer { result ≡ answer pool.old.zone (back_refusal first order (words_in words.old.row)) }
+    ensures zone { pool.new.zone ≡ left pool.old.zone (back_refusal first order (words_in words.old.row)) (λ z. block_returned z first (words_in words.old.row)) }
+    ensures taken { result ≡ 0 → words.new.row ≡ None }
+    ensures kept { ¬ (result ≡ 0) → words.new.row ≡ words.old.row }
+{
+    let Some(zone) = pool.zone() else {
+        return CLOSED;
+    };
+    let Some(row) = replace(words, HeldWords::none()).into_row() else {
+        return number(ZoneError::Range);
+    };
+    match zone.return_block(first, order, row) {
+        Ok(()) => 0,
+        Err((error, row)) => {
+            *words = HeldWords::of(row);
+            number(error)
+        }
+    }
+}
