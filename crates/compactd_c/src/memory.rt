@@ -1,12 +1,15 @@
 //! What C calls for a pool in memory of its own, and to have the words of a block by a pointer.
 
 ghost use Rattle.std.specs.Prelude.{◌≡◌, ◌<◌, ◌*◌, length, replicate, None, Some, IsTrue, IfErr, IfOk, IfSome};
+ghost use Rattle.std.specs.FinSet as set;
+ghost use Rattle.std.specs.Option.{option_map};
 ghost use Rattle.compactd_c.specs.Answers.{answer, left};
+ghost use Rattle.compactd_c.specs.Kinds.{IsPageSize};
 ghost use Rattle.compactd_c.specs.Memory.{back_refusal, block_refusal, end_refusal, words_in, IsOpenableIn};
 ghost use Rattle.compactd_c.specs.Sizes.{size_with, some_places};
 ghost use Rattle.state_core.specs.Contents.{contents_of};
 ghost use Rattle.state_core.specs.Lending.{block_lent, block_place, block_returned};
-ghost use Rattle.state_core.specs.Opening.{opened_in, places_of};
+ghost use Rattle.state_core.specs.Opening.{opened_in, places_of, IsAllowed};
 ghost use Rattle.state_core.specs.ZoneState.{ZoneState};
 
 use crate::calls::{CLOSED, number};
@@ -113,6 +116,18 @@ pub extern "C" fn compactd_close_in(alloc: Global, pool: &mut Pool, memory: &mut
     };
     *memory = HeldWords::of(row);
     0
+}
+
+/// Ends the zone of an open pool, no words of which may be lent, and gives back the memory of its caller, if it lies in such memory.
+fn ended(alloc: Global, pool: &mut Pool) -> Option<Row>
+    requires { (z : ZoneState) → pool.old.zone ≡ Some z → z.lent ≡ set.empty }
+    ensures at { (z : ZoneState) → pool.old.zone ≡ Some z → option_map (λ row. row.at) result ≡ z.memory }
+    ensures count { (z : ZoneState) → pool.old.zone ≡ Some z → IfSome result (λ row. length row.words ≡ 512 * z.blocks * z.page_size) }
+    ensures some { IfSome result (λ row. 0 < length row.words) }
+    ensures closed { pool.new.zone ≡ None }
+{
+    let zone = pool.take(alloc)?;
+    Box::into_inner(zone).end()
 }
 
 /// Lends the words of a block that is handed out. They are the caller's until `compactd_return_block`. A fresh block holds zeros. Nothing

@@ -78,6 +78,7 @@ impl Zone {
         requires { self.lent ≡ set.empty }
         ensures at { option_map (λ row. row.at) result ≡ self.entry.memory }
         ensures count { IfSome result (λ row. length row.words ≡ 512 * self.entry.blocks * self.entry.page_size) }
+        ensures some { 0 < self.entry.blocks * self.entry.page_size }
     {
         match self.kind {
             Kind::Small(zone) => zone.end(),

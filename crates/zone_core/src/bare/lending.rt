@@ -97,6 +97,7 @@ impl<const W: usize> BareZone<W> {
         ensures err { OnErr result (self.new ≡ self.old) }
         ensures words { IfOk result (λ row. row.words ≡ contents_of self.old first) }
         ensures count { IfOk result (λ row. length row.words ≡ 2 ^ order * self.old.page_size) }
+        ensures size { self.old.page_size ≡ W }
         ensures place { IfOk result (λ row. Some row.at ≡ block_place self.old first) }
         ensures ok { OnOk result (self.new ≡ block_lent self.old first) }
         ensures met { OnOk result (HaveMet self.old → HaveMet self.new) }
@@ -136,6 +137,7 @@ impl<const W: usize> BareZone<W> {
         requires { self.lent ≡ set.empty }
         ensures at { option_map (λ row. row.at) result ≡ self.entry.memory }
         ensures count { IfSome result (λ row. length row.words ≡ 512 * self.entry.blocks * self.entry.page_size) }
+        ensures size { (self.entry.page_size ≡ W) × (0 < self.entry.blocks) }
     {
         let BareZone { tables } = self;
         Box::into_inner(tables).end()
