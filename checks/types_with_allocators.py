@@ -38,6 +38,8 @@ LINES = {
     ),
     "crates/row_core/src/tests.rt": (
         "fn rows_of_each_size_come_back(rt: HostRuntime) {\n",
+        "fn rows_that_are_given_come_back(rt: HostRuntime) {\n",
+        "fn words_are_held_and_become_a_row_again(rt: HostRuntime) {\n",
         "fn a_part_is_copied(rt: HostRuntime) {\n",
         "fn a_thousand_grounds_are_opened_and_closed(rt: HostRuntime) {\n",
     ),
@@ -60,6 +62,11 @@ LINES = {
         "    list: Vec<T>,\n",
         "        let list = Vec::with_capacity(alloc, room)?;\n",
         "        let mut list = Vec::with_capacity(alloc, count)?;\n",
+    ),
+    "crates/frame_core/src/tests.rt": ("fn a_lent_block_comes_back(rt: HostRuntime) {\n",),
+    "crates/zone_core/src/bare/lending.rt": (
+        "        match Box::new(alloc, tables) {\n",
+        "        Box::into_inner(tables).end()\n",
     ),
     "crates/zone_core/src/bare.rt": (
         "    tables: Box<ZoneTables<W>>,\n",
@@ -88,6 +95,7 @@ MAY_BRING_IN = {
     "std::mem::ManuallyDrop",
     "std::ops::{DerefSlice, DerefSliceMut, Index, IndexMut}",
     "std::process::Abort",
+    "std::ptr::null_mut",
     "std::slice",
     "std::sync::ledger::Ledger",
     "std::sync::ledger::{Blank, Book, Ledger, Share}",

@@ -1,7 +1,7 @@
 ghost use Rattle.std.specs.Prelude.{◌≡◌, ◌+◌, ◌^◌, ◌<◌, length};
 ghost use Rattle.row_core.specs.Parts.{AreHere};
 
-use crate::{Ground, Half, Row};
+use crate::{Ground, Half, HeldWords, Row};
 use std::alloc::Global;
 use std::process::Abort;
 
@@ -48,6 +48,17 @@ fn give_half(rt: &impl Abort, alloc: Global, size: usize)
     let half = given.end().expect(rt, "a row that was given");
     assert!(rt; half.words().iter().all(|word| *word == 0), "at {size}");
     ground.take_back(size, half);
+}
+
+#[test]
+fn words_are_held_and_become_a_row_again(rt: HostRuntime) {
+    assert!(&rt; HeldWords::none().into_row().is_none());
+    let mut ground = Ground::open(rt.alloc(), 8).expect(&rt, "memory");
+    let mut row = ground.lend(0, 8);
+    row.words_mut().fill(7);
+    let row = HeldWords::of(row).into_row().expect(&rt, "words");
+    ground.take_back(0, row);
+    assert!(&rt; ground.part(0, 8).iter().all(|word| *word == 7));
 }
 
 #[test]
