@@ -40,6 +40,7 @@ impl<const W: usize> ZoneTables<W> {
         ensures err { OnErr result (self.new ≡ self.old) }
         ensures words { IfOk result (λ row. row.words ≡ contents_of self.old first) }
         ensures count { IfOk result (λ row. length row.words ≡ 2 ^ order * self.old.page_size) }
+        ensures size { self.old.page_size ≡ W }
         ensures place { IfOk result (λ row. Some row.at ≡ block_place self.old first) }
         ensures ok { OnOk result (self.new ≡ block_lent self.old first) }
         ensures valid { IsValidZone self.new }
