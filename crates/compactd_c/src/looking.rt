@@ -214,6 +214,23 @@ fn page_info_in(look: Look) -> PageInfo
     }
 }
 
+/// Tells how many moves have ended since the pool was opened: those of pages that were moved, and those of pages that were put back.
+///
+/// Refused as CLOSED.
+#[unsafe(no_mangle)]
+pub extern "C" fn compactd_ended(pool: &mut Pool, ended: &mut u64) -> u32
+    ensures answer { result ≡ answer pool.old.zone (λ z. None) }
+    ensures zone { pool.new.zone ≡ pool.old.zone }
+    ensures ended { (z : ZoneState) → pool.old.zone ≡ Some z → ended.new ≡ moved z.records + put_back z.records }
+    ensures kept { ¬ (result ≡ 0) → ended.new ≡ ended.old }
+{
+    let Some(zone) = pool.zone() else {
+        return CLOSED;
+    };
+    *ended = zone.ended();
+    0
+}
+
 /// Tells what became of the pages that were isolated: each was moved or put back.
 ///
 /// Refused as OUT while a page is moving, or as CLOSED.

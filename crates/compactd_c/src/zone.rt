@@ -7,7 +7,7 @@ ghost use Rattle.fewest_core.specs.Claims.{claim_refusal, claimed_frames, claime
 ghost use Rattle.fewest_core.specs.Evacuation.{evacuate_refusal, evacuated, is_in_run, IsCarriedFrom, IsCarriedOut};
 ghost use Rattle.fewest_core.specs.FewestMoves.{cost, least};
 ghost use Rattle.fewest_core.specs.Reservation.{is_in_runs, reserve_refusal, reserved, ArePicked};
-ghost use Rattle.frame_core.specs.Moves.{moved, out};
+ghost use Rattle.frame_core.specs.Moves.{moved, out, put_back};
 ghost use Rattle.frame_core.specs.declared.record.Cause.{Cause};
 ghost use Rattle.keeper_core.specs.Keeping.{keep_refusal, take_refusal, IsKept, IsTaken};
 ghost use Rattle.state_core.specs.Access.{access_refusal, value_at, loaded, stored};
@@ -361,6 +361,16 @@ impl Zone {
         match &self.kind {
             Kind::Small(zone) => zone.quiet(),
             Kind::Large(zone) => zone.quiet(),
+        }
+    }
+
+    /// How many moves have ended.
+    pub(crate) fn ended(&self) -> u64
+        ensures { result ≡ moved self.now.records + put_back self.now.records }
+    {
+        match &self.kind {
+            Kind::Small(zone) => zone.ended(),
+            Kind::Large(zone) => zone.ended(),
         }
     }
 
