@@ -1,5 +1,5 @@
 -- Pools in memory of the caller's, and the words of their blocks in the caller's hands.
-use Rattle.std.specs.Prelude.{◌≡◌, ℕ, ◌*◌, ◌^◌, List, [], length, ◌&&◌, nat_eq, is_none, if◌then◌else◌, Option, Some, None}
+use Rattle.std.specs.Prelude.{◌≡◌, ℕ, ◌*◌, ◌^◌, Bool, false, List, [], length, ◌&&◌, nat_eq, is_none, if◌then◌else◌, Option, Some, None}
 use Rattle.std.specs.FinSet as set
 use Rattle.row_core.specs.Seen.{Row}
 use Rattle.state_core.specs.Lending.{lend_refusal, return_refusal}
@@ -29,6 +29,11 @@ end_refusal z = if is_none z.memory then Some OwnMemory else if nat_eq (set.len 
 abbrev pub block_refusal : ℕ → ℕ → ZoneState → Option ZoneError
 block_refusal first order z = ranged (is_block first order) (lend_refusal z first order)
 
+-- whether these are so many words
+abbrev pub are_words : ℕ → Option Row → Bool
+are_words count None = false
+are_words count (Some row) = nat_eq (length row.words) count
+
 -- why taking these words back for a block is refused, if it is
-abbrev pub back_refusal : ℕ → ℕ → List ℕ → ZoneState → Option ZoneError
-back_refusal first order words z = ranged (is_block first order && nat_eq (length words) (2 ^ order * z.page_size)) (return_refusal z first order)
+abbrev pub back_refusal : ℕ → ℕ → Option Row → ZoneState → Option ZoneError
+back_refusal first order held z = ranged (is_block first order && are_words (2 ^ order * z.page_size) held) (return_refusal z first order)

@@ -171,8 +171,8 @@ pub extern "C" fn compactd_return_block(
     words: &mut HeldWords,
 ) -> u32
     requires { (z : ZoneState) → pool.old.zone ≡ Some z → IfSome words.old.row (λ row. Some row.at ≡ block_place z first) }
-    ensures answer { result ≡ answer pool.old.zone (back_refusal first order (words_in words.old.row)) }
-    ensures zone { pool.new.zone ≡ left pool.old.zone (back_refusal first order (words_in words.old.row)) (λ z. block_returned z first (words_in words.old.row)) }
+    ensures answer { result ≡ answer pool.old.zone (back_refusal first order words.old.row) }
+    ensures zone { pool.new.zone ≡ left pool.old.zone (back_refusal first order words.old.row) (λ z. block_returned z first (words_in words.old.row)) }
     ensures taken { result ≡ 0 → words.new.row ≡ None }
     ensures kept { ¬ (result ≡ 0) → words.new.row ≡ words.old.row }
 {

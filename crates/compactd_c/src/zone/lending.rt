@@ -1,6 +1,6 @@
 //! A zone in memory of its caller, which lends the words of its blocks.
 
-ghost use Rattle.std.specs.Prelude.{◌≡◌, ◌<◌, ◌*◌, length, replicate, IsTrue, IfErr, IfOk, IfSome, OnErr, OnOk};
+ghost use Rattle.std.specs.Prelude.{◌≡◌, ◌<◌, ◌≤◌, ◌*◌, Some, length, replicate, IsTrue, IfErr, IfOk, IfSome, OnErr, OnOk};
 ghost use Rattle.std.specs.FinSet as set;
 ghost use Rattle.std.specs.Option.{option_map};
 ghost use Rattle.std.specs.Result.{result_err};
@@ -35,22 +35,8 @@ impl Zone {
         ensures zone { IfOk result (λ zone. zone ≡ opened_in memory.at page_words 0 size (places_of places)) }
     {
         let kind = match page_words {
-            8 => Kind::Small(BareZone::open_in(
-                alloc,
-                lowest(),
-                size,
-                places,
-                memory,
-                is_blank,
-            )?),
-            512 => Kind::Large(BareZone::open_in(
-                alloc,
-                lowest(),
-                size,
-                places,
-                memory,
-                is_blank,
-            )?),
+            8 => Kind::Small(BareZone::open_in(alloc, lowest(), size, places, memory, is_blank)?),
+            512 => Kind::Large(BareZone::open_in(alloc, lowest(), size, places, memory, is_blank)?),
             _ => return Err((ZoneError::Range, memory)),
         };
         Ok(Zone { kind })
@@ -60,25 +46,18 @@ impl Zone {
     pub(crate) fn end_refusal(&self) -> Option<ZoneError>
         ensures { result ≡ end_refusal self.now }
     {
-        let (owns_memory, lends_none) = match &self.kind {
-            Kind::Small(zone) => (zone.owns_memory(), zone.lends_none()),
-            Kind::Large(zone) => (zone.owns_memory(), zone.lends_none()),
-        };
-        if owns_memory {
-            Some(ZoneError::OwnMemory)
-        } else if lends_none {
-            None
-        } else {
-            Some(ZoneError::Lent)
+        match &self.kind {
+            Kind::Small(zone) => end_refusal(zone),
+            Kind::Large(zone) => end_refusal(zone),
         }
     }
 
     /// Ends the zone, no words of which may be lent, and gives back the memory of its caller, if it lies in such memory.
     pub(crate) fn end(self) -> Option<Row>
         requires { self.lent ≡ set.empty }
-        ensures at { option_map (λ row. row.at) result ≡ self.entry.memory }
-        ensures count { IfSome result (λ row. length row.words ≡ 512 * self.entry.blocks * self.entry.page_size) }
-        ensures some { 0 < self.entry.blocks * self.entry.page_size }
+        ensures at { option_map (λ row. row.at) result ≡ self.memory }
+        ensures count { IfSome result (λ row. length row.words ≡ 512 * self.blocks * self.page_size) }
+        ensures some { 0 < self.blocks * self.page_size }
     {
         match self.kind {
             Kind::Small(zone) => zone.end(),
@@ -110,7 +89,7 @@ impl Zone {
         row: Row,
     ) -> Result<(), (ZoneError, Row)>
         requires { Some row.at ≡ block_place self.old first }
-        ensures refused { option_map (λ back. back.0) (result_err result) ≡ back_refusal first order row.words self.old }
+        ensures refused { option_map (λ back. back.0) (result_err result) ≡ back_refusal first order (Some row) self.old }
         ensures row { IfErr result (λ back. back.1 ≡ row) }
         ensures err { OnErr result (self.new ≡ self.old) }
         ensures ok { OnOk result (self.new ≡ block_returned self.old first row.words) }
@@ -128,11 +107,24 @@ impl Zone {
     }
 
     fn page_words(&self) -> usize
-        ensures { result ≡ self.now.page_size }
+        ensures size { result ≡ self.now.page_size }
+        ensures most { result ≤ 512 }
     {
         match &self.kind {
             Kind::Small(zone) => zone.page_words(),
             Kind::Large(zone) => zone.page_words(),
         }
+    }
+}
+
+fn end_refusal<const W: usize>(zone: &BareZone<W>) -> Option<ZoneError>
+    ensures { result ≡ end_refusal zone.now }
+{
+    if zone.owns_memory() {
+        Some(ZoneError::OwnMemory)
+    } else if zone.lends_none() {
+        None
+    } else {
+        Some(ZoneError::Lent)
     }
 }
