@@ -8,6 +8,7 @@ mod counts;
 mod draws;
 mod emptying;
 mod keeping;
+mod lending;
 mod lists;
 mod many_addresses;
 mod many_pageblocks;

@@ -117,7 +117,9 @@ impl<Z: Names> Opening<Z> {
         let room = self.shared.zone.lock(rt);
         let zone = room.zone();
         assert!(rt; zone.blocks() == 2 && first.get() == 0);
-        let words = zone.words().block(first, 1024);
+        let words = zone.words();
+        assert!(rt; words.lends_none());
+        let words = words.block(first, 1024);
         assert!(rt; words.len() == wanted.len());
         for at in 0..words.len() {
             assert!(rt;

@@ -1,6 +1,8 @@
 //! A zone in memory of its caller: the words of its blocks are lent, written through their row, and come back.
 
-use super::{client, frame, order};
+ghost use Rattle.std.specs.Prelude.{◌≡◌};
+
+use super::order;
 use frame_core::{FrameNo, Order, ZoneNo};
 use row_core::{Ground, Row};
 use std::process::Abort;
@@ -9,11 +11,24 @@ use zone_core::{BareZone, ZoneError, ZoneSize};
 /// The words of a pageblock whose pages have 8.
 const WORDS: usize = 512 * 8;
 
-/// A zone of one pageblock in this memory, whose words aren't all 0.
-fn opened_in(rt: &(impl Abort + AllocGlobal), mut memory: Row) -> Result<BareZone<8>, (ZoneError, Row)> {
-    memory.words_mut().fill(7);
+/// A row of memory whose words aren't 0.
+#[tactic(auto, using(row_core::proofs::Lists::part_here))]
+fn memory(rt: &(impl Abort + AllocGlobal), words: usize) -> Row {
+    let mut ground = Ground::open(rt.alloc(), words).expect(rt, "memory");
+    let mut row = ground.lend(0, words);
+    row.words_mut().fill(7);
+    row
+}
+
+/// A zone of so many pageblocks in this memory.
+fn open_in(
+    rt: &(impl Abort + AllocGlobal),
+    blocks: u32,
+    memory: Row,
+) -> Result<BareZone<8>, (ZoneError, Row)> {
     let number = ZoneNo::new(3).expect(rt, "a zone");
-    BareZone::open_in(rt.alloc(), number, ZoneSize::of_blocks(1), None, memory, false)
+    let size = ZoneSize::of_blocks(blocks);
+    BareZone::open_in(rt.alloc(), number, size, None, memory, false)
 }
 
 /// While the words of a block are lent, no call reads or writes them, and the block isn't taken back.
@@ -26,10 +41,11 @@ fn assert_lent(rt: &impl Abort, zone: &mut BareZone<8>, first: FrameNo, order: O
     assert!(rt; zone.read_block(first, order, 0, &mut words) == refused);
     assert!(rt; zone.write_block(first, order, 0, &words) == refused);
     assert!(rt; zone.give_order(first, order) == refused);
+    assert!(rt; zone.lend_block(first, order).err() == Some(ZoneError::Lent));
 }
 
 /// A block of 64 words is lent and comes back with what was left in it.
-fn lends_a_block(rt: &impl Abort, zone: &mut BareZone<8>) {
+fn lend_one(rt: &impl Abort, zone: &mut BareZone<8>) {
     let order = order(rt, 3);
     let first = zone.take_order(order).expect(rt, "a block");
     let mut row = zone.lend_block(first, order).expect(rt, "its words");
@@ -47,10 +63,30 @@ fn lends_a_block(rt: &impl Abort, zone: &mut BareZone<8>) {
 
 #[test]
 fn a_zone_lends_the_words_of_a_block(rt: HostRuntime) {
-    let mut ground = Ground::open(rt.alloc(), WORDS).expect(&rt, "memory");
-    let memory = ground.lend(0, WORDS);
-    match opened_in(&rt, memory) {
-        Ok(mut zone) => lends_a_block(&rt, &mut zone),
-        Err(_) => assert!(rt; false),
+    match open_in(&rt, 1, memory(&rt, WORDS)) {
+        Ok(mut zone) => lend_one(&rt, &mut zone),
+        Err(_) => panic!(&rt; "no zone"),
     }
+}
+
+#[test]
+fn memory_of_another_size_is_refused(rt: HostRuntime) {
+    match open_in(&rt, 2, memory(&rt, WORDS)) {
+        Ok(_) => panic!(&rt; "a zone"),
+        Err((error, row)) => {
+            assert!(&rt; error == ZoneError::Range);
+            assert!(&rt; row.words().iter().all(|word| *word == 7));
+        }
+    }
+}
+
+#[test]
+fn memory_of_its_own_is_not_lent(rt: HostRuntime) {
+    let number = ZoneNo::new(3).expect(&rt, "a zone");
+    let mut zone = BareZone::<8>::open(rt.alloc(), number, 1, 64).expect(&rt, "a zone");
+    let order = order(&rt, 3);
+    let first = zone.take_order(order).expect(&rt, "a block");
+    assert!(&rt; zone.owns_memory());
+    assert!(&rt; zone.lend_block(first, order).err() == Some(ZoneError::OwnMemory));
+    assert!(&rt; zone.give_order(first, order).is_ok());
 }
