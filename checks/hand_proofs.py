@@ -75,6 +75,14 @@ HAND_PROOFS = {
         "it says how many of the numbers are frames of the list, and proves no function by hand",
         "74f0363102ebdbd9002facaab18944d07e5ee9ff786f6424cc99ca554ccc4c80",
     ),
+    "crates/compactd_c/proofs/memory/compactd_close_in/Answers.antt": (
+        "it says that a zone that isn't refused lends no words, and proves no function by hand",
+        "2435557d4526e2bf7dfd1cabd36b5bb1b85db785b222d84aeff6271f30a848d7",
+    ),
+    "crates/compactd_c/proofs/memory/compactd_return_block/Answers.antt": (
+        "it says that the words lie where those of the block do, and proves no function by hand",
+        "e14205536f90b8e03b4e0ef5d6de780e24d45a481744af7b006bf7bfa04173dd",
+    ),
     "crates/compactd_c/proofs/pool/Pool/TheSendSync/Send.antt": (
         "the prover finds no pointer fit to go to another thread",
         "71f51c12493482d3a4862b42e32285477135070016713df46b2b9ad096128f0c",
@@ -106,6 +114,10 @@ HAND_PROOFS = {
     "crates/compactd_c/proofs/zone/empty_some/Answers.antt": (
         "it says that a run has no more claimed frames than frames, and proves no function by hand",
         "6f493b492c2205806d4afb616d9b068534a23c1d77c37f134f7fccc8fdc86c41",
+    ),
+    "crates/compactd_c/proofs/zone/lending/end_refusal/Answers.antt": (
+        "it says whether any words are lent, and proves no function by hand",
+        "a58d25af6c4c61c672754d438a61dd12acdbea7b4156666965b4f6d3e44f86bc",
     ),
     "crates/compactd_c/src/pool.rt": (
         "it makes a box of its pointer or lends what lies there, and may go to another thread",
