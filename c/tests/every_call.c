@@ -1,23 +1,10 @@
 /* Calls each function of the library, with pages of both sizes, and gets each refusal and its text. Prints each call that answers another
  * number, with its line; the status is then 1. */
+#include "answers.h"
 #include "compactd.h"
 
 #include <stdio.h>
 #include <string.h>
-
-#define IS(wanted, call) is_answered((call), COMPACTD_##wanted, #call, __LINE__)
-#define OK(call) is_answered((call), COMPACTD_OK, #call, __LINE__)
-#define HOLDS(fact) is_answered((fact) ? 0u : 1u, 0, #fact, __LINE__)
-
-static int wrong;
-
-static void is_answered(uint32_t answer, uint32_t wanted, const char *call, int line)
-{
-    if (answer != wanted) {
-        printf("line %d: %s: %u, and not %u\n", line, call, (unsigned)answer, (unsigned)wanted);
-        wrong = 1;
-    }
-}
 
 /* Where calls write. */
 static uint32_t frame;
@@ -39,6 +26,7 @@ static uint32_t moved, stopped;
 static uint32_t in_run, unclaimed;
 static uint32_t firsts[4];
 static size_t claimed;
+static compactd_words lent;
 
 /* Each call on a pool that is closed: from the beginning, or by compactd_close. */
 static void closed(compactd_pool *pool)
@@ -63,6 +51,10 @@ static void closed(compactd_pool *pool)
     IS(CLOSED, compactd_give_order(pool, 0, 9));
     IS(CLOSED, compactd_read_block(pool, 0, 9, 0, words, 1));
     IS(CLOSED, compactd_write_block(pool, 0, 9, 0, words, 1));
+    IS(CLOSED, compactd_block_words(pool, 0, 9, &lent));
+    IS(CLOSED, compactd_return_block(pool, 0, 9, &lent));
+    IS(CLOSED, compactd_close_in(pool, &lent));
+    HOLDS(lent.at == NULL && lent.count == 0);
     IS(CLOSED, compactd_mark(pool, 0));
     IS(CLOSED, compactd_unmark(pool, 0));
     IS(CLOSED, compactd_marked(pool, 0, &is_so));
@@ -188,6 +180,16 @@ static void ranges(compactd_pool *pool, uint32_t page_words)
     IS(RANGE, compactd_read_block(pool, 1 << 24, 9, 0, words, 1));
     IS(NOT_HUGE, compactd_read_block(pool, (1 << 24) - 1, 9, 0, words, 1));
     IS(RANGE, compactd_write_block(pool, 0, 10, 0, words, 1));
+    IS(RANGE, compactd_block_words(pool, 1 << 24, 9, &lent));
+    IS(RANGE, compactd_block_words(pool, 0, 2, &lent));
+    IS(RANGE, compactd_block_words(pool, 0, 10, &lent));
+    IS(NOT_HUGE, compactd_block_words(pool, (1 << 24) - 1, 9, &lent));
+    IS(NOT_HUGE, compactd_block_words(pool, 0, 9, &lent));
+    IS(RANGE, compactd_return_block(pool, far, 9, &lent));
+    IS(RANGE, compactd_return_block(pool, 0, far, &lent));
+    IS(RANGE, compactd_return_block(pool, 0, 9, &lent));
+    IS(OWN_MEMORY, compactd_close_in(pool, &lent));
+    HOLDS(lent.at == NULL && lent.count == 0);
     IS(RANGE, compactd_mark(pool, 1));
     IS(RANGE, compactd_unmark(pool, 8));
     IS(RANGE, compactd_marked(pool, 1, &is_so));
@@ -289,6 +291,9 @@ static void blocks(compactd_pool *pool, uint32_t page_words)
     IS(NOT_HUGE, compactd_read_block(pool, 0, 8, 0, words, 1));
     IS(NOT_HUGE, compactd_write_block(pool, 8, 3, 0, words, 1));
     IS(NOT_HUGE, compactd_give_order(pool, 0, 8));
+    IS(NOT_HUGE, compactd_block_words(pool, 0, 8, &lent));
+    IS(OWN_MEMORY, compactd_block_words(pool, 0, 9, &lent));
+    HOLDS(lent.at == NULL && lent.count == 0);
     OK(compactd_info(pool, &counts));
     HOLDS(counts.free == 0 && counts.pages == 0 && counts.moving == 0 && counts.huge == 1 && counts.whole == 0 && counts.held == 512);
     OK(compactd_give_order(pool, 0, 9));
@@ -1421,6 +1426,7 @@ static void both_sizes(uint32_t page_words)
     IS(OPEN, compactd_open(&pool, page_words, 1));
     IS(OPEN, compactd_open_journal(&pool, page_words, 1, 1));
     IS(OPEN, compactd_open_sized(&pool, 0, 0, 0, 0, 0));
+    IS(OPEN, compactd_open_in(&pool, 0, 0, 0, 0, 0, &lent, 0));
     ranges(&pool, page_words);
     addresses(&pool);
     pages(&pool, page_words);
