@@ -33,6 +33,7 @@ STANDARDS = {
 }
 WARNINGS = {"c": c_programs.STRICT, "c++": [*c_programs.STRICT, "-Wold-style-cast", "-Wzero-as-null-pointer-constant"]}
 SOURCES = runs.ROOT / "crates/compactd_c/src"
+HELD_WORDS = runs.ROOT / "crates/row_core/src/held_words.rt"  # what the exports have as compactd_words
 RAW = c_programs.BINDING / "src/raw.rs"
 ERRORS = c_programs.BINDING / "src/error.rs"
 POOL = "compactd_pool *"
@@ -89,7 +90,8 @@ def fields_of_header(text):
 
 def of_sources():
     """The same of the exports, in the words of C."""
-    text = "".join(map(code_of, sorted(SOURCES.rglob("*.rt"))))
+    text = "".join(map(code_of, sorted(SOURCES.rglob("*.rt")))) + code_of(HELD_WORDS).replace("len: usize", "count: usize")
+    text = text.replace("HeldWords", "Words")
     return calls_in(text, 'pub extern "C" fn'), structures_in(text)
 
 

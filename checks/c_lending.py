@@ -48,7 +48,7 @@ class Lending:
         block, words = chooser.block(), Words()
         number, count = self.pool.wanted("block_words", block)
         answer = self.pool.call("block_words", *block, words)
-        place = (self.memory.given().at + block[0] * self.page_words * WORD, count) if number == 0 else (0, 0)
+        place = (self.place_of(block), count) if number == 0 else (0, 0)
         self.need(f"block_words{block}", (answer, *fields_of(words)), (number, *place))
         if answer == 0:
             self.lent[block] = words
@@ -69,12 +69,16 @@ class Lending:
             given.count = chance.choice([given.count, given.count - 1, given.count + 1, 0])
             if block in self.pool.machine.zone.handed_out and given.count == self.count_of(block):
                 block = own  # no others are returned as the words of a block that is handed out
+            given.at = self.place_of(block)
         if block == own:
             self.compare(own)
         answer = self.give_back(block, given)
         if answer == 0:
             del self.lent[own]
         return answer
+
+    def place_of(self, block):
+        return self.memory.given().at + block[0] * self.page_words * WORD
 
     def count_of(self, block):
         return self.page_words << block[1]

@@ -301,9 +301,10 @@ static void refused_returns(uint32_t page_words)
     IS(RANGE, compactd_return_block(&pool, 0, 2, &lent));
     IS(RANGE, compactd_return_block(&pool, 0, 3, &lent));
     IS(RANGE, compactd_return_block(&pool, 0, 5, &lent));
-    IS(RANGE, compactd_return_block(&pool, 16, 5, &lent)); /* that isn't handed out either */
+    lent.at = begin + (size_t)16 * page_words; /* where a block would lie that isn't handed out */
+    IS(RANGE, compactd_return_block(&pool, 16, 5, &lent));
     IS(NOT_HUGE, compactd_return_block(&pool, 16, 4, &lent));
-    IS(NOT_HUGE, compactd_return_block(&pool, (1 << 24) - 1, 4, &lent));
+    lent = other;
     lent.count--;
     IS(RANGE, compactd_return_block(&pool, 0, 4, &lent));
     lent.count = 0;
