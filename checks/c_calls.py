@@ -139,6 +139,7 @@ ARGUMENTS = {
     "marked": [u32, told(byte)],
     "quiet": [told(byte)],
     "audit": [told(RoundCounts)],
+    "ended": [told(u64)],
     "compact": [told(byte)],
     "begin_round": [],
     "move_pages": [u32, told(u32), told(u32)],
@@ -314,7 +315,7 @@ class Chooser:
     def info(self):
         return ()
 
-    describe = quiet = audit = compact = begin_round = info
+    describe = quiet = audit = ended = compact = begin_round = info
 
     def move_pages(self):
         return (self.chance.choice([0, 1, 1, 2, self.number(64)]),)
@@ -362,7 +363,7 @@ OFTEN = {
     **dict.fromkeys(["map_at", "share", "look", "write", "read"], 60),
     **dict.fromkeys(["pin", "unpin"], 40),
     **dict.fromkeys(["take_order", "give_order", "read_block", "write_block", "evacuate"], 15),
-    **dict.fromkeys(["mark", "unmark", "marked", "info", "quiet", "audit", "describe", "free_runs", "fragmentation"], 5),
+    **dict.fromkeys(["mark", "unmark", "marked", "info", "quiet", "audit", "ended", "describe", "free_runs", "fragmentation"], 5),
     **dict.fromkeys(["isolate", "commit"], 20),
     **dict.fromkeys(["map_many", "unmap_many"], 15),
     **dict.fromkeys(["block_words", "return_block"], 15),

@@ -299,6 +299,9 @@ class ByMachine:
             raise Refused(16)
         return self.zone.serials, self.zone.moved, self.zone.back
 
+    def ended(self):
+        return self.zone.moved + self.zone.back
+
     def compact(self):
         return int(self.zone.move_all()[1] == "met")
 

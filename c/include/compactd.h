@@ -28,9 +28,9 @@
  *   compactd_keep and compactd_take_kept, and `requests` of compactd_map_many and compactd_unmap_many, where the count is 0. A test shows
  *   that null is right there; the proof assumes a pointer that isn't null.
  * - Calls on one pool don't overlap, unless all of them are questions: compactd_info, _describe, _free_runs, _fragmentation, _look, _marked,
- *   _quiet, _audit, _journal, _record_at, _next_moving and _cheapest_run. The caller's lock sees to it: a mutex, or a reader-writer lock
- *   under whose reading side only questions are asked. That questions may run side by side is tested and not proved: the proof knows one
- *   call at a time. Calls on different pools need no lock. One thread may open a pool, another use it, and a third close it.
+ *   _quiet, _audit, _ended, _journal, _record_at, _next_moving and _cheapest_run. The caller's lock sees to it: a mutex, or a reader-writer
+ *   lock under whose reading side only questions are asked. That questions may run side by side is tested and not proved: the proof knows
+ *   one call at a time. Calls on different pools need no lock. One thread may open a pool, another use it, and a third close it.
  * - An open pool is closed in the end; otherwise its memory is lost.
  * - Of a pool in the caller's memory, and of words that are lent:
  *   - A compactd_words is all zeros before a call fills it, and only calls write its fields. The one that compactd_open_in gets is filled by
@@ -469,6 +469,11 @@ uint32_t compactd_quiet(compactd_pool *pool, compactd_bool *quiet) COMPACTD_CALL
 /* Gets how many pages rounds have isolated since the pool was opened, how many of them were moved, and how many put back.
  * Refused: CLOSED; PAGES_MOVING. */
 uint32_t compactd_audit(compactd_pool *pool, compactd_round_counts *counts) COMPACTD_CALL;
+
+/* Gets how many moves have ended since the pool was opened: those of pages that were moved, and those of pages that were put back. It answers
+ * while pages are moving too.
+ * Refused: CLOSED. */
+uint32_t compactd_ended(compactd_pool *pool, uint64_t *ended) COMPACTD_CALL;
 
 /* Gets how many records were written since the pool was opened, and how many places are left. A pool that keeps no records counts them
  * too, and has room for 2^53.

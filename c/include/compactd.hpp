@@ -573,6 +573,14 @@ public:
         return counts;
     }
 
+    // How many moves have ended: those of pages that were moved, and those of pages that were put back.
+    std::uint64_t ended() const
+    {
+        std::uint64_t moves = 0;
+        detail::done(compactd_ended(raw(), &moves));
+        return moves;
+    }
+
     // How many records were written, and how many places are left.
     std::pair<std::uint64_t, std::uint64_t> journal() const
     {

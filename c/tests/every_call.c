@@ -66,6 +66,9 @@ static void closed(compactd_pool *pool)
     IS(CLOSED, compactd_look(pool, 0, 0, &info));
     IS(CLOSED, compactd_quiet(pool, &is_so));
     IS(CLOSED, compactd_audit(pool, &round_counts));
+    value = 7;
+    IS(CLOSED, compactd_ended(pool, &value));
+    HOLDS(value == 7);
     IS(CLOSED, compactd_journal(pool, &records, &room));
     IS(CLOSED, compactd_record_at(pool, 0, &record));
     IS(CLOSED, compactd_compact(pool, &is_so));
@@ -346,6 +349,8 @@ static void moved_by_hand(compactd_pool *pool, uint32_t page_words)
     IS(MOVING, compactd_read(pool, 0, 1, 0, 0, words, 0));
     IS(MOVING, compactd_write(pool, 0, 1, 0, 0, words, 1));
     IS(PAGES_MOVING, compactd_audit(pool, &round_counts));
+    OK(compactd_ended(pool, &value));
+    HOLDS(value == 0);
     OK(compactd_look(pool, 1, 0, &info));
     HOLDS(info.moving && info.serial == 0 && info.frame == 0 && info.flags == 0);
     strangers(pool, page_words);
@@ -362,6 +367,8 @@ static void moved_by_hand(compactd_pool *pool, uint32_t page_words)
     IS(MET, compactd_isolate(pool, &page, words, page_words));
     OK(compactd_audit(pool, &round_counts));
     HOLDS(round_counts.isolated == 3 && round_counts.moved == 1 && round_counts.back == 2);
+    OK(compactd_ended(pool, &value));
+    HOLDS(value == 3);
     OK(compactd_quiet(pool, &is_so));
     HOLDS(!is_so);
     OK(compactd_unpin(pool, 0, 1, 1));

@@ -202,6 +202,7 @@ static void ask(compactd_pool *pool)
     made(compactd_look(pool, 0, 1, &info));
     made(compactd_quiet(pool, &is_so));
     made(compactd_audit(pool, &round_counts));
+    made(compactd_ended(pool, &records));
     made(compactd_journal(pool, &records, &room));
     made(compactd_record_at(pool, 0, &record));
     made(compactd_cheapest_run(pool, 3, &first, &pages));

@@ -168,6 +168,7 @@ extern "C" {
     pub fn compactd_marked(pool: *mut Handle, block: u32, marked: *mut bool) -> u32;
     pub fn compactd_quiet(pool: *mut Handle, quiet: *mut bool) -> u32;
     pub fn compactd_audit(pool: *mut Handle, counts: *mut RoundCounts) -> u32;
+    pub fn compactd_ended(pool: *mut Handle, ended: *mut u64) -> u32;
     pub fn compactd_compact(pool: *mut Handle, met: *mut bool) -> u32;
     pub fn compactd_begin_round(pool: *mut Handle) -> u32;
     pub fn compactd_move_pages(pool: *mut Handle, most: u32, moved: *mut u32, stopped: *mut u32) -> u32;
