@@ -54,7 +54,7 @@ void __wrap_free(void *block)
 
 /* What each question answers, and what it gets. Refused questions are among them. */
 struct answers {
-    uint32_t numbers[40];
+    uint32_t numbers[41];
     compactd_counts counts;
     compactd_geometry geometry;
     uint64_t looks[PAGES + 1][7];
