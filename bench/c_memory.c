@@ -5,10 +5,10 @@
  * pointer; and so is one of plain memory that was mapped and advised the same way, in parts of the same size. Each read is at a place that
  * depends on what the one before it had. Then words of a block are lent and returned, again and again.
  *
- * Then half of the frames of a second pool have a page, which are spread over all pageblocks, and plain memory has words at the same places, in
- * pages of 4 KiB of the system. A word of any page is read by compactd_load, and by a pointer in plain memory. Half of the pageblocks are then
- * emptied and taken by compactd_reserve, and the pages are copied into them and unmapped. The other half is taken too, and its memory given back
- * to the system. The words are read through the pointers of the blocks then.
+ * Then half of the frames of a second pool have a page, which are spread over all pageblocks, and plain memory has words at the same places,
+ * in pages of 4 KiB of the system. A word of any page is read by compactd_load, and by a pointer in plain memory. Half of the pageblocks are
+ * then emptied and taken by compactd_reserve, and the pages are copied into them and unmapped. The other half is taken too, and its memory
+ * given back to the system. The words are read through the pointers of the blocks then.
  *
  * Each line that it prints has what was done, a tab, and nanoseconds, or MiB. */
 #define _DEFAULT_SOURCE

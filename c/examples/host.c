@@ -1,7 +1,7 @@
 /* A host whose memory is 64 MiB that it mapped: 32 pageblocks of 512 pages of 4 KiB. It fills all of it with pages, and frees three of four,
  * wherever they lie. Then it takes as many huge blocks as there can be, for which the pages that are left move together. It gives the
- * memory of half of the blocks back to the system, and writes the others by pointers. Each page and each block keeps its words. How much memory
- * is resident, and how long a read takes, goes to standard error. */
+ * memory of half of the blocks back to the system, and writes the others by pointers. Each page and each block keeps its words. How much
+ * memory is resident, and how long a read takes, goes to standard error. */
 #define _DEFAULT_SOURCE
 
 #include "compactd.h"
@@ -47,7 +47,8 @@ static int fill(void)
     for (page = 0; page < PAGES; page++) {
         for (word = 0; word < PAGE_WORDS; word++)
             words[word] = word_of(page, word);
-        if (compactd_map(&pool, 0, 0, page, 0, &frame) != COMPACTD_OK || compactd_write(&pool, 0, 0, page, 0, words, PAGE_WORDS) != COMPACTD_OK)
+        if (compactd_map(&pool, 0, 0, page, 0, &frame) != COMPACTD_OK
+            || compactd_write(&pool, 0, 0, page, 0, words, PAGE_WORDS) != COMPACTD_OK)
             return 0;
     }
     return 1;

@@ -3,8 +3,8 @@
 //
 // A Pool can be moved and not copied, and closes when it is destroyed. A Huge is a block that a pool handed out, and a Moving is a page
 // that is moving. Both can be moved and not copied. When a Huge is destroyed, it gives its block back; when a Moving is destroyed, it
-// puts its page back. Both keep the pool's memory until then, also where the Pool is destroyed before. A Memory is a mapping that a pool
-// may lie in. The words of its blocks are lent then: a BlockWords has those of one block, and returns them when it is destroyed.
+// puts its page back. Both keep the pool's memory until then, also where the Pool is destroyed before. A Memory is a mapping that a pool may
+// lie in. The words of its blocks are lent then: a BlockWords has those of one block, and returns them when it is destroyed.
 //
 // As in C, calls on one pool don't overlap, unless all of them are questions. Destroying a Pool, a Huge, a BlockWords or a Moving is a call
 // on its pool that isn't a question. Threads that share a pool make each call under a lock of their own, destructors included. This header isn't
@@ -125,8 +125,8 @@ struct Handle {
 
 } // namespace detail
 
-// The words of a block while they are lent. They are read and written by the pointer, beside calls on the pool too. They are returned to the
-// block when this is destroyed; that is before its Huge is, since the block isn't given back meanwhile.
+// The words of a block while they are lent. They are read and written by the pointer, beside calls on the pool too. When this is destroyed,
+// they are returned to the block. It goes before its Huge, which isn't given back meanwhile.
 class BlockWords {
 public:
     BlockWords(BlockWords &&other) noexcept

@@ -86,8 +86,8 @@ COMPACTD_IN_HEADER int compactd_unmap_memory(compactd_words *memory)
 }
 
 /* Gives the system the memory back that words take up: that of the pages of 4 KiB that lie in them as a whole. What was in these pages is
- * lost: their words are 0 when they are next read, and the system finds memory for a page when it is next used. This is for the words of a block
- * that are lent, in memory that compactd_map_memory mapped. Answers 0, or a number of errno.h. */
+ * lost: their words are 0 when they are next read, and the system finds memory for a page when it is next used. This is for the words of a
+ * block that are lent, in memory that compactd_map_memory mapped. Answers 0, or a number of errno.h. */
 COMPACTD_IN_HEADER int compactd_release_words(const compactd_words *words)
 {
     const size_t at = COMPACTD_AS(size_t, words->at), small = COMPACTD_SMALL_PAGE;

@@ -1,5 +1,6 @@
-/* Pools in memory of the caller's, and words of blocks that are lent: each refusal and each change of these calls, in pools with pages of both
- * sizes, and memory that is mapped by compactd_memory.h. Prints each call that answers another number, with its line; the status is then 1. */
+/* Pools in memory of the caller's, and words of blocks that are lent: each refusal and each change of these calls, in pools with pages of
+ * both sizes, and memory that is mapped by compactd_memory.h. Prints each call that answers another number, with its line; the status is
+ * then 1. */
 #define _DEFAULT_SOURCE
 
 #include "answers.h"

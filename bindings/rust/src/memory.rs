@@ -27,8 +27,8 @@ extern "C" {
     fn madvise(at: *mut c_void, bytes: usize, advice: c_int) -> c_int;
 }
 
-/// Memory for a pool: a mapping that begins at a huge page of the processor, and may consist of such pages. It is unmapped when it is dropped.
-/// [`Pool::open_in`] takes it, and [`Pool::close_in`] gives it back.
+/// Memory for a pool: a mapping that begins at a huge page of the processor, and may consist of such pages. When it is dropped, it is
+/// unmapped. [`Pool::open_in`] takes it, and [`Pool::close_in`] gives it back.
 #[derive(Debug)]
 pub struct Memory {
     mapping: Arc<Mapping>,
@@ -108,7 +108,8 @@ fn bytes_of(words: usize) -> Option<usize> {
 
 /// The words of a block while they are lent, as a slice. They may be used beside calls on the pool, and by other threads.
 ///
-/// [`Pool::return_words`] of the pool that lent them takes them back. Where this is dropped instead, they stay lent until the pool is dropped.
+/// [`Pool::return_words`] of the pool that lent them takes them back. Where this is dropped instead, they stay lent until the pool is
+/// dropped.
 ///
 /// ```compile_fail
 /// fn two(words: compactd::BlockWords) -> (compactd::BlockWords, compactd::BlockWords) {
@@ -133,8 +134,8 @@ impl BlockWords {
         &self.huge
     }
 
-    /// Gives the system the memory back that the words take up: that of the pages of 4 KiB that lie in them as a whole. The words of these pages
-    /// are 0 then, and the system finds memory for a page when it is next used.
+    /// Gives the system the memory back that the words take up: that of the pages of 4 KiB that lie in them as a whole. The words of these
+    /// pages are 0 then, and the system finds memory for a page when it is next used.
     ///
     /// It fails where the system doesn't take it.
     pub fn release(&mut self) -> io::Result<()> {
