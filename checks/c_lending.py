@@ -65,8 +65,8 @@ class Lending:
         given = Words(*fields_of(self.lent[own]))
         self.write(own, chooser)
         if chance.random() < 0.2:
-            block = chance.choice([own, chooser.block(), (own[0], chooser.order())])
-            given.count = chance.choice([given.count, given.count - 1, given.count + 1, 0])
+            block = chance.choice([own, chooser.block(), chooser.any_run()])
+            given.count = chance.choice([given.count, given.count - 1, self.count_of(block), 0])
             if block in self.pool.machine.zone.handed_out and given.count == self.count_of(block):
                 block = own  # no others are returned as the words of a block that is handed out
             given.at = self.place_of(block)
@@ -81,7 +81,7 @@ class Lending:
         return self.memory.given().at + block[0] * self.page_words * WORD
 
     def count_of(self, block):
-        return self.page_words << block[1]
+        return self.page_words << min(block[1], 9)
 
     def give_back(self, block, given):
         before = fields_of(given)
