@@ -107,7 +107,7 @@ private:
     friend class Pool;
 
     compactd_words words_;
-    bool is_blank_; // whether no pool has had it
+    bool is_blank_; // whether its words are known to be 0, as where no pool has had it
 };
 
 namespace detail {
@@ -412,7 +412,10 @@ public:
     {
         const std::uint32_t page_words = static_cast<std::uint32_t>(page_size);
         compactd_words words = memory.words_;
-        detail::done(compactd_open_in(&handle_->raw, page_words, size.blocks, size.spaces, size.vpages, places, &words, memory.is_blank_));
+        const std::uint32_t answer =
+            compactd_open_in(&handle_->raw, page_words, size.blocks, size.spaces, size.vpages, places, &words, memory.is_blank_);
+        memory.is_blank_ &= answer != COMPACTD_MEMORY; // after which no clause says that the words are still 0
+        detail::done(answer);
         handle_->memory = std::move(memory);
     }
 

@@ -25,12 +25,17 @@
 //! # }
 //! ```
 //!
+//! # Memory
+//!
+//! A pool has memory of the library's, or lies in a [`Memory`], which is mapped in huge pages of the processor. Then [`Pool::block_words`]
+//! lends the words of a block as a slice, and nothing is copied.
+//!
 //! # What is proved
 //!
 //! Each function of the library is proved to meet its contract: when it is refused and with which number, what it answers, and what it
 //! leaves. This crate, which calls them, isn't proved, nor is the compiler that builds it. It is small, and safe by its types: a handle
-//! is made zeroed and is private, each call borrows the pool alone, and lengths come from slices. So the library gets what its
-//! contracts ask for.
+//! is made zeroed and is private, each call borrows the pool alone, and lengths come from slices. Words that are lent have one owner, who
+//! returns them to their pool and block. So the library gets what its contracts ask for.
 //!
 //! # Threads
 //!

@@ -32,7 +32,7 @@ extern "C" {
 #[derive(Debug)]
 pub struct Memory {
     mapping: Arc<Mapping>,
-    /// Whether no pool has had it.
+    /// Whether its words are known to be 0, as where no pool has had it.
     is_blank: bool,
 }
 
@@ -210,7 +210,8 @@ impl Pool {
                 pool.mapping = Some(memory.mapping);
                 Ok(pool)
             }
-            Err(error) => Err(Kept { error, value: memory }),
+            // After a refusal for want of memory no clause says that the words are still 0.
+            Err(error) => Err(Kept { error, value: Memory { is_blank: memory.is_blank && error != Error::Memory, ..memory } }),
         }
     }
 
