@@ -5,7 +5,6 @@
 
 use std::error::Error;
 use std::fs;
-use std::hint::black_box;
 use std::time::Instant;
 
 use compactd::{Address, BlockWords, Huge, Memory, PageSize, Pool, PoolSize, Reserved};
@@ -107,20 +106,21 @@ fn tell_memory(when: &str) -> Answer<()> {
 
 /// Random words of pages by calls, and of blocks by slices.
 fn time_reads(pool: &mut Pool, pages: &[u32], blocks: &[BlockWords], chance: &mut Chance) -> Answer<()> {
-    let begun = Instant::now();
+    let (begun, mut sum) = (Instant::now(), 0u64);
     for _ in 0..READS {
         let page = pages[chance.below(KEPT)];
-        black_box(pool.load(0, Address::new(0, page), chance.below(PAGE_WORDS as u32) as u32)?);
+        sum = sum.wrapping_add(pool.load(0, Address::new(0, page), chance.below(PAGE_WORDS as u32) as u32)?);
     }
     let by_call = begun.elapsed().as_nanos() as f64;
     let begun = Instant::now();
     for _ in 0..READS {
         let block = &blocks[chance.below(blocks.len() as u32)];
-        black_box(block[chance.below(block.len() as u32)]);
+        sum = sum.wrapping_add(block[chance.below(block.len() as u32)]);
     }
     let by_slice = begun.elapsed().as_nanos() as f64;
     let reads = f64::from(READS);
-    eprintln!("a read takes {:.1} ns in a page by a call, and {:.1} ns in a block by the slice", by_call / reads, by_slice / reads);
+    let (by_call, by_slice) = (by_call / reads, by_slice / reads);
+    eprintln!("a read takes {by_call:.1} ns in a page by a call, and {by_slice:.1} ns in a block by the slice ({})", sum & 1);
     Ok(())
 }
 
