@@ -17,7 +17,7 @@ import time
 import runs
 
 FOLDER = pathlib.Path(__file__).resolve().parent
-SHARED = ("all", "runs", "sources", "machine", "c_programs", "c_machine")  # what isn't a check
+SHARED = ("all", "runs", "sources", "machine", "c_programs", "c_machine", "c_lending")  # what isn't a check
 OF_SOURCES = ("starts", "hand_proofs", "types_with_allocators", "versions", "wrong_bodies")  # for which nothing is built
 SECONDS = 1800  # that a check may take
 

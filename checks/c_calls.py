@@ -2,8 +2,9 @@
 
 A million calls are made through `libcompactd.so` and beside them on the machine, with pages of both sizes, with a journal and without one,
 among them up to 40 pages that are mapped or unmapped in one call, rounds, slices of rounds, pages that are moved by hand, runs that are
-emptied at once or claimed and emptied in steps, up to 4 blocks that are reserved, and steps of keepers of each order. Most are made on
-pools of 1 to 8 pageblocks, and 100,000 on pools of 9 to 513, of which some are filled with blocks but for a few pageblocks at the top. Half
+emptied at once or claimed and emptied in steps, up to 4 blocks that are reserved, and steps of keepers of each order. Half of the pools lie
+in memory of the caller's, which is blank or full of something: words of their blocks are lent, written by the pointer and returned, and each
+word is compared then. Most calls are made on pools of 1 to 8 pageblocks, and 100,000 on pools of 9 to 513, of which some are filled with blocks but for a few pageblocks at the top. Half
 of the pools have random numbers of spaces and of virtual pages, and their first and last addresses are among those of the calls. 100,000
 more calls are made on one pool of 262,144 frames and 16,777,216 addresses: nine in ten are about a few of them, the others about any. After
 each call the number of its refusal is compared, and what it tells; where it is refused, what it would have told has to be untouched. The
@@ -15,9 +16,11 @@ import collections
 import ctypes
 import random
 
+import c_lending
 import c_programs
 import machine
 import runs
+from c_lending import Words
 from c_machine import MOST_PAGES_OF_A_SPACE, MOST_SPACES, ByMachine, Zone
 from machine import Refused
 
@@ -104,7 +107,9 @@ ARGUMENTS = {
     "open": [u32, u32],
     "open_journal": [u32, u32, u32],
     "open_sized": [u32, u32, u32, u32, u32],
+    "open_in": [u32, u32, u32, u32, u32, told(Words), flag],
     "close": [],
+    "close_in": [told(Words)],
     "set_apart": [flag],
     "map": [u32, u32, u32, flag, told(u32)],
     "map_at": [u32, u32, u32, flag, u32],
@@ -124,6 +129,8 @@ ARGUMENTS = {
     "write": [u32, u32, u32, u32, told(u64), size],
     "read_block": [u32, u32, size, told(u64), size],
     "write_block": [u32, u32, size, told(u64), size],
+    "block_words": [u32, u32, told(Words)],
+    "return_block": [u32, u32, told(Words)],
     "info": [told(Counts)],
     "describe": [told(Geometry)],
     "free_runs": [u32, told(u32)],
@@ -132,6 +139,7 @@ ARGUMENTS = {
     "marked": [u32, told(byte)],
     "quiet": [told(byte)],
     "audit": [told(RoundCounts)],
+    "ended": [told(u64)],
     "compact": [told(byte)],
     "begin_round": [],
     "move_pages": [u32, told(u32), told(u32)],
@@ -221,7 +229,17 @@ class Chooser:
     def take_order(self):
         return (self.order(),)
 
+    def block(self):
+        """A block that is handed out, or any run."""
+        handed_out = list(self.zone.handed_out)
+        return self.chance.choice(handed_out) if handed_out and self.chance.random() < 0.7 else self.any_run()
+
     def give_order(self):
+        """Any run, or now and then a block whose words are lent."""
+        lent = list(self.zone.lent)
+        return self.chance.choice(lent) if lent and self.chance.random() < 0.02 else self.any_run()
+
+    def any_run(self):
         order = self.order()
         shift = min(order, 9)
         return self.number(self.frames >> shift, machine.MOST_FRAMES >> shift) << shift, order
@@ -297,7 +315,7 @@ class Chooser:
     def info(self):
         return ()
 
-    describe = quiet = audit = compact = begin_round = info
+    describe = quiet = audit = ended = compact = begin_round = info
 
     def move_pages(self):
         return (self.chance.choice([0, 1, 1, 2, self.number(64)]),)
@@ -345,9 +363,10 @@ OFTEN = {
     **dict.fromkeys(["map_at", "share", "look", "write", "read"], 60),
     **dict.fromkeys(["pin", "unpin"], 40),
     **dict.fromkeys(["take_order", "give_order", "read_block", "write_block", "evacuate"], 15),
-    **dict.fromkeys(["mark", "unmark", "marked", "info", "quiet", "audit", "describe", "free_runs", "fragmentation"], 5),
+    **dict.fromkeys(["mark", "unmark", "marked", "info", "quiet", "audit", "ended", "describe", "free_runs", "fragmentation"], 5),
     **dict.fromkeys(["isolate", "commit"], 20),
     **dict.fromkeys(["map_many", "unmap_many"], 15),
+    **dict.fromkeys(["block_words", "return_block"], 15),
     **dict.fromkeys(["next_moving", "claim", "empty_some"], 10),
     **dict.fromkeys(["put_back", "move_pages", "take_claimed", "drop_claim"], 5),
     **dict.fromkeys(["begin_round", "reserve", "set_apart", "cheapest_run"], 2),
@@ -358,6 +377,7 @@ OFTEN = {
 # The calls that end the quiet of a round where they are accepted.
 LOUD = {"map", "map_at", "share", "unmap", "pin", "unpin", "take_order", "give_order", "mark", "unmark"} | {"claim", "empty_some", "drop_claim"}
 BY_HAND = {"isolate", "commit", "put_back"}
+LENDING = {"block_words", "return_block"}
 BY_KEEPER = {"keep", "take_kept"}
 MANY = {"map_many", "unmap_many"}
 MOST_KEPT = 2  # blocks that a keeper has ready
@@ -366,11 +386,13 @@ MOST_KEPT = 2  # blocks that a keeper has ready
 class Beside:
     """A pool of the library, and the machine beside it."""
 
-    def __init__(self, library, page_words, blocks, addresses, places):
+    def __init__(self, library, page_words, blocks, addresses, places, memory=None):
         self.library, self.handle = library, Handle()
         spaces, pages_of_a_space = addresses or (machine.SPACES, machine.PAGES_OF_A_SPACE)
-        self.machine = ByMachine(Zone(page_words, blocks, places or UNRECORDED_PLACES, spaces, pages_of_a_space), places)
-        opening = opening_of(page_words, blocks, addresses, places)
+        zone = Zone(page_words, blocks, places or UNRECORDED_PLACES, spaces, pages_of_a_space, memory is not None)
+        self.machine = ByMachine(zone, places)
+        self.lending = c_lending.Lending(self, memory)
+        opening = opening_of(page_words, blocks, addresses, places, memory)
         if answer := self.call(*opening):
             raise runs.Failed(f"{opening} is refused {answer}")
         self.carried = {}  # by their serials: the numbers and the words of the pages that are moving
@@ -517,8 +539,11 @@ def keeper_places(name, firsts, count):
     return [fresh(u32), fresh(byte if name == "keep" else u32), size(len(firsts)), runs_claimed]
 
 
-def opening_of(page_words, blocks, addresses, places):
+def opening_of(page_words, blocks, addresses, places, memory):
     """The call that opens a pool: with the spaces and the virtual pages of each that are told, or with as many as the other calls open."""
+    if memory:
+        spaces, pages_of_a_space = addresses or (machine.SPACES, machine.PAGES_OF_A_SPACE)
+        return "open_in", page_words, blocks, spaces, pages_of_a_space, places, memory.given(), memory.is_blank
     if addresses:
         return "open_sized", page_words, blocks, *addresses, places
     return ("open_journal", page_words, blocks, places) if places else ("open", page_words, blocks)
@@ -560,15 +585,23 @@ def random_addresses(chance):
     return spaces, chance.choice([1, 20, 1000, 4095, 4097, chance.randint(1, most), most])
 
 
+def random_memory(chance, page_words, blocks):
+    """Memory for a pool of this size, which half of the pools have."""
+    if chance.random() < 0.5:
+        return None
+    return c_lending.Memory(blocks * machine.FRAMES_OF_A_PAGEBLOCK * page_words, chance.random() < 0.5)
+
+
 def small_pool(chance, is_sized):
     page_words, blocks = chance.choice([8, 512]), chance.choice([1, 1, 2, 3, 8])
     addresses = random_addresses(chance) if is_sized else None
-    return Beside(loaded(), page_words, blocks, addresses, chance.choice([0, 300, 5_000, 65_536]))
+    places = chance.choice([0, 300, 5_000, 65_536])
+    return Beside(loaded(), page_words, blocks, addresses, places, random_memory(chance, page_words, blocks))
 
 
-def large_pool(blocks, addresses, places, is_filled):
+def large_pool(chance, blocks, addresses, places, is_filled):
     """A pool with pages of 8 words. Where it is filled, only its highest pageblocks are free."""
-    pool = Beside(loaded(), 8, blocks, addresses, places)
+    pool = Beside(loaded(), 8, blocks, addresses, places, random_memory(chance, 8, blocks))
     for _ in range(blocks - LEFT_FREE if is_filled else 0):
         pool.compare("take_order", (9,))
     return pool
@@ -578,9 +611,9 @@ def random_calls(number):
     """How often each call and each refusal came up among random calls of a pool."""
     chance = random.Random(number)
     if number == WIDE:
-        pool = large_pool(*WIDE_POOL)
+        pool = large_pool(chance, *WIDE_POOL)
         return calls_of(pool, chance, WideChooser(chance, pool.machine.zone), CALLS_OF_WIDE_POOL)
-    pool = small_pool(chance, number % 2 == 1) if number < SMALL_POOLS else large_pool(*LARGE_POOLS[number - SMALL_POOLS])
+    pool = small_pool(chance, number % 2 == 1) if number < SMALL_POOLS else large_pool(chance, *LARGE_POOLS[number - SMALL_POOLS])
     return calls_of(pool, chance, Chooser(chance, pool.machine.zone), CALLS_OF_A_POOL)
 
 
@@ -588,6 +621,8 @@ def made_by(pool, chooser, name):
     """Makes a call of this name, and returns the number that it is answered."""
     if name in BY_HAND:
         return pool.carry(name, chooser.chance)
+    if name in LENDING:
+        return getattr(pool.lending, name)(chooser)
     arguments = getattr(chooser, name)()
     return pool.compare_many(name, *arguments) if name in MANY else pool.compare(name, arguments)
 
@@ -598,8 +633,7 @@ def calls_of(pool, chance, chooser, count):
     for name in chance.choices(list(OFTEN), list(OFTEN.values()), k=count):
         found[name, made_by(pool, chooser, name)] += 1
     pool.compare_records()
-    if pool.call("close"):
-        raise runs.Failed("the pool can't be closed")
+    pool.lending.close()
     return found
 
 

@@ -5,7 +5,8 @@ the header has the fields of one there; the same holds of `bindings/rust/src/raw
 of the header is an export of the archive and of the shared library, and there is no other export but the three of the kit's heap in the
 archive. Besides these it names malloc, realloc, free, memcpy, memmove and memset alone, so it can neither print nor wait nor end the
 process. The headers compile from C89 and C++98 on, `compactd.hpp` from C++11, without a warning. A program calls each function and gets
-each refusal, on pools that are closed, open, closed again and closed twice, with pages of both sizes. The texts of refusals are the
+each refusal, on pools that are closed, open, closed again and closed twice, with pages of both sizes; those of words that are lent
+another program gets (`checks/c_examples.py`). The texts of refusals are the
 same in the header's comments, in its function and in the crate for Rust. Each request for memory that an opening makes is refused in
 turn: the answer is 14, the pool is closed, and nothing is lost. Those that a reservation and a keeper make are refused too: the answer is
 14, and nothing is written. No other call asks for memory, accepted or refused."""
@@ -26,10 +27,13 @@ STANDARDS = {
     ("compactd.h", "c++"): "c++98 c++11 c++17 c++20",
     ("compactd_round.h", "c"): "c89 c99 c17",
     ("compactd_round.h", "c++"): "c++98 c++11 c++20",
+    ("compactd_memory.h", "c"): "c89 c99 c17",
+    ("compactd_memory.h", "c++"): "c++98 c++11 c++20",
     ("compactd.hpp", "c++"): "c++11 c++14 c++17 c++20",
 }
 WARNINGS = {"c": c_programs.STRICT, "c++": [*c_programs.STRICT, "-Wold-style-cast", "-Wzero-as-null-pointer-constant"]}
 SOURCES = runs.ROOT / "crates/compactd_c/src"
+HELD_WORDS = runs.ROOT / "crates/row_core/src/held_words.rt"  # what the exports have as compactd_words
 RAW = c_programs.BINDING / "src/raw.rs"
 ERRORS = c_programs.BINDING / "src/error.rs"
 POOL = "compactd_pool *"
@@ -81,12 +85,13 @@ def of_header():
 
 
 def fields_of_header(text):
-    return [(f"{kind}{places}", name) for kind, name, places in re.findall(r"(\w+) (\w+)(\[\d+\])?;", text)]
+    return [(f"{kind}{star}{places}", name) for kind, star, name, places in re.findall(r"(\w+) (\*?)(\w+)(\[\d+\])?;", text)]
 
 
 def of_sources():
     """The same of the exports, in the words of C."""
-    text = "".join(map(code_of, sorted(SOURCES.rglob("*.rt"))))
+    text = "".join(map(code_of, sorted(SOURCES.rglob("*.rt")))) + code_of(HELD_WORDS).replace("len: usize", "count: usize")
+    text = text.replace("HeldWords", "Words")
     return calls_in(text, 'pub extern "C" fn'), structures_in(text)
 
 
@@ -117,9 +122,9 @@ def structures_in(text):
 
 
 def fields_in(text):
-    """Fields with their kinds in the words of C: a number, or an array of numbers."""
-    found = re.findall(r"(\w+): (?:(\w+)|\[(\w+); (\d+)\]),", text)
-    return [(NUMBERS[kind] if kind else f"{NUMBERS[inner]}[{places}]", name) for name, kind, inner, places in found]
+    """Fields with their kinds in the words of C: a number, a pointer to one, or an array of numbers."""
+    found = re.findall(r"(\w+): (?:(\*?)(?:mut )?(\w+)|\[(\w+); (\d+)\]),", text)
+    return [(f"{NUMBERS[kind]}{star}" if kind else f"{NUMBERS[inner]}[{places}]", name) for name, star, kind, inner, places in found]
 
 
 def name_in_c(name):
@@ -168,7 +173,7 @@ def compile_headers():
     for compiler in filter(lambda name: not shutil.which(name), sum(compilers.values(), [])):
         runs.leave_out(f"the headers by {compiler}", "it isn't there")
     commands = [
-        [compiler, f"-std={standard}", "-D_POSIX_C_SOURCE=200809L", *WARNINGS[language], "-fsyntax-only", "-x", language, source]
+        [compiler, f"-std={standard}", "-D_POSIX_C_SOURCE=200809L", "-D_DEFAULT_SOURCE", *WARNINGS[language], "-fsyntax-only", "-x", language, source]
         for (header, language), standards in STANDARDS.items()
         for standard in standards.split()
         for compiler in compilers[language]
@@ -182,11 +187,11 @@ def compile_headers():
 
 
 def need_every_call(declared):
-    """Each function and each refusal stands in the program that calls them, but MEMORY, which the other one gets. The class for C++ calls
-    each function but the one that tells the version."""
-    text, of_memory = ((runs.ROOT / f"c/tests/{name}.c").read_text() for name in ("every_call", "refused_memory"))
+    """Each function stands in the program that calls them, and each refusal there or where words are lent, but MEMORY, which another one
+    gets. The class for C++ calls each function but the one that tells the version."""
+    text, of_lending, of_memory = ((runs.ROOT / f"c/tests/{name}.c").read_text() for name in ("every_call", "lent", "refused_memory"))
     called, by_class = (set(re.findall(CALL, it)) for it in (text, (c_programs.HEADERS / "compactd.hpp").read_text()))
-    refused = set(re.findall(r"\bIS\(([A-Z_]+),", text)) | {"OK"} | ({"MEMORY"} if "COMPACTD_MEMORY" in of_memory else set())
+    refused = set(re.findall(r"\bIS\(([A-Z_]+),", text + of_lending)) | {"OK"} | ({"MEMORY"} if "COMPACTD_MEMORY" in of_memory else set())
     need_same("functions that are called", called, declared | OF_HEADER)
     if lacking := declared - by_class - {"compactd_version"}:
         raise runs.Failed(f"compactd.hpp doesn't call {sorted(lacking)}")

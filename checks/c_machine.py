@@ -15,8 +15,10 @@ class Zone(machine.Zone):
     """The machine's zone, with pages of any size and with what C asks in numbers, and with its records: their kinds and numbers, where
     that of a page stands as None."""
 
-    def __init__(self, page_words, blocks, places, spaces, pages_of_a_space):
+    def __init__(self, page_words, blocks, places, spaces, pages_of_a_space, is_in_memory=False):
         super().__init__(0, blocks, places, spaces, pages_of_a_space)
+        self.is_in_memory = is_in_memory  # of the caller's
+        self.lent = set()  # the blocks whose words are lent
         self.page_words, self.blocks = page_words, blocks
         self.high = 0  # no round was begun
         self.is_quiet = False
@@ -102,11 +104,25 @@ class Zone(machine.Zone):
 
     def block(self, first, order, start, count):
         """The words of a block that is handed out."""
-        if (first, order) not in self.handed_out:
-            raise Refused(12)
+        self.need_block(first, order)
         if start + count > 2**order * self.page_words:
             raise Refused(1)
+        self.need_not_lent(first, order)
         return self.contents[first]
+
+    def need_block(self, first, order):
+        if (first, order) not in self.handed_out:
+            raise Refused(12)
+
+    def need_not_lent(self, first, order):
+        if (first, order) in self.lent:
+            raise Refused(19)
+
+    def give(self, first, order):
+        if (first, order) in self.lent:
+            self.need_places(1)
+        self.need_not_lent(first, order)
+        super().give(first, order)
 
 
 def need(*limits):
@@ -221,6 +237,25 @@ class ByMachine:
         need_order(order)
         self.zone.block(first, order, start, len(values)).update(enumerate(values, start))
 
+    def block_words(self, first, order):
+        """How many words are lent."""
+        need((first, machine.MOST_FRAMES))
+        need_order(order)
+        self.zone.need_block(first, order)
+        self.zone.need_not_lent(first, order)
+        if not self.zone.is_in_memory:
+            raise Refused(20)
+        self.zone.lent.add((first, order))
+        return 2**order * self.zone.page_words
+
+    def return_block(self, first, order, count):
+        need((first, machine.MOST_FRAMES))
+        need_order(order)
+        if count != 2**order * self.zone.page_words:
+            raise Refused(1)
+        self.zone.need_block(first, order)
+        self.zone.lent.remove((first, order))
+
     def info(self):
         zone = self.zone
         counts = zone.free_frames(), zone.page_count(), len(zone.moving), len(zone.handed_out)
@@ -263,6 +298,9 @@ class ByMachine:
         if self.zone.moving:
             raise Refused(16)
         return self.zone.serials, self.zone.moved, self.zone.back
+
+    def ended(self):
+        return self.zone.moved + self.zone.back
 
     def compact(self):
         return int(self.zone.move_all()[1] == "met")

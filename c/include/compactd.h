@@ -3,7 +3,8 @@
  * A pool is a row of frames, 512 in each of its pageblocks. A frame holds a page or is free. An address is a space and a virtual
  * page. It names a page, and up to 4 addresses may name the same page. A round moves pages to the top, so that pageblocks at the bottom
  * become empty. A block of 8 to 512 free frames can be handed out; the caller then reads and writes its words. The memory of all frames is
- * allocated when the pool is opened. docs/C.md explains each call.
+ * allocated when the pool is opened, or it is the caller's, and then the words of a block can be lent by a pointer. docs/C.md explains each
+ * call.
  *
  * Each call answers 0 when it was done, or the number of its refusal, an enum compactd_refusal; compactd_refusal_text has its words. A
  * refused call changes nothing: the pool is as it was, and nothing is written through the other pointers. Where several refusals hold, the
@@ -17,8 +18,8 @@
  * have it, a call that would make it name a page is refused as RANGE: compactd_map, compactd_map_at, and compactd_share for its alias.
  * Everywhere else it is an address that names no page.
  *
- * Each structure but the handle and compactd_page_request ends in reserved words: compactd_geometry in one, each other in two. The library
- * fills them with 0 and doesn't read them. A later version may give them a meaning; the size of the structure stays.
+ * Each structure but the handle, compactd_words and compactd_page_request ends in reserved words: compactd_geometry in one, each other in
+ * two. The library fills them with 0 and doesn't read them. A later version may give them a meaning; the size of the structure stays.
  *
  * What the caller owes, since no call can test it:
  * - A pool is all zeros before its first call. Only these calls read, write or copy its field.
@@ -27,10 +28,19 @@
  *   compactd_keep and compactd_take_kept, and `requests` of compactd_map_many and compactd_unmap_many, where the count is 0. A test shows
  *   that null is right there; the proof assumes a pointer that isn't null.
  * - Calls on one pool don't overlap, unless all of them are questions: compactd_info, _describe, _free_runs, _fragmentation, _look, _marked,
- *   _quiet, _audit, _journal, _record_at, _next_moving and _cheapest_run. The caller's lock sees to it: a mutex, or a reader-writer lock
- *   under whose reading side only questions are asked. That questions may run side by side is tested and not proved: the proof knows one
- *   call at a time. Calls on different pools need no lock. One thread may open a pool, another use it, and a third close it.
+ *   _quiet, _audit, _ended, _journal, _record_at, _next_moving and _cheapest_run. The caller's lock sees to it: a mutex, or a reader-writer
+ *   lock under whose reading side only questions are asked. That questions may run side by side is tested and not proved: the proof knows
+ *   one call at a time. Calls on different pools need no lock. One thread may open a pool, another use it, and a third close it.
  * - An open pool is closed in the end; otherwise its memory is lost.
+ * - Of a pool in the caller's memory, and of words that are lent:
+ *   - A compactd_words is all zeros before a call fills it, and only calls write its fields. The one that compactd_open_in gets is filled by
+ *     the caller: `at` leads to so many words, which nothing else uses, and which stay until the pool is closed. Where `is_blank` is 1, they
+ *     are all 0.
+ *   - Once compactd_open_in has taken the memory, nothing but calls reads or writes its words until the pool is closed, except those that
+ *     are lent. compactd_block_words lends the words of a block: until compactd_return_block takes them back, nobody else has them, and
+ *     the caller reads and writes them by the pointer, from any thread, beside calls on the pool too.
+ *   - Whatever the caller does with lent words has ended when compactd_return_block or a closing begins. No word is used after it.
+ *   - compactd_return_block gets the words that compactd_block_words lent for this very block of this pool, and each are returned once.
  *
  * Two caps of a pool's life. The way out of each is to close the pool and open another.
  * - 2^53 recorded calls of a pool that keeps no journal; each word of compactd_read and compactd_write counts as one, and each page that is
@@ -38,8 +48,8 @@
  * - A journal that is kept has the places that it was opened with. It can't be emptied.
  *
  * As long as the caller does what it owes, no call prints, waits, starts a thread or ends the process. Only compactd_open,
- * compactd_open_journal, compactd_open_sized, compactd_reserve, compactd_keep and compactd_take_kept ask for memory, as a test counts; the
- * last three give it back before they answer. A signal handler that may interrupt a call on a pool doesn't use that pool. */
+ * compactd_open_journal, compactd_open_sized, compactd_open_in, compactd_reserve, compactd_keep and compactd_take_kept ask for memory, as a
+ * test counts; the last three give it back before they answer. A signal handler that may interrupt a call on a pool doesn't use that pool. */
 #ifndef COMPACTD_H
 #define COMPACTD_H
 
@@ -94,6 +104,12 @@ typedef struct compactd_pool {
     void *at;
 } compactd_pool;
 
+/* Words in memory: where they begin and how many there are. All zeros where there are none: compactd_words words = {0}; */
+typedef struct compactd_words {
+    uint64_t *at;
+    size_t count;
+} compactd_words;
+
 /* Why a call was refused. */
 enum compactd_refusal {
     COMPACTD_OK = 0,            /* done */
@@ -114,6 +130,8 @@ enum compactd_refusal {
     COMPACTD_PAGES_MOVING = 16, /* a page of the pool is moving */
     COMPACTD_MARKED = 17,       /* the pageblock is marked already */
     COMPACTD_NOT_MARKED = 18,   /* the pageblock isn't marked */
+    COMPACTD_LENT = 19,         /* the words of the block are lent */
+    COMPACTD_OWN_MEMORY = 20,   /* the pool lies in memory of its own */
     COMPACTD_CLOSED = 51,       /* the pool is closed */
     COMPACTD_OPEN = 52,         /* the pool is open already */
     COMPACTD_MET = 53,          /* the scanners of the round have met */
@@ -142,6 +160,8 @@ COMPACTD_IN_HEADER const char *compactd_refusal_text(uint32_t refusal)
     case COMPACTD_PAGES_MOVING: return "a page of the pool is moving";
     case COMPACTD_MARKED: return "the pageblock is marked already";
     case COMPACTD_NOT_MARKED: return "the pageblock isn't marked";
+    case COMPACTD_LENT: return "the words of the block are lent";
+    case COMPACTD_OWN_MEMORY: return "the pool lies in memory of its own";
     case COMPACTD_CLOSED: return "the pool is closed";
     case COMPACTD_OPEN: return "the pool is open already";
     case COMPACTD_MET: return "the scanners of the round have met";
@@ -277,9 +297,24 @@ uint32_t compactd_open_journal(compactd_pool *pool, uint32_t page_words, uint32_
 uint32_t compactd_open_sized(compactd_pool *pool, uint32_t page_words, uint32_t blocks, uint32_t spaces, uint32_t vpages, uint32_t places)
     COMPACTD_CALL;
 
-/* Closes a pool and gives back its memory: that of its pages, its blocks and its journal.
+/* Like compactd_open_sized, but the frames lie in memory of the caller's, which frame 0 begins: `memory` has blocks * 512 * page_words words.
+ * The tables still come from malloc. When the pool is open, `*memory` is all zeros: the pool has the memory until compactd_close_in.
+ *
+ * `is_blank` says that all these words are 0, as in a fresh mapping. Then no word is written before its frame is first used, so the system
+ * needs no memory for frames that aren't. Else each frame is cleared when it is first used. A refused call leaves `*memory` as it was.
+ * compactd_memory.h maps such memory.
+ * Refused: OPEN; RANGE, also where the count of `memory` is another; MEMORY. */
+uint32_t compactd_open_in(compactd_pool *pool, uint32_t page_words, uint32_t blocks, uint32_t spaces, uint32_t vpages, uint32_t places,
+                          compactd_words *memory, compactd_bool is_blank) COMPACTD_CALL;
+
+/* Closes a pool and gives back its memory: that of its pages, its blocks and its journal. Memory of the caller's isn't freed: it is the
+ * caller's again, but no clause says so. compactd_close_in gives it back.
  * Refused: CLOSED. */
 uint32_t compactd_close(compactd_pool *pool) COMPACTD_NOT_NULL;
+
+/* Closes a pool that lies in memory of the caller's, and gets that memory in `*memory`. What its words are isn't told.
+ * Refused: CLOSED; OWN_MEMORY where the pool lies in memory of its own; LENT where words of a block are lent. */
+uint32_t compactd_close_in(compactd_pool *pool, compactd_words *memory) COMPACTD_CALL;
 
 /* Pages and addresses. Each call but the first is made for a client. Its number is stored in the record and has no other meaning. */
 
@@ -356,12 +391,13 @@ uint32_t compactd_unpin(compactd_pool *pool, uint32_t client, uint32_t space, ui
 uint32_t compactd_take_order(compactd_pool *pool, uint32_t order, uint32_t *first) COMPACTD_CALL;
 
 /* Gives back a block that was handed out, by its first frame and its order.
- * Refused: CLOSED; RANGE, also where the frame isn't a multiple of 2^order or the block goes past the pool; JOURNAL_FULL; NOT_HUGE. */
+ * Refused: CLOSED; RANGE, also where the frame isn't a multiple of 2^order or the block goes past the pool; JOURNAL_FULL; NOT_HUGE; LENT. */
 uint32_t compactd_give_order(compactd_pool *pool, uint32_t first, uint32_t order) COMPACTD_CALL;
 
 /* Reads `count` words of a block that is handed out, from word `from`. A block has 2^order times the words of a page. The call is
  * unrecorded, so it is accepted also where the journal is full.
- * Refused: CLOSED; RANGE where the frame is above 16777215 or the order out of its range; NOT_HUGE; RANGE where the words go past the block. */
+ * Refused: CLOSED; RANGE where the frame is above 16777215 or the order out of its range; NOT_HUGE; RANGE where the words go past the
+ * block; LENT. */
 uint32_t compactd_read_block(compactd_pool *pool, uint32_t first, uint32_t order, size_t from, uint64_t *values, size_t count)
     COMPACTD_CALL_WITH_WORDS;
 
@@ -369,6 +405,20 @@ uint32_t compactd_read_block(compactd_pool *pool, uint32_t first, uint32_t order
  * Refused: as compactd_read_block is. */
 uint32_t compactd_write_block(compactd_pool *pool, uint32_t first, uint32_t order, size_t from, const uint64_t *values, size_t count)
     COMPACTD_CALL_WITH_WORDS;
+
+/* Lends the words of a block that is handed out, in a pool that lies in memory of the caller's. Gets where they begin and how many there
+ * are: 2^order times the words of a page. The caller reads and writes them by the pointer until compactd_return_block. Meanwhile
+ * compactd_read_block, compactd_write_block and compactd_give_order of the block are refused. All other calls go on as before; none moves
+ * or reads these words. The call is unrecorded.
+ * Refused: CLOSED; RANGE where the frame is above 16777215 or the order out of its range; NOT_HUGE; LENT; OWN_MEMORY where the pool lies in
+ * memory of its own. */
+uint32_t compactd_block_words(compactd_pool *pool, uint32_t first, uint32_t order, compactd_words *words) COMPACTD_CALL;
+
+/* Takes the words of a block back that compactd_block_words lent. The block has the words that were left there, and `*words` is all zeros.
+ * The call is unrecorded.
+ * Refused: CLOSED; RANGE where the frame is above 16777215 or the order out of its range, and where the count of `words` isn't that of the
+ * block; NOT_HUGE. */
+uint32_t compactd_return_block(compactd_pool *pool, uint32_t first, uint32_t order, compactd_words *words) COMPACTD_CALL;
 
 /* Marks a pageblock: rounds isolate no page of it and move none into it.
  * Refused: CLOSED; RANGE; JOURNAL_FULL; MARKED. */
@@ -419,6 +469,11 @@ uint32_t compactd_quiet(compactd_pool *pool, compactd_bool *quiet) COMPACTD_CALL
 /* Gets how many pages rounds have isolated since the pool was opened, how many of them were moved, and how many put back.
  * Refused: CLOSED; PAGES_MOVING. */
 uint32_t compactd_audit(compactd_pool *pool, compactd_round_counts *counts) COMPACTD_CALL;
+
+/* Gets how many moves have ended since the pool was opened: those of pages that were moved, and those of pages that were put back. It answers
+ * while pages are moving too.
+ * Refused: CLOSED. */
+uint32_t compactd_ended(compactd_pool *pool, uint64_t *ended) COMPACTD_CALL;
 
 /* Gets how many records were written since the pool was opened, and how many places are left. A pool that keeps no records counts them
  * too, and has room for 2^53.

@@ -3,15 +3,17 @@
 //
 // A Pool can be moved and not copied, and closes when it is destroyed. A Huge is a block that a pool handed out, and a Moving is a page
 // that is moving. Both can be moved and not copied. When a Huge is destroyed, it gives its block back; when a Moving is destroyed, it
-// puts its page back. Both keep the pool's memory until then, also where the Pool is destroyed before.
+// puts its page back. Both keep the pool's memory until then, also where the Pool is destroyed before. A Memory is a mapping that a pool may
+// lie in. The words of its blocks are lent then: a BlockWords has those of one block, and returns them when it is destroyed.
 //
-// As in C, calls on one pool don't overlap, unless all of them are questions. Destroying a Pool, a Huge or a Moving is a call on its pool
-// that isn't a question. Threads that share a pool make each call under a lock of their own, destructors included. This header isn't
+// As in C, calls on one pool don't overlap, unless all of them are questions. Destroying a Pool, a Huge, a BlockWords or a Moving is a call
+// on its pool that isn't a question. Threads that share a pool make each call under a lock of their own, destructors included. This header isn't
 // proved. It passes what it is given to calls that are.
 #ifndef COMPACTD_HPP
 #define COMPACTD_HPP
 
 #include "compactd.h"
+#include "compactd_memory.h"
 
 #include <cstddef>
 #include <cstdint>
@@ -65,8 +67,54 @@ inline void done(std::uint32_t answer)
 // For destructors, which can't throw.
 inline void ignore(std::uint32_t) noexcept {}
 
-// A handle that closes itself. It stays where it is while it is open.
+} // namespace detail
+
+// Memory for a Pool: a mapping that begins at a huge page of the processor, and may consist of such pages. It is unmapped when this is
+// destroyed. A pool has it until Pool::close_in gives it back, or else until the pool's memory is given back.
+class Memory {
+public:
+    // None.
+    Memory() noexcept : words_(), is_blank_(false) {}
+
+    // Maps so many words. Where the system has no memory, it throws Error as MEMORY; 0 words are out of range.
+    explicit Memory(std::size_t words) : words_(), is_blank_(true)
+    {
+        const int number = compactd_map_memory(words, &words_);
+        if (number != 0)
+            throw Error(number == EINVAL ? COMPACTD_RANGE : COMPACTD_MEMORY);
+    }
+
+    // As much as a pool needs with pages of this size and so many pageblocks.
+    Memory(PageSize page_size, std::uint32_t blocks) : Memory(std::size_t(blocks) * 512 * static_cast<std::size_t>(page_size)) {}
+
+    Memory(Memory &&other) noexcept : words_(other.words_), is_blank_(other.is_blank_) { other.words_ = compactd_words(); }
+
+    Memory &operator=(Memory &&other) noexcept
+    {
+        std::swap(words_, other.words_);
+        std::swap(is_blank_, other.is_blank_);
+        return *this;
+    }
+
+    Memory(const Memory &) = delete;
+    Memory &operator=(const Memory &) = delete;
+    ~Memory() { compactd_unmap_memory(&words_); }
+
+    // How many words it has.
+    std::size_t size() const noexcept { return words_.count; }
+
+private:
+    friend class Pool;
+
+    compactd_words words_;
+    bool is_blank_; // whether its words are known to be 0, as where no pool has had it
+};
+
+namespace detail {
+
+// A handle that closes itself, before the memory goes that the pool may lie in. It stays where it is while it is open.
 struct Handle {
+    Memory memory;
     compactd_pool raw;
 
     Handle() : raw() {}
@@ -76,6 +124,68 @@ struct Handle {
 };
 
 } // namespace detail
+
+// The words of a block while they are lent. They are read and written by the pointer, beside calls on the pool too. When this is destroyed,
+// they are returned to the block. It goes before its Huge, which isn't given back meanwhile.
+class BlockWords {
+public:
+    BlockWords(BlockWords &&other) noexcept
+        : handle_(std::move(other.handle_)), first_(other.first_), order_(other.order_), words_(other.words_)
+    {
+        other.words_ = compactd_words();
+    }
+
+    BlockWords &operator=(BlockWords &&other) noexcept
+    {
+        if (this != &other) {
+            let_go();
+            handle_ = std::move(other.handle_);
+            first_ = other.first_;
+            order_ = other.order_;
+            std::swap(words_, other.words_);
+        }
+        return *this;
+    }
+
+    BlockWords(const BlockWords &) = delete;
+    BlockWords &operator=(const BlockWords &) = delete;
+    ~BlockWords() { let_go(); }
+
+    std::uint64_t *data() noexcept { return words_.at; }
+    const std::uint64_t *data() const noexcept { return words_.at; }
+    std::size_t size() const noexcept { return words_.count; }
+    std::uint64_t *begin() noexcept { return words_.at; }
+    const std::uint64_t *begin() const noexcept { return words_.at; }
+    std::uint64_t *end() noexcept { return words_.at + words_.count; }
+    const std::uint64_t *end() const noexcept { return words_.at + words_.count; }
+    std::uint64_t &operator[](std::size_t at) noexcept { return words_.at[at]; }
+    const std::uint64_t &operator[](std::size_t at) const noexcept { return words_.at[at]; }
+
+    // Gives the system the memory back that the words take up, in whole pages of 4 KiB; the words of these are 0 then. Returns whether the
+    // system took it.
+    bool release() noexcept { return compactd_release_words(&words_) == 0; }
+
+private:
+    friend class Huge;
+
+    BlockWords(const std::shared_ptr<detail::Handle> &handle, std::uint32_t first, std::uint32_t order, const compactd_words &words) noexcept
+        : handle_(handle), first_(first), order_(order), words_(words)
+    {
+    }
+
+    void let_go() noexcept
+    {
+        if (handle_)
+            detail::ignore(compactd_return_block(&handle_->raw, first_, order_, &words_));
+        handle_.reset();
+        words_ = compactd_words();
+    }
+
+    std::shared_ptr<detail::Handle> handle_;
+    std::uint32_t first_;
+    std::uint32_t order_;
+    compactd_words words_;
+};
 
 // A block of 2^order frames that a pool handed out, with its words.
 class Huge {
@@ -96,7 +206,7 @@ public:
     Huge(const Huge &) = delete;
     Huge &operator=(const Huge &) = delete;
 
-    // Gives the block back. Where that is refused, as JOURNAL_FULL can be, it stays handed out until the pool closes.
+    // Gives the block back. Where that is refused, as JOURNAL_FULL or LENT can be, it stays handed out until the pool closes.
     ~Huge() { let_go(); }
 
     std::uint32_t first() const noexcept { return first_; }
@@ -111,6 +221,15 @@ public:
     void write(std::size_t from, const std::uint64_t *values, std::size_t count)
     {
         detail::done(compactd_write_block(raw(), first_, order_, from, values, count));
+    }
+
+    // Lends the words of the block, in a pool that lies in a Memory: the pointer leads to them until the guard is destroyed. Meanwhile the
+    // block isn't read, written or given back by calls.
+    BlockWords words()
+    {
+        compactd_words words = compactd_words();
+        detail::done(compactd_block_words(raw(), first_, order_, &words));
+        return BlockWords(handle_, first_, order_, words);
     }
 
     // Gives the block back. Where that is refused, this throws and the block is still this one's.
@@ -287,6 +406,19 @@ public:
         detail::done(compactd_open_sized(&handle_->raw, page_words, size.blocks, size.spaces, size.vpages, places));
     }
 
+    // The same in memory that was mapped, which has as many words as the pool has in pages: the words of blocks are lent then. Where that is
+    // refused, the memory stays where it was.
+    Pool(PageSize page_size, PoolSize size, Memory &&memory, std::uint32_t places = 0) : handle_(std::make_shared<detail::Handle>())
+    {
+        const std::uint32_t page_words = static_cast<std::uint32_t>(page_size);
+        compactd_words words = memory.words_;
+        const std::uint32_t answer =
+            compactd_open_in(&handle_->raw, page_words, size.blocks, size.spaces, size.vpages, places, &words, memory.is_blank_);
+        memory.is_blank_ &= answer != COMPACTD_MEMORY; // after which no clause says that the words are still 0
+        detail::done(answer);
+        handle_->memory = std::move(memory);
+    }
+
     Pool(Pool &&) noexcept = default;
     Pool &operator=(Pool &&) noexcept = default;
     Pool(const Pool &) = delete;
@@ -299,6 +431,18 @@ public:
         if (!handle_)
             throw Error(COMPACTD_CLOSED);
         return &handle_->raw;
+    }
+
+    // Closes a pool that was opened in a Memory, and returns that, which another pool may be opened in. Calls of its blocks and moving pages
+    // throw CLOSED then.
+    Memory close_in()
+    {
+        compactd_words words = compactd_words();
+        detail::done(compactd_close_in(raw(), &words));
+        Memory memory = std::move(handle_->memory);
+        memory.is_blank_ = false;
+        handle_.reset();
+        return memory;
     }
 
     // Sets whether map puts unmovable pages apart from the others, into pageblocks of their own.
@@ -430,6 +574,14 @@ public:
         compactd_round_counts counts = compactd_round_counts();
         detail::done(compactd_audit(raw(), &counts));
         return counts;
+    }
+
+    // How many moves have ended: those of pages that were moved, and those of pages that were put back.
+    std::uint64_t ended() const
+    {
+        std::uint64_t moves = 0;
+        detail::done(compactd_ended(raw(), &moves));
+        return moves;
     }
 
     // How many records were written, and how many places are left.

@@ -1,23 +1,10 @@
 /* Calls each function of the library, with pages of both sizes, and gets each refusal and its text. Prints each call that answers another
  * number, with its line; the status is then 1. */
+#include "answers.h"
 #include "compactd.h"
 
 #include <stdio.h>
 #include <string.h>
-
-#define IS(wanted, call) is_answered((call), COMPACTD_##wanted, #call, __LINE__)
-#define OK(call) is_answered((call), COMPACTD_OK, #call, __LINE__)
-#define HOLDS(fact) is_answered((fact) ? 0u : 1u, 0, #fact, __LINE__)
-
-static int wrong;
-
-static void is_answered(uint32_t answer, uint32_t wanted, const char *call, int line)
-{
-    if (answer != wanted) {
-        printf("line %d: %s: %u, and not %u\n", line, call, (unsigned)answer, (unsigned)wanted);
-        wrong = 1;
-    }
-}
 
 /* Where calls write. */
 static uint32_t frame;
@@ -39,6 +26,7 @@ static uint32_t moved, stopped;
 static uint32_t in_run, unclaimed;
 static uint32_t firsts[4];
 static size_t claimed;
+static compactd_words lent;
 
 /* Each call on a pool that is closed: from the beginning, or by compactd_close. */
 static void closed(compactd_pool *pool)
@@ -63,6 +51,10 @@ static void closed(compactd_pool *pool)
     IS(CLOSED, compactd_give_order(pool, 0, 9));
     IS(CLOSED, compactd_read_block(pool, 0, 9, 0, words, 1));
     IS(CLOSED, compactd_write_block(pool, 0, 9, 0, words, 1));
+    IS(CLOSED, compactd_block_words(pool, 0, 9, &lent));
+    IS(CLOSED, compactd_return_block(pool, 0, 9, &lent));
+    IS(CLOSED, compactd_close_in(pool, &lent));
+    HOLDS(lent.at == NULL && lent.count == 0);
     IS(CLOSED, compactd_mark(pool, 0));
     IS(CLOSED, compactd_unmark(pool, 0));
     IS(CLOSED, compactd_marked(pool, 0, &is_so));
@@ -74,6 +66,9 @@ static void closed(compactd_pool *pool)
     IS(CLOSED, compactd_look(pool, 0, 0, &info));
     IS(CLOSED, compactd_quiet(pool, &is_so));
     IS(CLOSED, compactd_audit(pool, &round_counts));
+    value = 7;
+    IS(CLOSED, compactd_ended(pool, &value));
+    HOLDS(value == 7);
     IS(CLOSED, compactd_journal(pool, &records, &room));
     IS(CLOSED, compactd_record_at(pool, 0, &record));
     IS(CLOSED, compactd_compact(pool, &is_so));
@@ -188,6 +183,16 @@ static void ranges(compactd_pool *pool, uint32_t page_words)
     IS(RANGE, compactd_read_block(pool, 1 << 24, 9, 0, words, 1));
     IS(NOT_HUGE, compactd_read_block(pool, (1 << 24) - 1, 9, 0, words, 1));
     IS(RANGE, compactd_write_block(pool, 0, 10, 0, words, 1));
+    IS(RANGE, compactd_block_words(pool, 1 << 24, 9, &lent));
+    IS(RANGE, compactd_block_words(pool, 0, 2, &lent));
+    IS(RANGE, compactd_block_words(pool, 0, 10, &lent));
+    IS(NOT_HUGE, compactd_block_words(pool, (1 << 24) - 1, 9, &lent));
+    IS(NOT_HUGE, compactd_block_words(pool, 0, 9, &lent));
+    IS(RANGE, compactd_return_block(pool, far, 9, &lent));
+    IS(RANGE, compactd_return_block(pool, 0, far, &lent));
+    IS(RANGE, compactd_return_block(pool, 0, 9, &lent));
+    IS(OWN_MEMORY, compactd_close_in(pool, &lent));
+    HOLDS(lent.at == NULL && lent.count == 0);
     IS(RANGE, compactd_mark(pool, 1));
     IS(RANGE, compactd_unmark(pool, 8));
     IS(RANGE, compactd_marked(pool, 1, &is_so));
@@ -289,6 +294,9 @@ static void blocks(compactd_pool *pool, uint32_t page_words)
     IS(NOT_HUGE, compactd_read_block(pool, 0, 8, 0, words, 1));
     IS(NOT_HUGE, compactd_write_block(pool, 8, 3, 0, words, 1));
     IS(NOT_HUGE, compactd_give_order(pool, 0, 8));
+    IS(NOT_HUGE, compactd_block_words(pool, 0, 8, &lent));
+    IS(OWN_MEMORY, compactd_block_words(pool, 0, 9, &lent));
+    HOLDS(lent.at == NULL && lent.count == 0);
     OK(compactd_info(pool, &counts));
     HOLDS(counts.free == 0 && counts.pages == 0 && counts.moving == 0 && counts.huge == 1 && counts.whole == 0 && counts.held == 512);
     OK(compactd_give_order(pool, 0, 9));
@@ -341,6 +349,8 @@ static void moved_by_hand(compactd_pool *pool, uint32_t page_words)
     IS(MOVING, compactd_read(pool, 0, 1, 0, 0, words, 0));
     IS(MOVING, compactd_write(pool, 0, 1, 0, 0, words, 1));
     IS(PAGES_MOVING, compactd_audit(pool, &round_counts));
+    OK(compactd_ended(pool, &value));
+    HOLDS(value == 0);
     OK(compactd_look(pool, 1, 0, &info));
     HOLDS(info.moving && info.serial == 0 && info.frame == 0 && info.flags == 0);
     strangers(pool, page_words);
@@ -357,6 +367,8 @@ static void moved_by_hand(compactd_pool *pool, uint32_t page_words)
     IS(MET, compactd_isolate(pool, &page, words, page_words));
     OK(compactd_audit(pool, &round_counts));
     HOLDS(round_counts.isolated == 3 && round_counts.moved == 1 && round_counts.back == 2);
+    OK(compactd_ended(pool, &value));
+    HOLDS(value == 3);
     OK(compactd_quiet(pool, &is_so));
     HOLDS(!is_so);
     OK(compactd_unpin(pool, 0, 1, 1));
@@ -1421,6 +1433,7 @@ static void both_sizes(uint32_t page_words)
     IS(OPEN, compactd_open(&pool, page_words, 1));
     IS(OPEN, compactd_open_journal(&pool, page_words, 1, 1));
     IS(OPEN, compactd_open_sized(&pool, 0, 0, 0, 0, 0));
+    IS(OPEN, compactd_open_in(&pool, 0, 0, 0, 0, 0, &lent, 0));
     ranges(&pool, page_words);
     addresses(&pool);
     pages(&pool, page_words);

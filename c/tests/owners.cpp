@@ -10,8 +10,10 @@
 #include <vector>
 
 using compactd::Address;
+using compactd::BlockWords;
 using compactd::Error;
 using compactd::Huge;
+using compactd::Memory;
 using compactd::Moving;
 using compactd::PageSize;
 using compactd::Pool;
@@ -23,6 +25,9 @@ static_assert(!std::is_copy_constructible<compactd::Keeper>::value && !std::is_m
 static_assert(!std::is_copy_constructible<Moving>::value && !std::is_copy_assignable<Moving>::value, "a moving page isn't copied");
 static_assert(std::is_nothrow_move_constructible<Pool>::value && std::is_nothrow_move_assignable<Huge>::value, "both are moved");
 static_assert(std::is_nothrow_move_constructible<Moving>::value && std::is_nothrow_move_assignable<Moving>::value, "a moving page too");
+
+static_assert(!std::is_copy_constructible<Memory>::value && !std::is_copy_constructible<BlockWords>::value, "words have one owner");
+static_assert(std::is_nothrow_move_assignable<Memory>::value && std::is_nothrow_move_assignable<BlockWords>::value, "both are moved");
 
 namespace {
 
@@ -137,6 +142,75 @@ template <typename Owner> void move_into_itself(Owner &owner)
 {
     Owner &same = owner;
     owner = std::move(same);
+}
+
+const PoolSize two_blocks = {2, 1, 1024};
+
+// Memory that goes into a pool and comes back, or that isn't taken.
+void memory()
+{
+    HOLDS(refusal([] { Memory(0); }) == COMPACTD_RANGE && refusal([] { Memory(static_cast<std::size_t>(-1)); }) == COMPACTD_MEMORY);
+    Memory memory(PageSize::bytes64, 2), none;
+    HOLDS(memory.size() == 8192 && none.size() == 0);
+    HOLDS(refusal([&] { Pool(PageSize::bytes64, {3, 1, 1024}, std::move(memory)); }) == COMPACTD_RANGE && memory.size() == 8192);
+    HOLDS(refusal([&] { Pool(PageSize::bytes64, two_blocks, std::move(none)); }) == COMPACTD_RANGE);
+    Pool pool(PageSize::bytes64, two_blocks, std::move(memory), 9);
+    HOLDS(pool.describe().places == 9 && pool.describe().blocks == 2);
+    pool.map(0, {0, 0});
+    pool.store(0, {0, 0}, 7, 5);
+    Huge huge = pool.take_huge(9);
+    memory = pool.close_in();
+    HOLDS(memory.size() == 8192 && refusal([&] { pool.info(); }) == COMPACTD_CLOSED && refusal([&] { huge.words(); }) == COMPACTD_CLOSED);
+    none = std::move(memory);
+    Pool other(PageSize::bytes64, two_blocks, std::move(none));
+    other.map(0, {0, 9});
+    HOLDS(other.load(0, {0, 9}, 7) == 0);
+    Pool own(PageSize::bytes64, 1);
+    HOLDS(refusal([&] { own.close_in(); }) == COMPACTD_OWN_MEMORY && own.info().free == 512);
+    huge = own.take_huge(3);
+    HOLDS(refusal([&] { huge.words(); }) == COMPACTD_OWN_MEMORY);
+}
+
+// Words that are lent, written by the pointer and returned, by guards that are moved.
+void words_that_are_lent()
+{
+    Pool pool(PageSize::bytes4096, two_blocks, Memory(PageSize::bytes4096, 2));
+    Huge low = pool.take_huge(9), high = pool.take_huge(9);
+    std::uint64_t found[2] = {7, 7};
+    {
+        BlockWords words = low.words(), others = high.words();
+        HOLDS(words.size() == 512 * 512 && others.data() == words.end() && words[0] == 0 && words[512 * 512 - 1] == 0);
+        HOLDS(refusal([&] { low.words(); }) == COMPACTD_LENT && refusal([&] { low.read(0, found, 1); }) == COMPACTD_LENT);
+        HOLDS(refusal([&] { low.give(); }) == COMPACTD_LENT && refusal([&] { pool.close_in(); }) == COMPACTD_LENT && found[0] == 7);
+        std::uint64_t number = 0;
+        for (std::uint64_t &word : words)
+            word = number++;
+        others[512] = 9;
+        HOLDS(others.release() && others[512] == 0);
+        others[0] = 8;
+        others = std::move(words); // which returns those that it had
+        high.read(0, found, 2);
+        HOLDS(found[0] == 8 && found[1] == 0 && others[512] == 512 && words.size() == 0);
+        BlockWords moved = std::move(others);
+        HOLDS(moved[1] == 1 && refusal([&] { low.give(); }) == COMPACTD_LENT);
+    }
+    low.read(511, found, 2);
+    HOLDS(found[0] == 511 && found[1] == 512);
+    low.give();
+    high.give();
+    HOLDS(pool.info().free == 1024);
+}
+
+// The memory stays until the last one goes that has words of it.
+void words_that_stay()
+{
+    std::unique_ptr<Pool> pool(new Pool(PageSize::bytes64, two_blocks, Memory(PageSize::bytes64, 2)));
+    std::unique_ptr<Huge> huge(new Huge(pool->take_huge(9)));
+    BlockWords words = huge->words();
+    pool.reset();
+    words[4095] = 5;
+    huge.reset(); // the block stays handed out, since its words are lent
+    HOLDS(words[4095] == 5);
 }
 
 void moves_into_themselves()
@@ -396,6 +470,9 @@ int main()
     many_pages();
     sizes();
     huge_pages();
+    memory();
+    words_that_are_lent();
+    words_that_stay();
     moves_into_themselves();
     pools_that_go();
     pages_in_a_buffer();

@@ -54,13 +54,13 @@ void __wrap_free(void *block)
 
 /* What each question answers, and what it gets. Refused questions are among them. */
 struct answers {
-    uint32_t numbers[40];
+    uint32_t numbers[41];
     compactd_counts counts;
     compactd_geometry geometry;
     uint64_t looks[PAGES + 1][7];
     compactd_bool marked[2], quiet;
     compactd_round_counts rounds;
-    uint64_t records, room;
+    uint64_t ended, records, room;
     compactd_record kept[RECORDS];
     compactd_moving_page page;
     compactd_move move;
@@ -94,6 +94,7 @@ static void ask(compactd_pool *pool, struct answers *got)
     *number++ = compactd_describe(pool, &got->geometry);
     *number++ = compactd_quiet(pool, &got->quiet);
     *number++ = compactd_audit(pool, &got->rounds);
+    *number++ = compactd_ended(pool, &got->ended);
     *number++ = compactd_journal(pool, &got->records, &got->room);
     *number++ = compactd_next_moving(pool, 0, &got->page, &got->move);
     *number++ = compactd_cheapest_run(pool, 3, &got->first, &got->pages);

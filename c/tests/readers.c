@@ -106,6 +106,7 @@ static int is_plausible(struct reader *self)
     compactd_round_counts rounds;
     compactd_bool is_marked = 0, is_quiet = 0;
     uint32_t audited;
+    uint64_t ended;
 
     if (compactd_info(&pool, &counts) != COMPACTD_OK || compactd_describe(&pool, &geometry) != COMPACTD_OK
         || compactd_marked(&pool, 1, &is_marked) != COMPACTD_OK || compactd_quiet(&pool, &is_quiet) != COMPACTD_OK)
@@ -114,6 +115,8 @@ static int is_plausible(struct reader *self)
     if (audited != (counts.moving > 0 ? COMPACTD_PAGES_MOVING : COMPACTD_OK))
         return 0;
     if (audited == COMPACTD_OK && rounds.moved + rounds.back != rounds.isolated)
+        return 0;
+    if (compactd_ended(&pool, &ended) != COMPACTD_OK || (audited == COMPACTD_OK && ended != rounds.isolated))
         return 0;
     return geometry.page_words == PAGE_WORDS && geometry.blocks == BLOCKS && geometry.places == 0 && !is_marked
         && counts.pages >= PAGES && counts.free + counts.pages + counts.moving + counts.held == FRAMES

@@ -48,16 +48,59 @@ void __wrap_free(void *block)
     __real_free(block);
 }
 
-/* How a pool is opened: by compactd_open_sized where it is told how many virtual pages its 5 spaces have, and else by the other calls. */
+/* How a pool is opened: in memory of the program's, or by compactd_open_sized where it is told how many virtual pages its 5 spaces have, and
+ * else by the other calls. */
 struct opening {
     uint32_t page_words, places, vpages;
+    int is_in_memory;
 };
+
+#define BLOCKS 8
+
+static uint64_t memory[BLOCKS * 512 * 512];
+
+static int is_memory(const compactd_words *words, uint32_t page_words)
+{
+    return words->at == memory && words->count == (size_t)BLOCKS * 512 * page_words;
+}
+
+/* Opens a pool in the memory, which is full of numbers. Whether it is refused or not, no word changes; where it is, the memory stays here. */
+static uint32_t open_in(compactd_pool *pool, const struct opening *as)
+{
+    const size_t count = (size_t)BLOCKS * 512 * as->page_words;
+    compactd_words given = {memory, 0};
+    uint32_t answer;
+    size_t at;
+
+    for (at = 0; at < count; at++)
+        memory[at] = ~(uint64_t)at;
+    given.count = count;
+    answer = compactd_open_in(pool, as->page_words, BLOCKS, 5, as->vpages, as->places, &given, 0);
+    for (at = 0; at < count; at++)
+        if (memory[at] != ~(uint64_t)at)
+            return COMPACTD_STRANGER;
+    if (answer == COMPACTD_OK)
+        return given.at == NULL && given.count == 0 ? COMPACTD_OK : COMPACTD_STRANGER;
+    return is_memory(&given, as->page_words) ? answer : COMPACTD_STRANGER;
+}
+
+/* Closes the pool as it was opened, whose memory comes back. */
+static int is_closed(compactd_pool *pool, const struct opening *as)
+{
+    compactd_words back = {0};
+
+    if (!as->is_in_memory)
+        return compactd_close(pool) == COMPACTD_OK;
+    return compactd_close_in(pool, &back) == COMPACTD_OK && is_memory(&back, as->page_words);
+}
 
 static uint32_t open_pool(compactd_pool *pool, const struct opening *as)
 {
+    if (as->is_in_memory)
+        return open_in(pool, as);
     if (as->vpages)
-        return compactd_open_sized(pool, as->page_words, 8, 5, as->vpages, as->places);
-    return as->places ? compactd_open_journal(pool, as->page_words, 8, as->places) : compactd_open(pool, as->page_words, 8);
+        return compactd_open_sized(pool, as->page_words, BLOCKS, 5, as->vpages, as->places);
+    return as->places ? compactd_open_journal(pool, as->page_words, BLOCKS, as->places) : compactd_open(pool, as->page_words, BLOCKS);
 }
 
 /* How many of the calls below were accepted, and how many were refused. */
@@ -125,9 +168,17 @@ static void make_rounds(compactd_pool *pool, uint32_t page_words)
 
 static void make_calls_on_blocks(compactd_pool *pool, uint32_t page_words)
 {
+    compactd_words lent = {0}, no_words = {0};
     uint32_t first = 0;
 
     made(compactd_take_order(pool, 9, &first));
+    made(compactd_block_words(pool, first, 9, &lent));
+    if (lent.count > 0) {
+        made(compactd_block_words(pool, first, 9, &no_words));
+        made(compactd_give_order(pool, first, 9));
+        made(compactd_close_in(pool, &no_words));
+    }
+    made(compactd_return_block(pool, first, 9, &lent));
     made(compactd_write_block(pool, first, 9, 0, words, page_words));
     made(compactd_read_block(pool, first, 9, 0, words, page_words));
     made(compactd_give_order(pool, first, 9));
@@ -151,6 +202,7 @@ static void ask(compactd_pool *pool)
     made(compactd_look(pool, 0, 1, &info));
     made(compactd_quiet(pool, &is_so));
     made(compactd_audit(pool, &round_counts));
+    made(compactd_ended(pool, &records));
     made(compactd_journal(pool, &records, &room));
     made(compactd_record_at(pool, 0, &record));
     made(compactd_cheapest_run(pool, 3, &first, &pages));
@@ -224,15 +276,15 @@ static int asks_for_two_lists(compactd_pool *pool)
 }
 
 /* Whether calls on an open pool, and then on the closed one, ask for no memory, and nothing is lost. */
-static int asks_no_more(compactd_pool *pool, uint32_t page_words)
+static int asks_no_more(compactd_pool *pool, const struct opening *as)
 {
     const long opening = requests;
 
     accepted = refusals = 0;
-    make_calls(pool, page_words);
-    if (compactd_close(pool) != COMPACTD_OK || held != 0)
+    make_calls(pool, as->page_words);
+    if (!is_closed(pool, as) || held != 0)
         return 0;
-    make_calls(pool, page_words);
+    make_calls(pool, as->page_words);
     printf("%ld requests, %ld after it, by %ld accepted calls and %ld refused ones\n", opening, requests - opening, accepted, refusals);
     return requests == opening && held == 0 && accepted > 0 && refusals > 0;
 }
@@ -249,7 +301,7 @@ static int try_each(const struct opening *as)
         answer = open_pool(&pool, as);
         if (requests < refused) {
             refused = 0;
-            return answer == COMPACTD_OK && asks_for_two_lists(&pool) && asks_for_a_list(&pool) && asks_no_more(&pool, as->page_words);
+            return answer == COMPACTD_OK && asks_for_two_lists(&pool) && asks_for_a_list(&pool) && asks_no_more(&pool, as);
         }
         if (answer != COMPACTD_MEMORY || held != 0)
             return 0;
@@ -261,7 +313,10 @@ static int try_each(const struct opening *as)
 
 int main(void)
 {
-    static const struct opening openings[] = {{8, 0, 0}, {512, 0, 0}, {8, 65536, 0}, {512, 1, 0}, {8, 0, 999}, {512, 3000, 70001}};
+    static const struct opening openings[] = {
+        {8, 0, 0, 0},   {512, 0, 0, 0},        {8, 65536, 0, 0},  {512, 1, 0, 0},
+        {8, 0, 999, 0}, {512, 3000, 70001, 0}, {8, 500, 4096, 1}, {512, 0, 70001, 1},
+    };
     const size_t count = sizeof openings / sizeof openings[0];
     size_t at;
 

@@ -39,6 +39,10 @@ pub enum Error {
     Marked,
     /// The pageblock isn't marked.
     NotMarked,
+    /// The words of the block are lent.
+    Lent,
+    /// The pool lies in memory of its own.
+    OwnMemory,
     /// No page is moving out of this frame or a higher one.
     NotMoving,
     /// The library answered a number that this crate doesn't know.
@@ -46,7 +50,7 @@ pub enum Error {
 }
 
 /// Each error but `Other`, with the number and the text that `compactd.h` has for it.
-const KNOWN: [(Error, u32, &str); 18] = [
+const KNOWN: [(Error, u32, &str); 20] = [
     (Error::Range, 1, "an argument is out of its range"),
     (Error::JournalFull, 2, "the journal has no place left but those for the ends of moves"),
     (Error::Unmapped, 3, "the address names no page"),
@@ -64,6 +68,8 @@ const KNOWN: [(Error, u32, &str); 18] = [
     (Error::PagesMoving, 16, "a page of the pool is moving"),
     (Error::Marked, 17, "the pageblock is marked already"),
     (Error::NotMarked, 18, "the pageblock isn't marked"),
+    (Error::Lent, 19, "the words of the block are lent"),
+    (Error::OwnMemory, 20, "the pool lies in memory of its own"),
     (Error::NotMoving, 54, "no page is moving out of this frame or a higher one"),
 ];
 

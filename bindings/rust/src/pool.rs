@@ -1,7 +1,9 @@
 use std::fmt;
 use std::ptr::null_mut;
 use std::sync::atomic::{AtomicU64, Ordering};
+use std::sync::Arc;
 
+use crate::memory::Mapping;
 use crate::raw;
 use crate::{Error, Huge, Kept};
 
@@ -72,6 +74,8 @@ pub struct Pool {
     pub(crate) raw: raw::Handle,
     pub(crate) number: u64,
     page_size: PageSize,
+    /// Where its pages lie, if that is memory of the caller's.
+    pub(crate) mapping: Option<Arc<Mapping>>,
 }
 
 // The handle is one pointer to memory that the pool owns alone. That it may be used by one thread after the other is proved.
@@ -136,11 +140,11 @@ impl Pool {
         Pool::of(page_size, |raw| unsafe { raw::compactd_open_sized(raw, page_size.words(), blocks, spaces, vpages, places) })
     }
 
-    fn of(page_size: PageSize, open: impl FnOnce(&mut raw::Handle) -> u32) -> Result<Pool, Error> {
+    pub(crate) fn of(page_size: PageSize, open: impl FnOnce(&mut raw::Handle) -> u32) -> Result<Pool, Error> {
         let mut raw = raw::Handle { at: null_mut() };
         done(open(&mut raw))?;
         let number = NEXT.fetch_add(1, Ordering::Relaxed);
-        Ok(Pool { raw, number, page_size })
+        Ok(Pool { raw, number, page_size, mapping: None })
     }
 
     /// How large its pages are.
@@ -246,7 +250,7 @@ impl Pool {
         given.map_err(|error| Kept { error, value: huge })
     }
 
-    fn own(&self, huge: &Huge) -> Result<(), Error> {
+    pub(crate) fn own(&self, huge: &Huge) -> Result<(), Error> {
         if huge.pool == self.number {
             Ok(())
         } else {

@@ -110,6 +110,14 @@ impl Pool {
         Ok(counts)
     }
 
+    /// How many moves have ended since it was opened: those of pages that were moved, and those of pages that were put back. It is told while
+    /// pages are moving too.
+    pub fn ended(&mut self) -> u64 {
+        let mut moves = 0;
+        is_done(unsafe { raw::compactd_ended(&mut self.raw, &mut moves) });
+        moves
+    }
+
     /// How many records were written since it was opened, and how many places are left. A pool that keeps no records counts them too.
     pub fn journal(&mut self) -> (u64, u64) {
         let (mut records, mut room) = (0, 0);

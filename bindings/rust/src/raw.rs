@@ -1,10 +1,22 @@
 //! The calls of the library as C has them.
 
 use std::ffi::c_void;
+use std::ptr::null_mut;
 
 #[repr(C)]
 pub struct Handle {
     pub at: *mut c_void,
+}
+
+/// Words in memory: where they begin and how many there are.
+#[repr(C)]
+pub struct Words {
+    pub at: *mut u64,
+    pub count: usize,
+}
+
+impl Words {
+    pub const NONE: Words = Words { at: null_mut(), count: 0 };
 }
 
 /// The counts of a pool.
@@ -115,7 +127,18 @@ extern "C" {
     pub fn compactd_open(pool: *mut Handle, page_words: u32, blocks: u32) -> u32;
     pub fn compactd_open_journal(pool: *mut Handle, page_words: u32, blocks: u32, places: u32) -> u32;
     pub fn compactd_open_sized(pool: *mut Handle, page_words: u32, blocks: u32, spaces: u32, vpages: u32, places: u32) -> u32;
+    pub fn compactd_open_in(
+        pool: *mut Handle,
+        page_words: u32,
+        blocks: u32,
+        spaces: u32,
+        vpages: u32,
+        places: u32,
+        memory: *mut Words,
+        is_blank: bool,
+    ) -> u32;
     pub fn compactd_close(pool: *mut Handle) -> u32;
+    pub fn compactd_close_in(pool: *mut Handle, memory: *mut Words) -> u32;
     pub fn compactd_set_apart(pool: *mut Handle, apart: bool) -> u32;
     pub fn compactd_map(pool: *mut Handle, client: u32, space: u32, vpage: u32, unmovable: bool, frame: *mut u32) -> u32;
     pub fn compactd_map_at(pool: *mut Handle, client: u32, space: u32, vpage: u32, unmovable: bool, frame: u32) -> u32;
@@ -135,6 +158,8 @@ extern "C" {
     pub fn compactd_write(pool: *mut Handle, client: u32, space: u32, vpage: u32, from: u32, values: *const u64, count: usize) -> u32;
     pub fn compactd_read_block(pool: *mut Handle, first: u32, order: u32, from: usize, values: *mut u64, count: usize) -> u32;
     pub fn compactd_write_block(pool: *mut Handle, first: u32, order: u32, from: usize, values: *const u64, count: usize) -> u32;
+    pub fn compactd_block_words(pool: *mut Handle, first: u32, order: u32, words: *mut Words) -> u32;
+    pub fn compactd_return_block(pool: *mut Handle, first: u32, order: u32, words: *mut Words) -> u32;
     pub fn compactd_info(pool: *mut Handle, counts: *mut Counts) -> u32;
     pub fn compactd_describe(pool: *mut Handle, geometry: *mut Geometry) -> u32;
     pub fn compactd_free_runs(pool: *mut Handle, order: u32, runs: *mut u32) -> u32;
@@ -143,6 +168,7 @@ extern "C" {
     pub fn compactd_marked(pool: *mut Handle, block: u32, marked: *mut bool) -> u32;
     pub fn compactd_quiet(pool: *mut Handle, quiet: *mut bool) -> u32;
     pub fn compactd_audit(pool: *mut Handle, counts: *mut RoundCounts) -> u32;
+    pub fn compactd_ended(pool: *mut Handle, ended: *mut u64) -> u32;
     pub fn compactd_compact(pool: *mut Handle, met: *mut bool) -> u32;
     pub fn compactd_begin_round(pool: *mut Handle) -> u32;
     pub fn compactd_move_pages(pool: *mut Handle, most: u32, moved: *mut u32, stopped: *mut u32) -> u32;

@@ -133,7 +133,7 @@ fn finds_a_lost_page_and_puts_it_back() {
     assert_eq!(pool.put_back_lost(lost[0].page), Ok(()));
     assert_eq!(pool.put_back_lost(lost[0].page), Err(Error::Stranger));
     assert_eq!(pool.put_back_lost(lost[1].page), Ok(()));
-    assert_eq!((pool.unmap(0, AT), pool.audit().unwrap().back, pool.moving_pages()), (Ok(()), 2, vec![]));
+    assert_eq!((pool.ended(), pool.unmap(0, AT), pool.audit().unwrap().back, pool.moving_pages()), (2, Ok(()), 2, vec![]));
 }
 
 #[test]

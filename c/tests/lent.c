@@ -1,0 +1,604 @@
+/* Pools in memory of the caller's, and words of blocks that are lent: each refusal and each change of these calls, in pools with pages of
+ * both sizes, and memory that is mapped by compactd_memory.h. Prints each call that answers another number, with its line; the status is
+ * then 1. */
+#define _DEFAULT_SOURCE
+
+#include "answers.h"
+#include "compactd.h"
+#include "compactd_memory.h"
+
+#include <stdlib.h>
+#include <string.h>
+#include <sys/mman.h>
+
+#define BLOCKS 3
+#define FRAMES (BLOCKS * 512u)
+#define GARBAGE 0xA5
+
+/* Where calls write. */
+static uint32_t frame, first, moved, stopped, pages, unclaimed;
+static uint64_t value;
+static uint64_t words[512];
+static compactd_bool is_so;
+static compactd_counts counts;
+static compactd_words memory, lent, other;
+
+static int is_nothing(const compactd_words *found)
+{
+    return found->at == NULL && found->count == 0;
+}
+
+static int is_same(const compactd_words *found, const compactd_words *wanted)
+{
+    return found->at == wanted->at && found->count == wanted->count;
+}
+
+/* Memory of malloc that is full of something. */
+static void find_memory(size_t count)
+{
+    memory.at = malloc(count * sizeof memory.at[0]);
+    if (memory.at == NULL)
+        abort();
+    memory.count = count;
+    memset(memory.at, GARBAGE, count * sizeof memory.at[0]);
+}
+
+static void lose_memory(void)
+{
+    free(memory.at);
+    memory.at = NULL;
+    memory.count = 0;
+}
+
+/* A pool in memory that isn't blank. Returns where this begins. */
+static uint64_t *open_in(compactd_pool *pool, uint32_t page_words, uint32_t places)
+{
+    uint64_t *begin;
+
+    find_memory((size_t)FRAMES * page_words);
+    begin = memory.at;
+    OK(compactd_open_in(pool, page_words, BLOCKS, 2, FRAMES, places, &memory, 0));
+    HOLDS(is_nothing(&memory));
+    return begin;
+}
+
+/* Closes the pool, whose memory comes back as it was given. */
+static void close_in(compactd_pool *pool, const uint64_t *begin, uint32_t page_words)
+{
+    OK(compactd_close_in(pool, &memory));
+    HOLDS(memory.at == begin && memory.count == (size_t)FRAMES * page_words);
+    lose_memory();
+}
+
+/* What stands in each word of a page or of a block. */
+static uint64_t word_of(uint64_t number, size_t at)
+{
+    return (number << 32) + at * 7 + 1;
+}
+
+static void fill(const compactd_words *block, uint64_t number)
+{
+    size_t at;
+
+    for (at = 0; at < block->count; at++)
+        block->at[at] = word_of(number, at);
+}
+
+static int are_all(const compactd_words *block, uint64_t number)
+{
+    size_t at;
+
+    for (at = 0; at < block->count; at++)
+        if (block->at[at] != word_of(number, at))
+            return 0;
+    return 1;
+}
+
+static int are_zeros(const uint64_t *from, size_t count)
+{
+    size_t at;
+
+    for (at = 0; at < count; at++)
+        if (from[at] != 0)
+            return 0;
+    return 1;
+}
+
+/* The words of a block as compactd_read_block has them. */
+static int block_has(compactd_pool *pool, uint32_t from, uint32_t order, uint32_t page_words, uint64_t number)
+{
+    uint32_t at, word;
+
+    for (at = 0; at < (uint32_t)1 << order; at++) {
+        OK(compactd_read_block(pool, from, order, (size_t)at * page_words, words, page_words));
+        for (word = 0; word < page_words; word++)
+            if (words[word] != word_of(number, (size_t)at * page_words + word))
+                return 0;
+    }
+    return 1;
+}
+
+static void write_page(compactd_pool *pool, uint32_t vpage, uint32_t page_words)
+{
+    uint32_t word;
+
+    for (word = 0; word < page_words; word++)
+        words[word] = word_of(vpage, word);
+    OK(compactd_write(pool, 0, 0, vpage, 0, words, page_words));
+}
+
+static int page_has(compactd_pool *pool, uint32_t vpage, uint32_t page_words)
+{
+    uint32_t word;
+
+    OK(compactd_read(pool, 0, 0, vpage, 0, words, page_words));
+    for (word = 0; word < page_words; word++)
+        if (words[word] != word_of(vpage, word))
+            return 0;
+    return 1;
+}
+
+static void refused_openings(uint32_t page_words)
+{
+    static const struct {
+        uint32_t page_words; /* or 1 for those of the test */
+        uint32_t blocks, spaces, vpages, places;
+        int more; /* words than the memory of BLOCKS has */
+    } rows[] = {
+        {9, BLOCKS, 1, 1, 0, 0},
+        {0, BLOCKS, 1, 1, 0, 0},
+        {1, 0, 1, 1, 0, 0},
+        {1, 32769, 1, 1, 0, 0},
+        {1, BLOCKS, 0, 1, 0, 0},
+        {1, BLOCKS, 257, 1, 0, 0},
+        {1, BLOCKS, 1, 0, 0, 0},
+        {1, BLOCKS, 1, 16777217, 0, 0},
+        {1, BLOCKS, 5, 16777216, 0, 0},
+        {1, BLOCKS, 1, 1, 65537, 0},
+        {1, BLOCKS, 1, 1, 0, 1},
+        {1, BLOCKS, 1, 1, 0, -1},
+        {1, BLOCKS - 1, 1, 1, 0, 0},
+        {1, BLOCKS + 1, 1, 1, 0, 0},
+    };
+    compactd_pool pool = {0};
+    compactd_words given;
+    size_t at;
+
+    find_memory((size_t)FRAMES * page_words);
+    for (at = 0; at < sizeof rows / sizeof rows[0]; at++) {
+        uint32_t size = rows[at].page_words == 1 ? page_words : rows[at].page_words;
+
+        given.at = memory.at;
+        given.count = memory.count + (size_t)rows[at].more;
+        other = given;
+        IS(RANGE, compactd_open_in(&pool, size, rows[at].blocks, rows[at].spaces, rows[at].vpages, rows[at].places, &given, at % 2));
+        HOLDS(is_same(&given, &other));
+        IS(CLOSED, compactd_info(&pool, &counts));
+    }
+    IS(RANGE, compactd_open_in(&pool, page_words, BLOCKS, 1, 1, 0, &lent, 1)); /* no words at all */
+    IS(RANGE, compactd_open_in(&pool, page_words == 8 ? 512 : 8, BLOCKS, 1, 1, 0, &memory, 0));
+    OK(compactd_open(&pool, page_words, 1));
+    other = memory;
+    IS(OPEN, compactd_open_in(&pool, page_words, BLOCKS, 1, 1, 0, &memory, 0));
+    HOLDS(is_same(&memory, &other) && is_nothing(&lent));
+    for (at = 0; at < memory.count; at++)
+        if (((unsigned char *)memory.at)[at * 8] != GARBAGE)
+            break;
+    HOLDS(at == memory.count); /* no refused call wrote a word */
+    OK(compactd_close(&pool));
+    lose_memory();
+}
+
+/* The memory isn't blank: each page and each block is cleared when its frames are first used, and later. */
+static void garbage_is_cleared(uint32_t page_words)
+{
+    compactd_pool pool = {0};
+    uint64_t *begin = open_in(&pool, page_words, 0);
+    uint32_t vpage;
+
+    for (vpage = 0; vpage < 512; vpage++) {
+        OK(compactd_map(&pool, 0, 0, vpage, 0, &frame));
+        OK(compactd_read(&pool, 0, 0, vpage, 0, words, page_words));
+        HOLDS(frame == vpage && are_zeros(words, page_words));
+        write_page(&pool, vpage, page_words);
+    }
+    OK(compactd_take_order(&pool, 9, &first));
+    OK(compactd_read_block(&pool, first, 9, (size_t)511 * page_words, words, page_words));
+    HOLDS(first == 512 && are_zeros(words, page_words));
+    OK(compactd_block_words(&pool, 512, 9, &lent));
+    HOLDS(lent.at == begin + (size_t)512 * page_words && lent.count == (size_t)512 * page_words);
+    HOLDS(are_zeros(lent.at, lent.count));
+    fill(&lent, 1);
+    OK(compactd_return_block(&pool, 512, 9, &lent));
+    OK(compactd_give_order(&pool, 512, 9));
+    OK(compactd_take_order(&pool, 9, &first));
+    OK(compactd_block_words(&pool, first, 9, &lent));
+    HOLDS(first == 512 && are_zeros(lent.at, lent.count)); /* what was left in it is gone */
+    OK(compactd_return_block(&pool, 512, 9, &lent));
+    for (vpage = 0; vpage < 512; vpage++)
+        HOLDS(page_has(&pool, vpage, page_words));
+    close_in(&pool, begin, page_words);
+}
+
+/* Where the caller says that its memory is blank, and it is. Frames of pages lie where the memory has them, the lowest in front. */
+static void blank_memory(uint32_t page_words)
+{
+    compactd_pool pool = {0};
+    uint64_t *begin;
+
+    find_memory((size_t)FRAMES * page_words);
+    memset(memory.at, 0, memory.count * sizeof memory.at[0]);
+    begin = memory.at;
+    OK(compactd_open_in(&pool, page_words, BLOCKS, 1, 9, 100, &memory, 1));
+    OK(compactd_map_at(&pool, 0, 0, 0, 0, 700));
+    OK(compactd_store(&pool, 0, 0, 0, 7, 5));
+    OK(compactd_take_order(&pool, 3, &first));
+    OK(compactd_block_words(&pool, first, 3, &lent));
+    HOLDS(first == 0 && lent.at == begin && lent.count == (size_t)8 * page_words && are_zeros(lent.at, lent.count));
+    fill(&lent, 3);
+    OK(compactd_return_block(&pool, first, 3, &lent));
+    OK(compactd_give_order(&pool, first, 3));
+    OK(compactd_map(&pool, 0, 0, 1, 0, &frame));
+    OK(compactd_read(&pool, 0, 0, 1, 0, words, page_words));
+    HOLDS(frame == 0 && are_zeros(words, page_words));
+    OK(compactd_close_in(&pool, &memory));
+    HOLDS(memory.at == begin && memory.count == (size_t)FRAMES * page_words);
+    lose_memory();
+}
+
+/* What each call of a block is refused as while its words are lent, and what else comes first. */
+static void refusals_of_a_lent_block(uint32_t page_words)
+{
+    const size_t count = (size_t)16 * page_words;
+    compactd_pool pool = {0};
+    uint64_t *begin = open_in(&pool, page_words, 0);
+
+    OK(compactd_take_order(&pool, 4, &first));
+    OK(compactd_take_order(&pool, 4, &frame));
+    HOLDS(first == 0 && frame == 16);
+    IS(RANGE, compactd_block_words(&pool, 1 << 24, 4, &lent));
+    IS(RANGE, compactd_block_words(&pool, 0, 2, &lent));
+    IS(NOT_HUGE, compactd_block_words(&pool, 0, 5, &lent));
+    IS(NOT_HUGE, compactd_block_words(&pool, 32, 4, &lent));
+    HOLDS(is_nothing(&lent));
+    OK(compactd_block_words(&pool, 0, 4, &lent));
+    fill(&lent, 1);
+    IS(RANGE, compactd_block_words(&pool, 0, 11, &other));
+    IS(NOT_HUGE, compactd_block_words(&pool, 0, 3, &other));
+    other.at = NULL;
+    other.count = 0;
+    IS(LENT, compactd_block_words(&pool, 0, 4, &other));
+    HOLDS(is_nothing(&other));
+    words[0] = 7;
+    IS(LENT, compactd_read_block(&pool, 0, 4, 0, words, 1));
+    IS(LENT, compactd_read_block(&pool, 0, 4, count, words, 0));
+    IS(RANGE, compactd_read_block(&pool, 0, 4, count, words, 1));
+    IS(NOT_HUGE, compactd_read_block(&pool, 0, 3, count, words, 1));
+    IS(LENT, compactd_write_block(&pool, 0, 4, count - 1, words, 1));
+    IS(RANGE, compactd_write_block(&pool, 0, 4, count, words, 1));
+    IS(LENT, compactd_give_order(&pool, 0, 4));
+    IS(NOT_HUGE, compactd_give_order(&pool, 0, 5));
+    IS(LENT, compactd_close_in(&pool, &other));
+    HOLDS(words[0] == 7 && is_nothing(&other));
+    OK(compactd_read_block(&pool, 16, 4, 0, words, 1)); /* the other block isn't lent */
+    OK(compactd_write_block(&pool, 16, 4, count - 1, words, 1));
+    HOLDS(are_all(&lent, 1));
+    OK(compactd_return_block(&pool, 0, 4, &lent));
+    HOLDS(is_nothing(&lent) && block_has(&pool, 0, 4, page_words, 1));
+    OK(compactd_give_order(&pool, 0, 4));
+    close_in(&pool, begin, page_words);
+}
+
+static void refused_returns(uint32_t page_words)
+{
+    compactd_pool pool = {0};
+    uint64_t *begin = open_in(&pool, page_words, 0);
+
+    OK(compactd_take_order(&pool, 4, &first));
+    OK(compactd_block_words(&pool, first, 4, &lent));
+    fill(&lent, 2);
+    other = lent;
+    IS(RANGE, compactd_return_block(&pool, 1 << 24, 4, &lent));
+    IS(RANGE, compactd_return_block(&pool, 0, 2, &lent));
+    IS(RANGE, compactd_return_block(&pool, 0, 3, &lent));
+    IS(RANGE, compactd_return_block(&pool, 0, 5, &lent));
+    lent.at = begin + (size_t)16 * page_words; /* where a block would lie that isn't handed out */
+    IS(RANGE, compactd_return_block(&pool, 16, 5, &lent));
+    IS(NOT_HUGE, compactd_return_block(&pool, 16, 4, &lent));
+    lent = other;
+    lent.count--;
+    IS(RANGE, compactd_return_block(&pool, 0, 4, &lent));
+    lent.count = 0;
+    IS(RANGE, compactd_return_block(&pool, 0, 4, &lent));
+    lent = other;
+    HOLDS(are_all(&lent, 2));
+    IS(LENT, compactd_give_order(&pool, 0, 4)); /* it is lent as before */
+    OK(compactd_return_block(&pool, 0, 4, &lent));
+    HOLDS(is_nothing(&lent) && block_has(&pool, 0, 4, page_words, 2));
+    close_in(&pool, begin, page_words);
+}
+
+/* Blocks of each order, all lent at once, with pages between them. Each is as it was left, and so is each page. */
+static void every_order(uint32_t page_words)
+{
+    compactd_pool pool = {0};
+    uint64_t *begin = open_in(&pool, page_words, 0);
+    compactd_words of_order[10];
+    uint32_t firsts[10], order, turn;
+
+    memset(of_order, 0, sizeof of_order);
+    for (order = 3; order <= 9; order++) {
+        OK(compactd_take_order(&pool, order, &firsts[order]));
+        OK(compactd_map(&pool, 0, 0, order, 0, &frame));
+        write_page(&pool, order, page_words);
+    }
+    for (turn = 0; turn < 2; turn++) {
+        for (order = 3; order <= 9; order++) {
+            OK(compactd_block_words(&pool, firsts[order], order, &of_order[order]));
+            HOLDS(of_order[order].at == begin + (size_t)firsts[order] * page_words);
+            HOLDS(of_order[order].count == (size_t)page_words << order);
+            HOLDS(turn == 0 ? are_zeros(of_order[order].at, of_order[order].count) : are_all(&of_order[order], order));
+            fill(&of_order[order], order + turn);
+        }
+        IS(LENT, compactd_close_in(&pool, &memory));
+        for (order = 9; order >= 3; order--) {
+            OK(compactd_return_block(&pool, firsts[order], order, &of_order[order]));
+            HOLDS(block_has(&pool, firsts[order], order, page_words, order + turn));
+            words[0] = word_of(order, 0);
+            words[1] = word_of(order, 1);
+            fill(&of_order[order], 0); /* there are none */
+            if (turn == 0)
+                OK(compactd_write_block(&pool, firsts[order], order, 0, words, 2));
+        }
+    }
+    for (order = 3; order <= 9; order++) {
+        HOLDS(page_has(&pool, order, page_words));
+        OK(compactd_give_order(&pool, firsts[order], order));
+    }
+    close_in(&pool, begin, page_words);
+}
+
+/* Pages in two of three frames, but for the pageblock in the middle, whose words are lent. */
+static void fill_beside(compactd_pool *pool, uint32_t page_words)
+{
+    uint32_t vpage;
+
+    for (vpage = 0; vpage < 512; vpage++)
+        OK(compactd_map_at(pool, 0, 1, vpage, 0, vpage));
+    OK(compactd_take_order(pool, 9, &first));
+    HOLDS(first == 512);
+    for (vpage = 0; vpage < 512; vpage++)
+        OK(compactd_unmap(pool, 0, 1, vpage));
+    for (vpage = 0; vpage < FRAMES; vpage++)
+        if (vpage % 3 != 0 && vpage / 512 != 1) {
+            OK(compactd_map_at(pool, 0, 0, vpage, 0, vpage));
+            write_page(pool, vpage, page_words);
+        }
+    OK(compactd_block_words(pool, 512, 9, &lent));
+    fill(&lent, 9);
+}
+
+/* Each page and the lent block have their words. */
+static void all_is_kept(compactd_pool *pool, uint32_t page_words)
+{
+    uint32_t vpage;
+
+    for (vpage = 0; vpage < FRAMES; vpage++)
+        if (vpage % 3 != 0 && vpage / 512 != 1)
+            HOLDS(page_has(pool, vpage, page_words));
+    HOLDS(are_all(&lent, 9));
+}
+
+/* Rounds, evacuations, reservations and keepers beside a block that is lent. */
+static void moves_beside(uint32_t page_words)
+{
+    compactd_pool pool = {0};
+    uint64_t *begin = open_in(&pool, page_words, 0);
+    uint32_t firsts[2];
+    size_t claimed = 0;
+
+    fill_beside(&pool, page_words);
+    OK(compactd_evacuate(&pool, 8, 3, &moved));
+    HOLDS(moved == 5);
+    IS(NO_BLOCK, compactd_evacuate(&pool, 512, 9, &moved));
+    all_is_kept(&pool, page_words);
+    OK(compactd_begin_round(&pool));
+    OK(compactd_move_pages(&pool, 10, &moved, &stopped));
+    HOLDS(moved == 10);
+    lent.at[0]++; /* the caller goes on with its words */
+    OK(compactd_compact(&pool, &is_so));
+    HOLDS(is_so && lent.at[0]-- == word_of(9, 0) + 1);
+    all_is_kept(&pool, page_words);
+    OK(compactd_reserve(&pool, 5, firsts, 2, &moved));
+    OK(compactd_claim(&pool, 256, 4, &pages));
+    OK(compactd_empty_some(&pool, 256, 4, 16, &moved, &unclaimed));
+    HOLDS(unclaimed == 0);
+    do
+        OK(compactd_keep(&pool, 4, 5, firsts, 2, &claimed, &moved, &is_so));
+    while (is_so);
+    OK(compactd_take_kept(&pool, 4, firsts, 2, &claimed, &first, &moved));
+    all_is_kept(&pool, page_words);
+    OK(compactd_take_claimed(&pool, 256, 4));
+    other.at = NULL;
+    other.count = 0;
+    OK(compactd_block_words(&pool, first, 4, &other));
+    HOLDS(are_zeros(other.at, other.count));
+    fill(&other, 11);
+    OK(compactd_compact(&pool, &is_so));
+    all_is_kept(&pool, page_words);
+    HOLDS(are_all(&other, 11));
+    OK(compactd_return_block(&pool, first, 4, &other));
+    OK(compactd_return_block(&pool, 512, 9, &lent));
+    HOLDS(block_has(&pool, first, 4, page_words, 11) && block_has(&pool, 512, 9, page_words, 9));
+    close_in(&pool, begin, page_words);
+}
+
+/* The two calls need no place in the journal, and have no record. */
+static void full_journal(uint32_t page_words)
+{
+    compactd_pool pool = {0};
+    uint64_t *begin = open_in(&pool, page_words, 2);
+    uint64_t records, room;
+
+    OK(compactd_take_order(&pool, 9, &first));
+    OK(compactd_block_words(&pool, first, 9, &lent));
+    IS(LENT, compactd_give_order(&pool, first, 9));
+    OK(compactd_return_block(&pool, first, 9, &lent));
+    OK(compactd_mark(&pool, 1));
+    OK(compactd_block_words(&pool, first, 9, &lent));
+    IS(JOURNAL_FULL, compactd_give_order(&pool, first, 9));
+    IS(LENT, compactd_read_block(&pool, first, 9, 0, words, 1));
+    OK(compactd_return_block(&pool, first, 9, &lent));
+    OK(compactd_journal(&pool, &records, &room));
+    HOLDS(records == 2 && room == 0);
+    close_in(&pool, begin, page_words);
+}
+
+/* A pool is closed: its memory is as good as before, and a second one is opened in it. Where words are lent it isn't closed. */
+static void closings(uint32_t page_words)
+{
+    compactd_pool pool = {0};
+    uint64_t *begin = open_in(&pool, page_words, 0);
+    const size_t count = (size_t)FRAMES * page_words;
+
+    OK(compactd_map(&pool, 0, 0, 0, 0, &frame));
+    write_page(&pool, 0, page_words);
+    OK(compactd_take_order(&pool, 8, &first));
+    OK(compactd_block_words(&pool, first, 8, &lent));
+    fill(&lent, 4);
+    IS(LENT, compactd_close_in(&pool, &memory));
+    HOLDS(is_nothing(&memory) && page_has(&pool, 0, page_words) && are_all(&lent, 4));
+    OK(compactd_return_block(&pool, first, 8, &lent));
+    OK(compactd_close_in(&pool, &memory)); /* a block is handed out, and a page is mapped */
+    HOLDS(memory.at == begin && memory.count == count);
+    other.at = NULL;
+    other.count = 0;
+    IS(CLOSED, compactd_close_in(&pool, &other));
+    IS(CLOSED, compactd_close(&pool));
+    IS(CLOSED, compactd_block_words(&pool, first, 8, &other));
+    IS(CLOSED, compactd_return_block(&pool, first, 8, &other));
+    memset(memory.at, GARBAGE, count * sizeof memory.at[0]);
+    OK(compactd_open_in(&pool, page_words, BLOCKS, 1, 9, 0, &memory, 0));
+    OK(compactd_map(&pool, 0, 0, 8, 0, &frame));
+    OK(compactd_read(&pool, 0, 0, 8, 0, words, page_words));
+    HOLDS(frame == 0 && are_zeros(words, page_words));
+    OK(compactd_take_order(&pool, 9, &first));
+    OK(compactd_block_words(&pool, first, 9, &lent));
+    HOLDS(first == 512 && are_zeros(lent.at, lent.count));
+    OK(compactd_close(&pool)); /* the other way: the memory is the caller's, whatever was lent */
+    IS(CLOSED, compactd_close(&pool));
+    memset(begin, GARBAGE, count * sizeof begin[0]);
+    free(begin);
+    lent = memory;
+    OK(compactd_open_sized(&pool, page_words, 1, 1, 1, 0));
+    IS(OWN_MEMORY, compactd_close_in(&pool, &memory));
+    OK(compactd_take_order(&pool, 3, &first));
+    IS(OWN_MEMORY, compactd_block_words(&pool, first, 3, &lent));
+    HOLDS(is_nothing(&memory) && is_nothing(&lent));
+    OK(compactd_close(&pool));
+}
+
+/* How many of the pages of 4 KiB of some memory the system has in memory of its own. */
+static size_t resident(const uint64_t *at, size_t count)
+{
+    static unsigned char are_there[FRAMES];
+    const size_t small = count * sizeof at[0] / COMPACTD_SMALL_PAGE;
+    size_t found = 0, page;
+
+    HOLDS(small <= sizeof are_there && mincore((void *)at, count * sizeof at[0], are_there) == 0);
+    for (page = 0; page < small; page++)
+        found += are_there[page] & 1;
+    return found;
+}
+
+/* A pool in memory that is mapped. No word of a frame is written before it is first used: nothing is resident after the opening. */
+static void mapped(uint32_t page_words, compactd_bool is_blank)
+{
+    const size_t count = (size_t)FRAMES * page_words;
+    compactd_pool pool = {0};
+    uint64_t *begin;
+    size_t before;
+
+    HOLDS(compactd_map_memory(count, &memory) == 0);
+    HOLDS(memory.count == count && (size_t)memory.at % COMPACTD_HUGE_PAGE == 0);
+    HOLDS(resident(memory.at, count) == 0);
+    begin = memory.at;
+    OK(compactd_open_in(&pool, page_words, BLOCKS, 1, 512, 0, &memory, is_blank));
+    HOLDS(resident(begin, count) == 0);
+    OK(compactd_take_order(&pool, 9, &first));
+    OK(compactd_map(&pool, 0, 0, 0, 0, &frame));
+    write_page(&pool, 0, page_words);
+    OK(compactd_block_words(&pool, first, 9, &lent));
+    fill(&lent, 6);
+    before = resident(begin, count);
+    HOLDS(before >= (size_t)512 * page_words * 8 / COMPACTD_SMALL_PAGE);
+    HOLDS(compactd_release_words(&lent) == 0);
+    HOLDS(resident(lent.at, lent.count) == 0 && resident(begin, count) < before);
+    HOLDS(are_zeros(lent.at, lent.count));
+    lent.at[0] = 5;
+    OK(compactd_return_block(&pool, first, 9, &lent));
+    OK(compactd_read_block(&pool, first, 9, 0, words, 2));
+    HOLDS(words[0] == 5 && words[1] == 0 && page_has(&pool, 0, page_words));
+    OK(compactd_close_in(&pool, &memory));
+    HOLDS(memory.at == begin && memory.count == count);
+    HOLDS(compactd_unmap_memory(&memory) == 0 && is_nothing(&memory));
+}
+
+/* What compactd_memory.h does with odd numbers of words: only whole pages are released. */
+static void odd_memory(void)
+{
+    static const struct {
+        size_t from, count, whole_from, whole_to; /* words of a memory of 3 pages, and those that are released of them */
+    } rows[] = {
+        {0, 1536, 0, 1536},
+        {0, 1535, 0, 1024},
+        {1, 1535, 512, 1536},
+        {1, 1022, 512, 512},
+        {511, 514, 512, 1024},
+        {512, 1, 512, 512},
+        {600, 100, 0, 0},
+        {513, 511, 0, 0},
+    };
+    size_t row, at;
+
+    HOLDS(compactd_map_memory(0, &memory) == EINVAL && is_nothing(&memory));
+    HOLDS(compactd_map_memory((size_t)-1, &memory) == ENOMEM && is_nothing(&memory));
+    HOLDS(compactd_map_memory((size_t)1 << 60, &memory) != 0 && is_nothing(&memory)); /* more than the system has */
+    HOLDS(compactd_unmap_memory(&memory) == 0 && compactd_release_words(&memory) == 0);
+    HOLDS(compactd_map_memory(1536, &memory) == 0);
+    HOLDS(are_zeros(memory.at, 1536));
+    for (row = 0; row < sizeof rows / sizeof rows[0]; row++) {
+        fill(&memory, row);
+        other.at = memory.at + rows[row].from;
+        other.count = rows[row].count;
+        HOLDS(compactd_release_words(&other) == 0);
+        for (at = 0; at < 1536; at++)
+            HOLDS(memory.at[at] == (at >= rows[row].whole_from && at < rows[row].whole_to ? 0 : word_of(row, at)));
+    }
+    HOLDS(compactd_unmap_memory(&memory) == 0 && is_nothing(&memory));
+    HOLDS(compactd_map_memory(1, &memory) == 0 && memory.count == 1 && memory.at[0] == 0);
+    HOLDS(compactd_unmap_memory(&memory) == 0);
+}
+
+static void both_sizes(uint32_t page_words)
+{
+    refused_openings(page_words);
+    garbage_is_cleared(page_words);
+    blank_memory(page_words);
+    refusals_of_a_lent_block(page_words);
+    refused_returns(page_words);
+    every_order(page_words);
+    moves_beside(page_words);
+    full_journal(page_words);
+    closings(page_words);
+    mapped(page_words, 0);
+    mapped(page_words, 1);
+}
+
+int main(void)
+{
+    both_sizes(8);
+    both_sizes(512);
+    odd_memory();
+    return wrong;
+}

@@ -1,0 +1,134 @@
+"""Memory that a caller gives a pool of the library for C, and the words of blocks that this lends, for `checks/c_calls.py`."""
+
+import ctypes
+import struct
+
+import runs
+
+u64, size = ctypes.c_uint64, ctypes.c_size_t
+WORD = 8  # its bytes
+GARBAGE = 0x5A
+OWN_MEMORY, LENT = 20, 19
+
+
+class Words(ctypes.Structure):
+    _fields_ = [("at", size), ("count", size)]
+
+
+def fields_of(words):
+    return words.at, words.count
+
+
+class Memory:
+    """Memory for a pool: blank, or full of something."""
+
+    def __init__(self, count, is_blank):
+        self.words, self.is_blank = (u64 * count)(), is_blank
+        if not is_blank:
+            ctypes.memset(self.words, GARBAGE, count * WORD)
+
+    def given(self):
+        return Words(ctypes.addressof(self.words), len(self.words))
+
+
+class Lending:
+    """The blocks of a pool whose words are lent, by their first frames and orders, and the machine's words beside theirs. The pool has
+    memory of the caller's, or none of it."""
+
+    def __init__(self, pool, memory):
+        self.pool, self.memory, self.lent = pool, memory, {}
+        self.page_words = pool.machine.zone.page_words
+
+    def need(self, call, found, wanted):
+        if found != wanted:
+            raise runs.Failed(f"{call}: it answers {found}, and not {wanted}")
+
+    def block_words(self, chooser):
+        """Borrows the words of a block, compares them with those that it has, and writes some."""
+        block, words = chooser.block(), Words()
+        number, count = self.pool.wanted("block_words", block)
+        answer = self.pool.call("block_words", *block, words)
+        place = (self.place_of(block), count) if number == 0 else (0, 0)
+        self.need(f"block_words{block}", (answer, *fields_of(words)), (number, *place))
+        if answer == 0:
+            self.lent[block] = words
+            self.compare(block)
+            self.write(block, chooser)
+        return answer
+
+    def return_block(self, chooser):
+        """Writes words of a block that are lent, and returns them: now and then as those of another block, or too few or too many."""
+        chance = chooser.chance
+        if not self.lent:
+            return self.give_back(chooser.block(), Words())
+        own = block = chance.choice(list(self.lent))
+        given = Words(*fields_of(self.lent[own]))
+        self.write(own, chooser)
+        if chance.random() < 0.2:
+            block = chance.choice([own, chooser.block(), chooser.any_run()])
+            given.count = chance.choice([given.count, given.count - 1, self.count_of(block), 0])
+            if block in self.pool.machine.zone.handed_out and given.count == self.count_of(block):
+                block = own  # no others are returned as the words of a block that is handed out
+            given.at = self.place_of(block)
+        if block == own:
+            self.compare(own)
+        answer = self.give_back(block, given)
+        if answer == 0:
+            del self.lent[own]
+        return answer
+
+    def place_of(self, block):
+        return self.memory.given().at + block[0] * self.page_words * WORD
+
+    def count_of(self, block):
+        return self.page_words << min(block[1], 9)
+
+    def give_back(self, block, given):
+        before = fields_of(given)
+        number, _ = self.pool.wanted("return_block", (*block, given.count))
+        answer = self.pool.call("return_block", *block, given)
+        self.need(f"return_block{block, before}", (answer, *fields_of(given)), (number, *((0, 0) if number == 0 else before)))
+        return answer
+
+    def write(self, block, chooser):
+        """Writes some words by the pointer."""
+        words, values = self.words_at(block), chooser.values()
+        start = chooser.chance.randrange(len(words))
+        values = values[: len(words) - start]
+        words[start : start + len(values)] = values
+        self.pool.machine.zone.contents[block[0]].update(enumerate(values, start))
+
+    def words_at(self, block):
+        at, count = fields_of(self.lent[block])
+        return (u64 * count).from_address(at)
+
+    def compare(self, block):
+        """The words of a block are the machine's."""
+        words = self.words_at(block)
+        wanted = bytearray(len(words) * WORD)
+        for place, value in self.pool.machine.zone.contents[block[0]].items():
+            struct.pack_into("=Q", wanted, place * WORD, value)
+        if bytes(words) != wanted:
+            raise runs.Failed(f"the block {block} has other words than it was left with")
+
+    # The end of a pool.
+
+    def close(self):
+        """Closes the pool. Where it lies in memory of the caller's, all words are returned before, and the words of each block compared."""
+        back = Words()
+        if self.memory is None:
+            self.need("close_in", (self.pool.call("close_in", back), *fields_of(back)), (OWN_MEMORY, 0, 0))
+            return self.need("close", self.pool.call("close"), 0)
+        if self.lent:
+            self.need("close_in", (self.pool.call("close_in", back), *fields_of(back)), (LENT, 0, 0))
+        for block in sorted(self.pool.machine.zone.handed_out):
+            self.compare_and_return(block)
+        given = self.memory.given()
+        return self.need("close_in", (self.pool.call("close_in", back), *fields_of(back)), (0, *fields_of(given)))
+
+    def compare_and_return(self, block):
+        if block not in self.lent:
+            self.lent[block] = Words()
+            self.need(f"block_words{block}", self.pool.call("block_words", *block, self.lent[block]), 0)
+        self.compare(block)
+        self.need(f"return_block{block}", self.pool.call("return_block", *block, self.lent[block]), 0)
