@@ -17,7 +17,6 @@
 
 /* Where calls write. */
 static uint32_t frame, first, moved, stopped, pages, unclaimed;
-static uint64_t value;
 static uint64_t words[512];
 static compactd_bool is_so;
 static compactd_counts counts;
@@ -229,7 +228,7 @@ static void blank_memory(uint32_t page_words)
     find_memory((size_t)FRAMES * page_words);
     memset(memory.at, 0, memory.count * sizeof memory.at[0]);
     begin = memory.at;
-    OK(compactd_open_in(&pool, page_words, BLOCKS, 1, 9, 100, &memory, 1));
+    OK(compactd_open_in(&pool, page_words, BLOCKS, 1, 9, 1000, &memory, 1));
     OK(compactd_map_at(&pool, 0, 0, 0, 0, 700));
     OK(compactd_store(&pool, 0, 0, 0, 7, 5));
     OK(compactd_take_order(&pool, 3, &first));
