@@ -69,7 +69,7 @@ class Lending:
             given.count = chance.choice([given.count, given.count - 1, self.count_of(block), 0])
             if block in self.pool.machine.zone.handed_out and given.count == self.count_of(block):
                 block = own  # no others are returned as the words of a block that is handed out
-            given.at = self.place_of(block)
+            given.at = self.place_of(block) if given.count else 0
         if block == own:
             self.compare(own)
         answer = self.give_back(block, given)

@@ -307,8 +307,8 @@ static void refused_returns(uint32_t page_words)
     lent = other;
     lent.count--;
     IS(RANGE, compactd_return_block(&pool, 0, 4, &lent));
-    lent.count = 0;
-    IS(RANGE, compactd_return_block(&pool, 0, 4, &lent));
+    IS(RANGE, compactd_return_block(&pool, 0, 4, &memory)); /* no words at all */
+    HOLDS(is_nothing(&memory));
     lent = other;
     HOLDS(are_all(&lent, 2));
     IS(LENT, compactd_give_order(&pool, 0, 4)); /* it is lent as before */
