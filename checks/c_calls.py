@@ -4,8 +4,9 @@ A million calls are made through `libcompactd.so` and beside them on the machine
 among them up to 40 pages that are mapped or unmapped in one call, rounds, slices of rounds, pages that are moved by hand, runs that are
 emptied at once or claimed and emptied in steps, up to 4 blocks that are reserved, and steps of keepers of each order. Half of the pools lie
 in memory of the caller's, which is blank or full of something: words of their blocks are lent, written by the pointer and returned, and each
-word is compared then. Most calls are made on pools of 1 to 8 pageblocks, and 100,000 on pools of 9 to 513, of which some are filled with blocks but for a few pageblocks at the top. Half
-of the pools have random numbers of spaces and of virtual pages, and their first and last addresses are among those of the calls. 100,000
+word is compared then. Most calls are made on pools of 1 to 8 pageblocks, and 100,000 on pools of 9 to 513, of which some are filled with
+blocks but for a few pageblocks at the top. Half of the pools have random numbers of spaces and of virtual pages, and their first and last
+addresses are among those of the calls. 100,000
 more calls are made on one pool of 262,144 frames and 16,777,216 addresses: nine in ten are about a few of them, the others about any. After
 each call the number of its refusal is compared, and what it tells; where it is refused, what it would have told has to be untouched. The
 reserved words of a structure have to be 0 once a call has filled it, and are random in those that a call is given. Numbers are also out of
