@@ -36,6 +36,16 @@ ghost use Rattle.compactd_c.specs.Records.{record_refused};
 ghost use Rattle.compactd_c.specs.Told.{geometry_of, places_of};
 ghost use Rattle.compactd_c.specs.Carried.{IsOwn, is_moving, moving_page_of, words_of, isolate_refused, commit_refused};
 
+/// What an expression of the zone comes to, whichever size its pages have.
+macro_rules! of_zone {
+    ($kind:expr, $zone:ident => $call:expr) => {
+        match $kind {
+            Kind::Small($zone) => $call,
+            Kind::Large($zone) => $call,
+        }
+    };
+}
+
 mod lending;
 
 use crate::asked::{Asked, address, word_of};
@@ -133,10 +143,7 @@ impl Zone {
         ensures answer { IfOk result (λ answer. answer ≡ answer_for asked self.old) }
         ensures ok { OnOk result (self.new ≡ after_asked client asked self.old) }
     {
-        match &mut self.kind {
-            Kind::Small(zone) => make(zone, client, asked),
-            Kind::Large(zone) => make(zone, client, asked),
-        }
+        of_zone!(&mut self.kind, zone => make(zone, client, asked))
     }
 
     /// Reads a word of the page that an address names.
@@ -152,10 +159,12 @@ impl Zone {
         ensures value { IfOk result (λ value. value ≡ value_at self.old (address_of space vpage) word) }
         ensures ok { OnOk result (self.new ≡ loaded self.old client (address_of space vpage) word) }
     {
-        match &mut self.kind {
-            Kind::Small(zone) => load(zone, client, space, vpage, word),
-            Kind::Large(zone) => load(zone, client, space, vpage, word),
-        }
+        let client = ClientNo::new(client).ok_or(ZoneError::Range)?;
+        let address = address(space, vpage).ok_or(ZoneError::Range)?;
+        of_zone!(&mut self.kind, zone => {
+            let word = word_of(zone, word).ok_or(ZoneError::Range)?;
+            zone.load(client, address, word)
+        })
     }
 
     /// Writes a word of the page that an address names.
@@ -171,10 +180,12 @@ impl Zone {
         ensures err { OnErr result (self.new ≡ self.old) }
         ensures ok { OnOk result (self.new ≡ stored self.old client (address_of space vpage) word value) }
     {
-        match &mut self.kind {
-            Kind::Small(zone) => store(zone, client, space, vpage, word, value),
-            Kind::Large(zone) => store(zone, client, space, vpage, word, value),
-        }
+        let client = ClientNo::new(client).ok_or(ZoneError::Range)?;
+        let address = address(space, vpage).ok_or(ZoneError::Range)?;
+        of_zone!(&mut self.kind, zone => {
+            let word = word_of(zone, word).ok_or(ZoneError::Range)?;
+            zone.store(client, address, word, value)
+        })
     }
 
     /// Reads words of the page that an address names, from one on.
@@ -191,10 +202,12 @@ impl Zone {
         ensures values { OnOk result (values.new ≡ values_at self.old (address_of space vpage) from (length values.old)) }
         ensures ok { OnOk result (self.new ≡ loaded_all self.old client (address_of space vpage) from (length values.old)) }
     {
-        match &mut self.kind {
-            Kind::Small(zone) => read(zone, client, space, vpage, from, values),
-            Kind::Large(zone) => read(zone, client, space, vpage, from, values),
-        }
+        let client = ClientNo::new(client).ok_or(ZoneError::Range)?;
+        let address = address(space, vpage).ok_or(ZoneError::Range)?;
+        of_zone!(&mut self.kind, zone => {
+            let from = word_of(zone, from).ok_or(ZoneError::Range)?;
+            zone.read(client, address, from, values)
+        })
     }
 
     /// Writes words of the page that an address names, from one on.
@@ -210,10 +223,12 @@ impl Zone {
         ensures err { OnErr result (self.new ≡ self.old) }
         ensures ok { OnOk result (self.new ≡ stored_all self.old client (address_of space vpage) from values.now) }
     {
-        match &mut self.kind {
-            Kind::Small(zone) => write(zone, client, space, vpage, from, values),
-            Kind::Large(zone) => write(zone, client, space, vpage, from, values),
-        }
+        let client = ClientNo::new(client).ok_or(ZoneError::Range)?;
+        let address = address(space, vpage).ok_or(ZoneError::Range)?;
+        of_zone!(&mut self.kind, zone => {
+            let from = word_of(zone, from).ok_or(ZoneError::Range)?;
+            zone.write(client, address, from, values)
+        })
     }
 
     /// Reads words of a block that is handed out, from one on.
@@ -230,10 +245,7 @@ impl Zone {
         ensures same { self.new ≡ self.old }
     {
         let (first, order) = block(first, order).ok_or(ZoneError::Range)?;
-        match &mut self.kind {
-            Kind::Small(zone) => zone.read_block(first, order, from, values),
-            Kind::Large(zone) => zone.read_block(first, order, from, values),
-        }
+        of_zone!(&mut self.kind, zone => zone.read_block(first, order, from, values))
     }
 
     /// Writes words of a block that is handed out, from one on.
@@ -249,10 +261,7 @@ impl Zone {
         ensures ok { OnOk result (self.new ≡ contents_written self.old first from values.now) }
     {
         let (first, order) = block(first, order).ok_or(ZoneError::Range)?;
-        match &mut self.kind {
-            Kind::Small(zone) => zone.write_block(first, order, from, values),
-            Kind::Large(zone) => zone.write_block(first, order, from, values),
-        }
+        of_zone!(&mut self.kind, zone => zone.write_block(first, order, from, values))
     }
 
     /// What is known of the page that an address names.
@@ -261,10 +270,7 @@ impl Zone {
         ensures value { IfOk result (λ look. look_of self.now (address_of space vpage) ≡ Some look) }
     {
         let address = address(space, vpage).ok_or(ZoneError::Range)?;
-        match &self.kind {
-            Kind::Small(zone) => zone.look(address),
-            Kind::Large(zone) => zone.look(address),
-        }
+        of_zone!(&self.kind, zone => zone.look(address))
     }
 
     /// Whether a pageblock is marked.
@@ -273,10 +279,7 @@ impl Zone {
         ensures value { IfOk result (λ marked. marked_of self.now block ≡ Some marked) }
     {
         let block = BlockNo::in_any_zone(block).ok_or(ZoneError::Range)?;
-        let marked = match &self.kind {
-            Kind::Small(zone) => zone.marked(block),
-            Kind::Large(zone) => zone.marked(block),
-        };
+        let marked = of_zone!(&self.kind, zone => zone.marked(block));
         marked.ok_or(ZoneError::Range)
     }
 
@@ -284,20 +287,14 @@ impl Zone {
     pub(crate) fn info(&self) -> Info
         ensures { result ≡ info_of self.now }
     {
-        match &self.kind {
-            Kind::Small(zone) => zone.info(),
-            Kind::Large(zone) => zone.info(),
-        }
+        of_zone!(&self.kind, zone => zone.info())
     }
 
     /// What the zone was opened with.
     pub(crate) fn geometry(&self) -> Geometry
         ensures { result ≡ geometry_of self.now }
     {
-        let (page_words, size) = match &self.kind {
-            Kind::Small(zone) => (zone.page_words(), zone.size()),
-            Kind::Large(zone) => (zone.page_words(), zone.size()),
-        };
+        let (page_words, size) = of_zone!(&self.kind, zone => (zone.page_words(), zone.size()));
         Geometry {
             page_words: page_words as u32,
             blocks: size.blocks,
@@ -324,10 +321,7 @@ impl Zone {
         ensures refused { result_err result ≡ ranged (nat_lt order 10) None }
         ensures value { IfOk result (λ runs. runs ≡ maximal_runs self.now order) }
     {
-        let runs = match &self.kind {
-            Kind::Small(zone) => zone.free_runs(order),
-            Kind::Large(zone) => zone.free_runs(order),
-        };
+        let runs = of_zone!(&self.kind, zone => zone.free_runs(order));
         runs.ok_or(ZoneError::Range)
     }
 
@@ -336,10 +330,7 @@ impl Zone {
         ensures refused { result_err result ≡ ranged (nat_lt order 10) None }
         ensures value { IfOk result (λ index. index ≡ fragmentation self.now order) }
     {
-        let index = match &self.kind {
-            Kind::Small(zone) => zone.fragmentation(order),
-            Kind::Large(zone) => zone.fragmentation(order),
-        };
+        let index = of_zone!(&self.kind, zone => zone.fragmentation(order));
         index.ok_or(ZoneError::Range)
     }
 
@@ -348,30 +339,21 @@ impl Zone {
         ensures some { IfSome result (IsNextMoving self.now from) }
         ensures none { result ≡ None → IsNoneMoving self.now from }
     {
-        match &self.kind {
-            Kind::Small(zone) => zone.next_moving(from),
-            Kind::Large(zone) => zone.next_moving(from),
-        }
+        of_zone!(&self.kind, zone => zone.next_moving(from))
     }
 
     /// Whether the latest round is quiet.
     pub(crate) fn quiet(&self) -> bool
         ensures { result ≡ is_quiet self.now }
     {
-        match &self.kind {
-            Kind::Small(zone) => zone.quiet(),
-            Kind::Large(zone) => zone.quiet(),
-        }
+        of_zone!(&self.kind, zone => zone.quiet())
     }
 
     /// How many moves have ended.
     pub(crate) fn ended(&self) -> u64
         ensures { result ≡ moved self.now.records + put_back self.now.records }
     {
-        match &self.kind {
-            Kind::Small(zone) => zone.ended(),
-            Kind::Large(zone) => zone.ended(),
-        }
+        of_zone!(&self.kind, zone => zone.ended())
     }
 
     /// What became of the pages that were isolated.
@@ -379,20 +361,14 @@ impl Zone {
         ensures refused { result_err result ≡ audit_refusal self.now }
         ensures counted { IfOk result (λ audit. IsCounted self.now audit) }
     {
-        match &self.kind {
-            Kind::Small(zone) => zone.audit(),
-            Kind::Large(zone) => zone.audit(),
-        }
+        of_zone!(&self.kind, zone => zone.audit())
     }
 
     /// Begins a round.
     pub(crate) fn begin_round(&mut self)
         ensures { self.new ≡ round_begun self.old }
     {
-        match &mut self.kind {
-            Kind::Small(zone) => zone.begin_round(),
-            Kind::Large(zone) => zone.begin_round(),
-        }
+        of_zone!(&mut self.kind, zone => zone.begin_round())
     }
 
     /// Ends the move of a page that wasn't copied.
@@ -402,10 +378,7 @@ impl Zone {
         ensures err { OnErr result (self.new ≡ self.old) }
         ensures ok { OnOk result (self.new ≡ put_back_to_source self.old serial number Cause.NotCopied) }
     {
-        match &mut self.kind {
-            Kind::Small(zone) => put_back(zone, serial, number),
-            Kind::Large(zone) => put_back(zone, serial, number),
-        }
+        of_zone!(&mut self.kind, zone => put_back(zone, serial, number))
     }
 
     /// Runs a whole round, and tells whether its scanners met; else the journal was full.
@@ -415,10 +388,7 @@ impl Zone {
         ensures full { (result ≡ false) ↔ (isolate_refusal self.new ≡ Some ZoneError.JournalFull) }
         ensures packed { IsTrue result → is_quiet self.new ≡ true → length (out self.new.records) ≡ 0 → IsPacked self.new }
     {
-        let stopped = match &mut self.kind {
-            Kind::Small(zone) => zone.compact(),
-            Kind::Large(zone) => zone.compact(),
-        };
+        let stopped = of_zone!(&mut self.kind, zone => zone.compact());
         stopped == Answered::Met
     }
 
@@ -431,10 +401,7 @@ impl Zone {
         ensures met { result.last ≡ Answered.Met → HaveMet self.new }
         ensures packed { result.last ≡ Answered.Met → is_quiet self.new ≡ true → length (out self.new.records) ≡ 0 → IsPacked self.new }
     {
-        match &mut self.kind {
-            Kind::Small(zone) => zone.move_pages(most),
-            Kind::Large(zone) => zone.move_pages(most),
-        }
+        of_zone!(&mut self.kind, zone => zone.move_pages(most))
     }
 
     /// Empties a run of frames, and answers how many pages went out of it.
@@ -448,10 +415,7 @@ impl Zone {
         ensures carried { OnOk result (IsCarriedOut first (2 ^ order) self.old self.new) }
     {
         let (first, order) = block(first, order).ok_or(ZoneError::Range)?;
-        match &mut self.kind {
-            Kind::Small(zone) => zone.evacuate(first, order),
-            Kind::Large(zone) => zone.evacuate(first, order),
-        }
+        of_zone!(&mut self.kind, zone => zone.evacuate(first, order))
     }
 
     /// Hands out as many blocks as `firsts` has places, and answers how many pages were moved for it.
@@ -466,20 +430,14 @@ impl Zone {
         ensures carried { OnOk result (IsCarriedFrom (is_in_runs firsts.new (2 ^ order)) self.old self.new) }
         ensures count { length firsts.new ≡ length firsts.old }
     {
-        match &mut self.kind {
-            Kind::Small(zone) => zone.reserve(order, firsts),
-            Kind::Large(zone) => zone.reserve(order, firsts),
-        }
+        of_zone!(&mut self.kind, zone => zone.reserve(order, firsts))
     }
 
     /// Maps unmovable pages apart from the others from now on, or no longer.
     pub(crate) fn set_apart(&mut self, apart: bool)
         ensures { self.new ≡ with_apart self.old apart }
     {
-        match &mut self.kind {
-            Kind::Small(zone) => zone.set_apart(apart),
-            Kind::Large(zone) => zone.set_apart(apart),
-        }
+        of_zone!(&mut self.kind, zone => zone.set_apart(apart))
     }
 
     /// Claims the free frames of an open run, and answers how many pages it has.
@@ -491,10 +449,7 @@ impl Zone {
         ensures shut { OnOk result ((frame : ℕ) → is_in_run first (2 ^ order) frame ≡ true → is_free self.new frame ≡ false) }
     {
         let (first, order) = block(first, order).ok_or(ZoneError::Range)?;
-        match &mut self.kind {
-            Kind::Small(zone) => zone.claim(first, order),
-            Kind::Large(zone) => zone.claim(first, order),
-        }
+        of_zone!(&mut self.kind, zone => zone.claim(first, order))
     }
 
     /// Moves at most so many pages out of a run, and claims its frames that are free or that they leave.
@@ -515,10 +470,7 @@ impl Zone {
         ensures carried { OnOk result (IsCarriedOut first (2 ^ order) self.old self.new) }
     {
         let (first, order) = block(first, order).ok_or(ZoneError::Range)?;
-        match &mut self.kind {
-            Kind::Small(zone) => empty_some(zone, first, order, most),
-            Kind::Large(zone) => empty_some(zone, first, order, most),
-        }
+        of_zone!(&mut self.kind, zone => empty_some(zone, first, order, most))
     }
 
     /// Hands out a run whose frames are all claimed.
@@ -529,10 +481,7 @@ impl Zone {
         ensures taken { OnOk result (map.get self.new.handed_out first ≡ Some order) }
     {
         let (first, order) = block(first, order).ok_or(ZoneError::Range)?;
-        match &mut self.kind {
-            Kind::Small(zone) => zone.take_claimed(first, order),
-            Kind::Large(zone) => zone.take_claimed(first, order),
-        }
+        of_zone!(&mut self.kind, zone => zone.take_claimed(first, order))
     }
 
     /// Drops the claims of the frames of a run.
@@ -542,10 +491,7 @@ impl Zone {
         ensures ok { OnOk result (self.new ≡ run_dropped first (2 ^ order) self.old) }
     {
         let (first, order) = block(first, order).ok_or(ZoneError::Range)?;
-        match &mut self.kind {
-            Kind::Small(zone) => zone.drop_claim(first, order),
-            Kind::Large(zone) => zone.drop_claim(first, order),
-        }
+        of_zone!(&mut self.kind, zone => zone.drop_claim(first, order))
     }
 
     /// The open run of an order with the fewest pages, the lowest of equals.
@@ -557,10 +503,7 @@ impl Zone {
         ensures claim { IfOk result (λ run. claim_refusal self.now run.first order ≡ None) }
     {
         let order = Order::new(order).ok_or(ZoneError::Range)?;
-        let run = match &self.kind {
-            Kind::Small(zone) => zone.cheapest_run(order),
-            Kind::Large(zone) => zone.cheapest_run(order),
-        };
+        let run = of_zone!(&self.kind, zone => zone.cheapest_run(order));
         run.ok_or(ZoneError::NoBlock)
     }
 
@@ -570,10 +513,7 @@ impl Zone {
         ensures err { OnErr result ((keeper.new ≡ keeper.old) × (self.new ≡ self.old)) }
         ensures ok { IfOk result (λ step. IsKept keeper.old self.old most step keeper.new self.new) }
     {
-        match &mut self.kind {
-            Kind::Small(zone) => keeper.step(zone, most),
-            Kind::Large(zone) => keeper.step(zone, most),
-        }
+        of_zone!(&mut self.kind, zone => keeper.step(zone, most))
     }
 
     /// Takes a block from a keeper.
@@ -582,10 +522,7 @@ impl Zone {
         ensures err { OnErr result ((keeper.new ≡ keeper.old) × (self.new ≡ self.old)) }
         ensures ok { IfOk result (λ taken. IsTaken keeper.old self.old taken keeper.new self.new) }
     {
-        match &mut self.kind {
-            Kind::Small(zone) => keeper.take(zone),
-            Kind::Large(zone) => keeper.take(zone),
-        }
+        of_zone!(&mut self.kind, zone => keeper.take(zone))
     }
 
     /// Isolates the next page of a round, whose words go where C wants them. There is none where the scanners have met.
@@ -598,10 +535,7 @@ impl Zone {
         ensures packed { result ≡ Ok None → is_quiet self.new ≡ true → length (out self.new.records) ≡ 0 → IsPacked self.new }
         ensures ok { OnOk result (self.new ≡ next_state self.old (next_pair self.old)) }
     {
-        match &mut self.kind {
-            Kind::Small(zone) => isolate(zone, words),
-            Kind::Large(zone) => isolate(zone, words),
-        }
+        of_zone!(&mut self.kind, zone => isolate(zone, words))
     }
 
     /// Ends the move of a page that C copied.
@@ -617,10 +551,7 @@ impl Zone {
         ensures ended { IfOk result (λ ended. ended ≡ ended_as self.old number) }
         ensures ok { OnOk result (self.new ≡ committed self.old serial number) }
     {
-        match &mut self.kind {
-            Kind::Small(zone) => commit(zone, serial, number, words),
-            Kind::Large(zone) => commit(zone, serial, number, words),
-        }
+        of_zone!(&mut self.kind, zone => commit(zone, serial, number, words))
     }
 
     /// A record of the journal, by its place.
@@ -638,10 +569,7 @@ impl Zone {
         ensures records { result.now.records ≡ self.now.records }
         ensures room { result.now.room ≡ self.now.room }
     {
-        match &self.kind {
-            Kind::Small(zone) => zone.journal(),
-            Kind::Large(zone) => zone.journal(),
-        }
+        of_zone!(&self.kind, zone => zone.journal())
     }
 }
 
@@ -669,83 +597,6 @@ fn lowest() -> ZoneNo
         unreachable!();
     };
     number
-}
-
-fn load<const W: usize>(
-    zone: &mut BareZone<W>,
-    client: u32,
-    space: u32,
-    vpage: u32,
-    word: u32,
-) -> Result<u64, ZoneError>
-    requires { W ≤ 65536 }
-    ensures refused { result_err result ≡ ranged (is_client client && (is_address space vpage && nat_lt word zone.old.page_size)) (access_refusal zone.old (address_of space vpage)) }
-    ensures err { OnErr result (zone.new ≡ zone.old) }
-    ensures value { IfOk result (λ value. value ≡ value_at zone.old (address_of space vpage) word) }
-    ensures ok { OnOk result (zone.new ≡ loaded zone.old client (address_of space vpage) word) }
-{
-    let client = ClientNo::new(client).ok_or(ZoneError::Range)?;
-    let address = address(space, vpage).ok_or(ZoneError::Range)?;
-    let word = word_of(zone, word).ok_or(ZoneError::Range)?;
-    zone.load(client, address, word)
-}
-
-fn store<const W: usize>(
-    zone: &mut BareZone<W>,
-    client: u32,
-    space: u32,
-    vpage: u32,
-    word: u32,
-    value: u64,
-) -> Result<(), ZoneError>
-    requires { W ≤ 65536 }
-    ensures refused { result_err result ≡ ranged (is_client client && (is_address space vpage && nat_lt word zone.old.page_size)) (access_refusal zone.old (address_of space vpage)) }
-    ensures err { OnErr result (zone.new ≡ zone.old) }
-    ensures ok { OnOk result (zone.new ≡ stored zone.old client (address_of space vpage) word value) }
-{
-    let client = ClientNo::new(client).ok_or(ZoneError::Range)?;
-    let address = address(space, vpage).ok_or(ZoneError::Range)?;
-    let word = word_of(zone, word).ok_or(ZoneError::Range)?;
-    zone.store(client, address, word, value)
-}
-
-fn read<const W: usize>(
-    zone: &mut BareZone<W>,
-    client: u32,
-    space: u32,
-    vpage: u32,
-    from: u32,
-    values: &mut [u64],
-) -> Result<(), ZoneError>
-    requires { W ≤ 65536 }
-    ensures refused { result_err result ≡ ranged (is_client client && (is_address space vpage && nat_lt from zone.old.page_size)) (bulk_refusal zone.old (address_of space vpage) from (length values.old)) }
-    ensures err { OnErr result ((zone.new ≡ zone.old) × (values.new ≡ values.old)) }
-    ensures values { OnOk result (values.new ≡ values_at zone.old (address_of space vpage) from (length values.old)) }
-    ensures ok { OnOk result (zone.new ≡ loaded_all zone.old client (address_of space vpage) from (length values.old)) }
-{
-    let client = ClientNo::new(client).ok_or(ZoneError::Range)?;
-    let address = address(space, vpage).ok_or(ZoneError::Range)?;
-    let from = word_of(zone, from).ok_or(ZoneError::Range)?;
-    zone.read(client, address, from, values)
-}
-
-fn write<const W: usize>(
-    zone: &mut BareZone<W>,
-    client: u32,
-    space: u32,
-    vpage: u32,
-    from: u32,
-    values: &[u64],
-) -> Result<(), ZoneError>
-    requires { W ≤ 65536 }
-    ensures refused { result_err result ≡ ranged (is_client client && (is_address space vpage && nat_lt from zone.old.page_size)) (bulk_refusal zone.old (address_of space vpage) from (length values.now)) }
-    ensures err { OnErr result (zone.new ≡ zone.old) }
-    ensures ok { OnOk result (zone.new ≡ stored_all zone.old client (address_of space vpage) from values.now) }
-{
-    let client = ClientNo::new(client).ok_or(ZoneError::Range)?;
-    let address = address(space, vpage).ok_or(ZoneError::Range)?;
-    let from = word_of(zone, from).ok_or(ZoneError::Range)?;
-    zone.write(client, address, from, values)
 }
 
 fn put_back<const W: usize>(

@@ -46,10 +46,7 @@ impl Zone {
     pub(crate) fn end_refusal(&self) -> Option<ZoneError>
         ensures { result ≡ end_refusal self.now }
     {
-        match &self.kind {
-            Kind::Small(zone) => end_refusal(zone),
-            Kind::Large(zone) => end_refusal(zone),
-        }
+        of_zone!(&self.kind, zone => end_refusal(zone))
     }
 
     /// Ends the zone, no words of which may be lent, and gives back the memory of its caller, if it lies in such memory.
@@ -59,10 +56,7 @@ impl Zone {
         ensures count { IfSome result (λ row. length row.words ≡ 512 * self.blocks * self.page_size) }
         ensures some { 0 < self.blocks * self.page_size }
     {
-        match self.kind {
-            Kind::Small(zone) => zone.end(),
-            Kind::Large(zone) => zone.end(),
-        }
+        of_zone!(self.kind, zone => zone.end())
     }
 
     /// Lends the words of a block that is handed out.
@@ -75,10 +69,7 @@ impl Zone {
         ensures ok { OnOk result (self.new ≡ block_lent self.old first) }
     {
         let (first, order) = block(first, order).ok_or(ZoneError::Range)?;
-        match &mut self.kind {
-            Kind::Small(zone) => zone.lend_block(first, order),
-            Kind::Large(zone) => zone.lend_block(first, order),
-        }
+        of_zone!(&mut self.kind, zone => zone.lend_block(first, order))
     }
 
     /// Takes the words of a block back, which were lent. Where they aren't taken, they are answered.
@@ -100,20 +91,14 @@ impl Zone {
         if row.len() != order.frames() as usize * self.page_words() {
             return Err((ZoneError::Range, row));
         }
-        match &mut self.kind {
-            Kind::Small(zone) => zone.take_block_back(first, order, row),
-            Kind::Large(zone) => zone.take_block_back(first, order, row),
-        }
+        of_zone!(&mut self.kind, zone => zone.take_block_back(first, order, row))
     }
 
     fn page_words(&self) -> usize
         ensures size { result ≡ self.now.page_size }
         ensures most { result ≤ 512 }
     {
-        match &self.kind {
-            Kind::Small(zone) => zone.page_words(),
-            Kind::Large(zone) => zone.page_words(),
-        }
+        of_zone!(&self.kind, zone => zone.page_words())
     }
 }
 
