@@ -6,9 +6,10 @@
  * depends on what the one before it had. Then words of a block are lent and returned, again and again.
  *
  * Then half of the frames of a second pool have a page, which are spread over all pageblocks, and plain memory has words at the same places,
- * in pages of 4 KiB of the system. A word of any page is read by compactd_load, and by a pointer in plain memory. Half of the pageblocks are
- * then emptied and taken by compactd_reserve, and the pages are copied into them and unmapped. The other half is taken too, and its memory
- * given back to the system. The words are read through the pointers of the blocks then.
+ * in pages of 4 KiB of the system. A word of any page is read by compactd_load, and by a pointer in plain memory. Pages are pinned and their
+ * words lent, and unpinned again, a few of them again and again, and all of them in order. Half of the pageblocks are then emptied and taken
+ * by compactd_reserve, and the pages are copied into them and unmapped. The other half is taken too, and its memory given back to the system.
+ * The words are read through the pointers of the blocks then.
  *
  * Each line that it prints has what was done, a tab, and nanoseconds, or MiB. */
 #define _DEFAULT_SOURCE
@@ -137,6 +138,20 @@ static void lend_and_return(void)
         need(compactd_return_block(&pool, firsts[made % blocks], ORDER, &words) == COMPACTD_OK);
     }
     tell("lend and return the words of a block", (now() - begun) / LOANS);
+}
+
+/* Pins so many pages and unpins them, one after the other, with their words. */
+static void pin_and_unpin(const char *what, uint32_t count)
+{
+    const double begun = now();
+    compactd_words words = {0};
+    uint32_t made;
+
+    for (made = 0; made < LOANS; made++) {
+        need(compactd_pin_words(&pool, 0, 0, made % count, &words) == COMPACTD_OK);
+        need(compactd_unpin_words(&pool, 0, 0, made % count, &words) == COMPACTD_OK);
+    }
+    tell(what, (now() - begun) / LOANS);
 }
 
 /* Pools. */
@@ -273,6 +288,10 @@ static void compare_pages(int turns)
         read_pages("a word of plain memory in pages of 4 KiB");
     }
     tell("MiB that are resident with pages that are spread", resident());
+    for (turn = 0; turn < turns; turn++) {
+        pin_and_unpin("pin and unpin the words of a page, one of 64", 64);
+        pin_and_unpin("pin and unpin the words of a page, each in turn", page_count);
+    }
     bring_together();
     begun = now();
     give_back();

@@ -3,8 +3,8 @@
 A million calls are made through `libcompactd.so` and beside them on the machine, with pages of both sizes, with a journal and without one,
 among them up to 40 pages that are mapped or unmapped in one call, rounds, slices of rounds, pages that are moved by hand, runs that are
 emptied at once or claimed and emptied in steps, up to 4 blocks that are reserved, and steps of keepers of each order. Half of the pools lie
-in memory of the caller's, which is blank or full of something: words of their blocks are lent, written by the pointer and returned, and each
-word is compared then. Most calls are made on pools of 1 to 8 pageblocks, and 100,000 on pools of 9 to 513, of which some are filled with
+in memory of the caller's, which is blank or full of something: words of their blocks and of pinned pages are lent, written by the pointer and
+returned, and each word is compared then. Most calls are made on pools of 1 to 8 pageblocks, and 100,000 on pools of 9 to 513, of which some are filled with
 blocks but for a few pageblocks at the top. Half of the pools have random numbers of spaces and of virtual pages, and their first and last
 addresses are among those of the calls. 100,000
 more calls are made on one pool of 262,144 frames and 16,777,216 addresses: nine in ten are about a few of them, the others about any. After
@@ -132,6 +132,8 @@ ARGUMENTS = {
     "write_block": [u32, u32, size, told(u64), size],
     "block_words": [u32, u32, told(Words)],
     "return_block": [u32, u32, told(Words)],
+    "page_words": [u32, u32, told(Words)],
+    "return_page": [u32, u32, u32, told(Words)],
     "info": [told(Counts)],
     "describe": [told(Geometry)],
     "free_runs": [u32, told(u32)],
@@ -226,6 +228,14 @@ class Chooser:
     def pin(self):
         """Often the same page, so that it gets all the pins that one may have."""
         return (0, 0, 0) if self.chance.random() < 0.5 else self.place()
+
+    def pinned(self):
+        """A page that has a pin, where there is one among some."""
+        some = [self.pin() for _ in range(20)]
+        return next((place for place in some if self.has_pin(place[1:])), some[0])
+
+    def has_pin(self, address):
+        return address in self.zone.pages and self.zone.pages[address].pins > 0
 
     def take_order(self):
         return (self.order(),)
@@ -367,7 +377,7 @@ OFTEN = {
     **dict.fromkeys(["mark", "unmark", "marked", "info", "quiet", "audit", "ended", "describe", "free_runs", "fragmentation"], 5),
     **dict.fromkeys(["isolate", "commit"], 20),
     **dict.fromkeys(["map_many", "unmap_many"], 15),
-    **dict.fromkeys(["block_words", "return_block"], 15),
+    **dict.fromkeys(["block_words", "return_block", "page_words", "return_page"], 15),
     **dict.fromkeys(["next_moving", "claim", "empty_some"], 10),
     **dict.fromkeys(["put_back", "move_pages", "take_claimed", "drop_claim"], 5),
     **dict.fromkeys(["begin_round", "reserve", "set_apart", "cheapest_run"], 2),
@@ -378,7 +388,7 @@ OFTEN = {
 # The calls that end the quiet of a round where they are accepted.
 LOUD = {"map", "map_at", "share", "unmap", "pin", "unpin", "take_order", "give_order", "mark", "unmark"} | {"claim", "empty_some", "drop_claim"}
 BY_HAND = {"isolate", "commit", "put_back"}
-LENDING = {"block_words", "return_block"}
+LENDING = {"block_words", "return_block", "page_words", "return_page"}
 BY_KEEPER = {"keep", "take_kept"}
 MANY = {"map_many", "unmap_many"}
 MOST_KEPT = 2  # blocks that a keeper has ready

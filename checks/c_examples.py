@@ -19,7 +19,7 @@ from c_programs import BINDING, EXAMPLES
 
 TESTS = runs.ROOT / "c/tests"
 PROGRAMS = [
-    *(EXAMPLES / name for name in ("first.c", "buffers.c", "vm.cpp", "keeper.cpp", "host.c")),
+    *(EXAMPLES / name for name in ("first.c", "buffers.c", "vm.cpp", "keeper.cpp", "host.c", "database.c")),
     *(TESTS / name for name in ("every_call.c", "lent.c", "four_threads.c", "rounds.c", "owners.cpp")),
 ]
 ADDRESSES = ["-fsanitize=address,undefined", "-fno-sanitize-recover=all"]
@@ -28,8 +28,8 @@ VALGRIND = ["valgrind", "-q", "--error-exitcode=9", "--leak-check=full"]
 OF_C = ["--errors-for-leak-kinds=all"]
 # Rust's library keeps memory of a thread until the program ends.
 OF_RUST = ["--errors-for-leak-kinds=definite", "--show-leak-kinds=definite"]
-OF_THREADS = ("buffers.c", "four_threads.c", "rounds.c", "keeper.cpp")
-TIMED = ("keeper.cpp", "keeper.rs", "host.c", "host.rs")  # they write times and memory to standard error
+OF_THREADS = ("buffers.c", "four_threads.c", "rounds.c", "keeper.cpp", "database.c")
+TIMED = ("keeper.cpp", "keeper.rs", "host.c", "host.rs", "database.c", "database.rs")  # they write times and memory to standard error
 IN_RUST = sorted((BINDING / "examples").glob("*.rs"))
 
 

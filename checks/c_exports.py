@@ -1,8 +1,8 @@
 """The header for C and the archive name the same functions, and the archive has no data that is written and calls nothing but for memory.
 
 Each function of the header takes what the export of its name takes in `crates/compactd_c/src`, in its order, and each structure of
-the header has the fields of one there; the same holds of `bindings/rust/src/raw.rs`. `compactd.hpp` calls each function. Each function
-of the header is an export of the archive and of the shared library, and there is no other export but the three of the kit's heap in the
+the header has the fields of one there; the same holds of `bindings/rust/src/raw.rs`. `compactd.hpp` calls each function, some by functions
+that the header has itself. Each function of the header is an export of the archive and of the shared library, and there is no other export but the three of the kit's heap in the
 archive. Besides these it names malloc, realloc, free, memcpy, memmove and memset alone, so it can neither print nor wait nor end the
 process. The headers compile from C89 and C++98 on, `compactd.hpp` from C++11, without a warning. A program calls each function and gets
 each refusal, on pools that are closed, open, closed again and closed twice, with pages of both sizes; those of words that are lent
@@ -40,7 +40,11 @@ POOL = "compactd_pool *"
 HANDLES = ("Pool", "Handle")  # its names in Rattle and in Rust
 NUMBERS = {"u32": "uint32_t", "i32": "int32_t", "u64": "uint64_t", "usize": "size_t", "bool": "compactd_bool"}
 CALL = r"\b(compactd_\w+)\("
-OF_HEADER = {"compactd_refusal_text", "compactd_move_of", "compactd_list_moves"}  # functions that the header has itself
+# Functions that the header has itself.
+OF_HEADER = {
+    *("compactd_refusal_text", "compactd_move_of", "compactd_list_moves", "compactd_pin_words", "compactd_unpin_words"),
+    *("compactd_isolate_many", "compactd_commit_many"),
+}
 OF_POOLS = {"OK", "CLOSED", "OPEN", "MET"}  # what isn't an error of the crate for Rust, since its types see to it
 # A byte of the kit's heap, whose address stands for memory of no size.
 NOTHING = "nothing"
@@ -186,11 +190,18 @@ def compile_headers():
     return len(commands)
 
 
+def calls_of_header():
+    """What each function that the header has itself calls."""
+    bodies = re.findall(r"^COMPACTD_IN_HEADER \w+ \*?(compactd_\w+)\([^{]*\)\n\{(.*?)^\}", c_programs.header_without_comments(), re.M | re.S)
+    return {name: set(re.findall(CALL, body)) for name, body in bodies}
+
+
 def need_every_call(declared):
     """Each function stands in the program that calls them, and each refusal there or where words are lent, but MEMORY, which another one
-    gets. The class for C++ calls each function but the one that tells the version."""
+    gets. The class for C++ calls each function, or one of the header that does, but for the one that tells the version."""
     text, of_lending, of_memory = ((runs.ROOT / f"c/tests/{name}.c").read_text() for name in ("every_call", "lent", "refused_memory"))
     called, by_class = (set(re.findall(CALL, it)) for it in (text, (c_programs.HEADERS / "compactd.hpp").read_text()))
+    by_class = by_class.union(*(calls for name, calls in calls_of_header().items() if name in by_class))
     refused = set(re.findall(r"\bIS\(([A-Z_]+),", text + of_lending)) | {"OK"} | ({"MEMORY"} if "COMPACTD_MEMORY" in of_memory else set())
     need_same("functions that are called", called, declared | OF_HEADER)
     if lacking := declared - by_class - {"compactd_version"}:

@@ -1,14 +1,15 @@
-"""Memory that a caller gives a pool of the library for C, and the words of blocks that this lends, for `checks/c_calls.py`."""
+"""Memory that a caller gives a pool of the library for C, and the words of blocks and of pinned pages that this lends, for
+`checks/c_calls.py`."""
 
 import ctypes
 import struct
 
 import runs
+from c_machine import LENT, OWN_MEMORY
 
 u64, size = ctypes.c_uint64, ctypes.c_size_t
 WORD = 8  # its bytes
 GARBAGE = 0x5A
-OWN_MEMORY, LENT = 20, 19
 
 
 class Words(ctypes.Structure):
@@ -17,6 +18,11 @@ class Words(ctypes.Structure):
 
 def fields_of(words):
     return words.at, words.count
+
+
+def words_at(lent):
+    """The words themselves."""
+    return (u64 * lent.count).from_address(lent.at)
 
 
 class Memory:
@@ -31,13 +37,22 @@ class Memory:
         return Words(ctypes.addressof(self.words), len(self.words))
 
 
+def written_by_pointer(words, chooser):
+    """Writes some words, and tells from which one on, and which."""
+    values = chooser.values()
+    start = chooser.chance.randrange(len(words))
+    values = values[: len(words) - start]
+    words[start : start + len(values)] = values
+    return start, values
+
+
 class Lending:
-    """The blocks of a pool whose words are lent, by their first frames and orders, and the machine's words beside theirs. The pool has
-    memory of the caller's, or none of it."""
+    """The blocks of a pool whose words are lent, by their first frames and orders, the pages whose words are, and the machine's words beside
+    theirs. The pool has memory of the caller's, or none of it."""
 
     def __init__(self, pool, memory):
-        self.pool, self.memory, self.lent = pool, memory, {}
-        self.page_words = pool.machine.zone.page_words
+        self.pool, self.memory, self.lent, self.lent_pages = pool, memory, {}, {}
+        self.words_of_page = pool.machine.zone.page_words
 
     def need(self, call, found, wanted):
         if found != wanted:
@@ -78,10 +93,13 @@ class Lending:
         return answer
 
     def place_of(self, block):
-        return self.memory.given().at + block[0] * self.page_words * WORD
+        return self.place_at(block[0])
+
+    def place_at(self, frame):
+        return self.memory.given().at + frame * self.words_of_page * WORD
 
     def count_of(self, block):
-        return self.page_words << min(block[1], 9)
+        return self.words_of_page << min(block[1], 9)
 
     def give_back(self, block, given):
         before = fields_of(given)
@@ -92,37 +110,88 @@ class Lending:
 
     def write(self, block, chooser):
         """Writes some words by the pointer."""
-        words, values = self.words_at(block), chooser.values()
-        start = chooser.chance.randrange(len(words))
-        values = values[: len(words) - start]
-        words[start : start + len(values)] = values
+        start, values = written_by_pointer(words_at(self.lent[block]), chooser)
         self.pool.machine.zone.contents[block[0]].update(enumerate(values, start))
-
-    def words_at(self, block):
-        at, count = fields_of(self.lent[block])
-        return (u64 * count).from_address(at)
 
     def compare(self, block):
         """The words of a block are the machine's."""
-        words = self.words_at(block)
+        words = words_at(self.lent[block])
         wanted = bytearray(len(words) * WORD)
         for place, value in self.pool.machine.zone.contents[block[0]].items():
             struct.pack_into("=Q", wanted, place * WORD, value)
         if bytes(words) != wanted:
             raise runs.Failed(f"the block {block} has other words than it was left with")
 
+    # Pages.
+
+    def page_words(self, chooser):
+        """Borrows the words of a page, compares them with those that it has, and writes some."""
+        address, words = chooser.pinned()[1:], Words()
+        number, page = self.pool.wanted("page_words", address)
+        answer = self.pool.call("page_words", *address, words)
+        place = (self.place_at(page.frame), self.words_of_page) if number == 0 else (0, 0)
+        self.need(f"page_words{address}", (answer, *fields_of(words)), (number, *place))
+        if answer == 0:
+            self.lent_pages[page] = words
+            self.compare_page(page)
+            self.write_page(page, chooser)
+        return answer
+
+    def return_page(self, chooser):
+        """Writes words of a page that are lent, and returns them by one of its addresses: now and then too few or too many, or by numbers out
+        of their ranges."""
+        chance = chooser.chance
+        if not self.lent_pages:
+            return self.give_page_back(chooser.place(), Words())
+        page = chance.choice(list(self.lent_pages))
+        given = Words(*fields_of(self.lent_pages[page]))
+        self.write_page(page, chooser)
+        self.compare_page(page)
+        place = chooser.number(8), *chance.choice(sorted(page.addresses))
+        if chance.random() < 0.1:
+            given.count = chance.choice([given.count - 1, given.count + 1])
+        if chance.random() < 0.02:
+            place = chance.choice([(place[0], 256, place[2]), (place[0], place[1], 2**24)])
+        answer = self.give_page_back(place, given)
+        if answer == 0:
+            del self.lent_pages[page]
+        return answer
+
+    def give_page_back(self, place, given):
+        before = fields_of(given)
+        number, _ = self.pool.wanted("return_page", (*place, given.count))
+        answer = self.pool.call("return_page", *place, given)
+        self.need(f"return_page{place, before}", (answer, *fields_of(given)), (number, *((0, 0) if number == 0 else before)))
+        return answer
+
+    def write_page(self, page, chooser):
+        """Writes some words by the pointer."""
+        start, values = written_by_pointer(words_at(self.lent_pages[page]), chooser)
+        page.words[start : start + len(values)] = values
+
+    def compare_page(self, page):
+        """The words of a page are the machine's."""
+        if list(words_at(self.lent_pages[page])) != page.words:
+            raise runs.Failed(f"the page at {sorted(page.addresses)} has other words than it was left with")
+
     # The end of a pool.
 
     def close(self):
-        """Closes the pool. Where it lies in memory of the caller's, all words are returned before, and the words of each block compared."""
+        """Closes the pool. Where it lies in memory of the caller's, all words are returned before, and the words of each block compared. Words
+        of pages for which the journal has no room stay lent, and their memory doesn't come back by its call."""
         back = Words()
         if self.memory is None:
             self.need("close_in", (self.pool.call("close_in", back), *fields_of(back)), (OWN_MEMORY, 0, 0))
             return self.need("close", self.pool.call("close"), 0)
-        if self.lent:
+        for page in list(self.lent_pages):
+            self.compare_page(page)
+            self.return_at_the_end(page)
+        if self.lent or self.lent_pages:
             self.need("close_in", (self.pool.call("close_in", back), *fields_of(back)), (LENT, 0, 0))
         for block in sorted(self.pool.machine.zone.handed_out):
             self.compare_and_return(block)
+        if self.lent_pages:
+            return self.need("close", self.pool.call("close"), 0)
         given = self.memory.given()
         return self.need("close_in", (self.pool.call("close_in", back), *fields_of(back)), (0, *fields_of(given)))
 
@@ -132,3 +201,7 @@ class Lending:
             self.need(f"block_words{block}", self.pool.call("block_words", *block, self.lent[block]), 0)
         self.compare(block)
         self.need(f"return_block{block}", self.pool.call("return_block", *block, self.lent[block]), 0)
+
+    def return_at_the_end(self, page):
+        if self.give_page_back((0, *min(page.addresses)), self.lent_pages[page]) == 0:
+            del self.lent_pages[page]

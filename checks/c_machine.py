@@ -6,6 +6,7 @@ from machine import Refused
 MET = 53  # the answer of an isolation where the scanners have met
 STOPPED = {None: 0, "journalfull": 2, "met": MET}  # why no more pages are moved
 NOT_MOVING = 54
+LENT, OWN_MEMORY = 19, 20
 MOST_SPACES = 256
 MOST_PAGES_OF_A_SPACE = 2**24
 ORDERS = range(10)  # of free runs
@@ -19,6 +20,7 @@ class Zone(machine.Zone):
         super().__init__(0, blocks, places, spaces, pages_of_a_space)
         self.is_in_memory = is_in_memory  # of the caller's
         self.lent = set()  # the blocks whose words are lent
+        self.lent_pages = set()
         self.page_words, self.blocks = page_words, blocks
         self.high = 0  # no round was begun
         self.is_quiet = False
@@ -72,10 +74,32 @@ class Zone(machine.Zone):
         """The page whose words, so many from one on, are read or written."""
         if start + count > self.page_words:
             raise Refused(1)
-        self.need_places(count)
-        page = self.need_still_page(address)
+        page = self.need_words(address, count)
         self.places -= count
         return page
+
+    def need_words(self, address, count):
+        """A page that is there with its words, so many of which are to be recorded."""
+        self.need_places(count)
+        page = self.need_still_page(address)
+        if page in self.lent_pages:
+            raise Refused(LENT)
+        return page
+
+    def load(self, address, word):
+        self.need_words(address, 1)
+        return super().load(address, word)
+
+    def store(self, address, word, value):
+        self.need_words(address, 1)
+        return super().store(address, word, value)
+
+    def unpin(self, address):
+        self.need_places(1)
+        page = self.need_page(address)
+        if page.pins == 1 and page in self.lent_pages:
+            raise Refused(LENT)
+        return super().unpin(address)
 
     def free_runs(self):
         """By its order: how many free runs there are that lie in no larger one."""
@@ -116,7 +140,12 @@ class Zone(machine.Zone):
 
     def need_not_lent(self, first, order):
         if (first, order) in self.lent:
-            raise Refused(19)
+            raise Refused(LENT)
+
+    def need_memory(self):
+        """Words are lent only of memory of the caller's."""
+        if not self.is_in_memory:
+            raise Refused(OWN_MEMORY)
 
     def give(self, first, order):
         if (first, order) in self.lent:
@@ -243,8 +272,7 @@ class ByMachine:
         need_order(order)
         self.zone.need_block(first, order)
         self.zone.need_not_lent(first, order)
-        if not self.zone.is_in_memory:
-            raise Refused(20)
+        self.zone.need_memory()
         self.zone.lent.add((first, order))
         return 2**order * self.zone.page_words
 
@@ -255,6 +283,26 @@ class ByMachine:
             raise Refused(1)
         self.zone.need_block(first, order)
         self.zone.lent.remove((first, order))
+
+    def page_words(self, space, page):
+        """The page whose words are lent."""
+        lent = self.zone.need_still_page(need_place(0, space, page))
+        if lent.pins == 0:
+            raise Refused(9)
+        if lent in self.zone.lent_pages:
+            raise Refused(LENT)
+        self.zone.need_memory()
+        self.zone.lent_pages.add(lent)
+        return lent
+
+    def return_page(self, client, space, page, count):
+        address = need_place(client, space, page)
+        if count != self.zone.page_words:
+            raise Refused(1)
+        self.zone.need_places(count)
+        lent = self.zone.need_still_page(address)
+        self.zone.lent_pages.remove(lent)
+        self.write(client, space, page, 0, list(lent.words))
 
     def info(self):
         zone = self.zone

@@ -77,11 +77,15 @@ HAND_PROOFS = {
     ),
     "crates/compactd_c/proofs/memory/compactd_close_in/Answers.antt": (
         "it says that a zone that isn't refused lends no words, and proves no function by hand",
-        "2435557d4526e2bf7dfd1cabd36b5bb1b85db785b222d84aeff6271f30a848d7",
+        "e5b4d83f5a99de45446a895f13f98b0bb1a58f35ff70e9323727058411198ba2",
     ),
     "crates/compactd_c/proofs/memory/compactd_return_block/Answers.antt": (
         "it says that the words lie where those of the block do, and proves no function by hand",
         "e14205536f90b8e03b4e0ef5d6de780e24d45a481744af7b006bf7bfa04173dd",
+    ),
+    "crates/compactd_c/proofs/memory/compactd_return_page/Answers.antt": (
+        "it says that the words lie where those of the page do, and proves no function by hand",
+        "82fb728e2f37334354619c8efd0fe481c49d3adbe3cc7b5e833101e02b29571a",
     ),
     "crates/compactd_c/proofs/pool/Pool/TheSendSync/Send.antt": (
         "the prover finds no pointer fit to go to another thread",
@@ -111,13 +115,17 @@ HAND_PROOFS = {
         "it says how many of the numbers are written, and proves no function by hand",
         "18903cc8d90fcb315c40b3a13ba86e87e8b8d112b0fe74cecc4b40d486cb26aa",
     ),
+    "crates/compactd_c/proofs/zone/Zone/lend_page/Answers.antt": (
+        "it says that a page has some words, and proves no function by hand",
+        "33de460a5ef6ea7d003721d2981fc525dc56ef5d30814c84c45c292767f6c7e0",
+    ),
     "crates/compactd_c/proofs/zone/empty_some/Answers.antt": (
         "it says that a run has no more claimed frames than frames, and proves no function by hand",
         "6f493b492c2205806d4afb616d9b068534a23c1d77c37f134f7fccc8fdc86c41",
     ),
     "crates/compactd_c/proofs/zone/lending/end_refusal/Answers.antt": (
         "it says whether any words are lent, and proves no function by hand",
-        "a58d25af6c4c61c672754d438a61dd12acdbea7b4156666965b4f6d3e44f86bc",
+        "a5b0a56d92baf664c30c4c4c1156e0b1d6d25eac0c3608c8480f9a0455f466d0",
     ),
     "crates/compactd_c/src/pool.rt": (
         "it makes a box of its pointer or lends what lies there, and may go to another thread",

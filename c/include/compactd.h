@@ -3,13 +3,13 @@
  * A pool is a row of frames, 512 in each of its pageblocks. A frame holds a page or is free. An address is a space and a virtual
  * page. It names a page, and up to 4 addresses may name the same page. A round moves pages to the top, so that pageblocks at the bottom
  * become empty. A block of 8 to 512 free frames can be handed out; the caller then reads and writes its words. The memory of all frames is
- * allocated when the pool is opened, or it is the caller's, and then the words of a block can be lent by a pointer. docs/C.md explains each
- * call.
+ * allocated when the pool is opened, or it is the caller's, and then the words of a block, and those of a page that has a pin, can be lent by
+ * a pointer. docs/C.md explains each call.
  *
  * Each call answers 0 when it was done, or the number of its refusal, an enum compactd_refusal; compactd_refusal_text has its words. A
  * refused call changes nothing: the pool is as it was, and nothing is written through the other pointers. Where several refusals hold, the
  * call answers the one that comes first in its comment. Two calls, compactd_map_many and compactd_unmap_many, are many calls in one: they
- * answer the first refusal of these, and so change something although they answer it.
+ * answer the first refusal of these, and so change something although they answer it. So may functions that this header has itself.
  *
  * Ranges, unless a comment gives another: a client 0 to 7, a space 0 to 255, a virtual page (vpage) 0 to 16777215, a frame of the pool, a
  * word 0 to 7 or 0 to 511 by the size of the pool's pages, a pageblock of the pool, an order 3 to 9.
@@ -37,10 +37,13 @@
  *     the caller: `at` leads to so many words, which nothing else uses, and which stay until the pool is closed. Where `is_blank` is 1, they
  *     are all 0.
  *   - Once compactd_open_in has taken the memory, nothing but calls reads or writes its words until the pool is closed, except those that
- *     are lent. compactd_block_words lends the words of a block: until compactd_return_block takes them back, nobody else has them, and
- *     the caller reads and writes them by the pointer, from any thread, beside calls on the pool too.
- *   - Whatever the caller does with lent words has ended when compactd_return_block or a closing begins. No word is used after it.
- *   - compactd_return_block gets the words that compactd_block_words lent for this very block of this pool, and each are returned once.
+ *     are lent. compactd_block_words lends the words of a block, and compactd_page_words those of a page: until compactd_return_block or
+ *     compactd_return_page takes them back, nobody else has them, and the caller reads and writes them by the pointer, from any thread,
+ *     beside calls on the pool too. So may the kernel or a device for it.
+ *   - Whatever is done with lent words, by a device too, has ended when compactd_return_block, compactd_return_page or a closing begins. No
+ *     word is used after it.
+ *   - compactd_return_block gets the words that compactd_block_words lent for this very block of this pool, and compactd_return_page those
+ *     that compactd_page_words lent for this very page, by any address that names it then. Each are returned once.
  *
  * Two caps of a pool's life. The way out of each is to close the pool and open another.
  * - 2^53 recorded calls of a pool that keeps no journal; each word of compactd_read and compactd_write counts as one, and each page that is
@@ -130,7 +133,7 @@ enum compactd_refusal {
     COMPACTD_PAGES_MOVING = 16, /* a page of the pool is moving */
     COMPACTD_MARKED = 17,       /* the pageblock is marked already */
     COMPACTD_NOT_MARKED = 18,   /* the pageblock isn't marked */
-    COMPACTD_LENT = 19,         /* the words of the block are lent */
+    COMPACTD_LENT = 19,         /* the words are lent */
     COMPACTD_OWN_MEMORY = 20,   /* the pool lies in memory of its own */
     COMPACTD_CLOSED = 51,       /* the pool is closed */
     COMPACTD_OPEN = 52,         /* the pool is open already */
@@ -160,7 +163,7 @@ COMPACTD_IN_HEADER const char *compactd_refusal_text(uint32_t refusal)
     case COMPACTD_PAGES_MOVING: return "a page of the pool is moving";
     case COMPACTD_MARKED: return "the pageblock is marked already";
     case COMPACTD_NOT_MARKED: return "the pageblock isn't marked";
-    case COMPACTD_LENT: return "the words of the block are lent";
+    case COMPACTD_LENT: return "the words are lent";
     case COMPACTD_OWN_MEMORY: return "the pool lies in memory of its own";
     case COMPACTD_CLOSED: return "the pool is closed";
     case COMPACTD_OPEN: return "the pool is open already";
@@ -313,7 +316,7 @@ uint32_t compactd_open_in(compactd_pool *pool, uint32_t page_words, uint32_t blo
 uint32_t compactd_close(compactd_pool *pool) COMPACTD_NOT_NULL;
 
 /* Closes a pool that lies in memory of the caller's, and gets that memory in `*memory`. What its words are isn't told.
- * Refused: CLOSED; OWN_MEMORY where the pool lies in memory of its own; LENT where words of a block are lent. */
+ * Refused: CLOSED; OWN_MEMORY where the pool lies in memory of its own; LENT where words of it are lent. */
 uint32_t compactd_close_in(compactd_pool *pool, compactd_words *memory) COMPACTD_CALL;
 
 /* Pages and addresses. Each call but the first is made for a client. Its number is stored in the record and has no other meaning. */
@@ -337,15 +340,15 @@ uint32_t compactd_map_at(compactd_pool *pool, uint32_t client, uint32_t space, u
     COMPACTD_CALL;
 
 /* Reads a word of a page.
- * Refused: CLOSED; RANGE; JOURNAL_FULL; UNMAPPED; MOVING. */
+ * Refused: CLOSED; RANGE; JOURNAL_FULL; UNMAPPED; MOVING; LENT. */
 uint32_t compactd_load(compactd_pool *pool, uint32_t client, uint32_t space, uint32_t vpage, uint32_t word, uint64_t *value) COMPACTD_CALL;
 
 /* Writes a word of a page.
- * Refused: CLOSED; RANGE; JOURNAL_FULL; UNMAPPED; MOVING. */
+ * Refused: CLOSED; RANGE; JOURNAL_FULL; UNMAPPED; MOVING; LENT. */
 uint32_t compactd_store(compactd_pool *pool, uint32_t client, uint32_t space, uint32_t vpage, uint32_t word, uint64_t value) COMPACTD_CALL;
 
 /* Reads `count` words from word `from`, as that many compactd_load calls would. Each word has a record.
- * Refused: CLOSED; RANGE, also where the words go past the page; JOURNAL_FULL where there aren't places for all; UNMAPPED; MOVING. */
+ * Refused: CLOSED; RANGE, also where the words go past the page; JOURNAL_FULL where there aren't places for all; UNMAPPED; MOVING; LENT. */
 uint32_t compactd_read(compactd_pool *pool, uint32_t client, uint32_t space, uint32_t vpage, uint32_t from, uint64_t *values, size_t count)
     COMPACTD_CALL_WITH_WORDS;
 
@@ -381,8 +384,47 @@ uint32_t compactd_unmap_many(compactd_pool *pool, uint32_t client, compactd_page
 uint32_t compactd_pin(compactd_pool *pool, uint32_t client, uint32_t space, uint32_t vpage) COMPACTD_CALL;
 
 /* Takes a pin off a page.
- * Refused: CLOSED; RANGE; JOURNAL_FULL; UNMAPPED; NOT_PINNED. */
+ * Refused: CLOSED; RANGE; JOURNAL_FULL; UNMAPPED; NOT_PINNED; LENT where this is its last pin and its words are lent. */
 uint32_t compactd_unpin(compactd_pool *pool, uint32_t client, uint32_t space, uint32_t vpage) COMPACTD_CALL;
+
+/* Lends the words of a page that has a pin, in a pool that lies in memory of the caller's. Gets where they begin and how many there are: those
+ * of a page. The caller reads and writes them by the pointer until compactd_return_page. Meanwhile loads, stores, reads and writes of the
+ * page are refused, at each of its addresses, and so is taking its last pin off. All other calls go on as before; none moves or reads these
+ * words. The call is unrecorded.
+ * Refused: CLOSED; RANGE; UNMAPPED; MOVING; NOT_PINNED; LENT; OWN_MEMORY where the pool lies in memory of its own. */
+uint32_t compactd_page_words(compactd_pool *pool, uint32_t space, uint32_t vpage, compactd_words *words) COMPACTD_CALL;
+
+/* Takes the words of a page back that compactd_page_words lent. The page has the words that were left there, as if the client had stored each
+ * of them: each has a record, and the page is dirty. Its pins stay, and `*words` is all zeros.
+ * Refused: CLOSED; RANGE, also where the count of `words` isn't that of a page; JOURNAL_FULL where there aren't places for all words; UNMAPPED;
+ * MOVING. */
+uint32_t compactd_return_page(compactd_pool *pool, uint32_t client, uint32_t space, uint32_t vpage, compactd_words *words) COMPACTD_CALL;
+
+/* Pins a page and lends its words: compactd_pin, and then compactd_page_words. Where lending is refused, the pin is taken off again; the two
+ * records of it stay. Where there is no place for the second, the pin stays, and JOURNAL_FULL is answered. This is a part of the header and
+ * isn't proved; the calls that it makes are.
+ * Refused: as compactd_pin is; as compactd_page_words is. */
+COMPACTD_IN_HEADER uint32_t compactd_pin_words(compactd_pool *pool, uint32_t client, uint32_t space, uint32_t vpage, compactd_words *words)
+{
+    uint32_t lent, answer = compactd_pin(pool, client, space, vpage);
+
+    if (answer != COMPACTD_OK)
+        return answer;
+    lent = compactd_page_words(pool, space, vpage, words);
+    if (lent != COMPACTD_OK)
+        answer = compactd_unpin(pool, client, space, vpage);
+    return answer != COMPACTD_OK ? answer : lent;
+}
+
+/* Takes the words of a page back and a pin off it: compactd_return_page, and then compactd_unpin. Where the first is refused, the second isn't
+ * made. Where the second is, the words are back, `*words` is all zeros, and the pin stays. This too is a part of the header.
+ * Refused: as compactd_return_page is; as compactd_unpin is. */
+COMPACTD_IN_HEADER uint32_t compactd_unpin_words(compactd_pool *pool, uint32_t client, uint32_t space, uint32_t vpage, compactd_words *words)
+{
+    const uint32_t answer = compactd_return_page(pool, client, space, vpage, words);
+
+    return answer != COMPACTD_OK ? answer : compactd_unpin(pool, client, space, vpage);
+}
 
 /* Blocks of 2^order frames, 8 to 512, which are aligned to their size. */
 
@@ -572,6 +614,44 @@ COMPACTD_IN_HEADER uint32_t compactd_list_moves(compactd_pool *pool, uint64_t *w
     *moved = count;
     *stopped = answer;
     return COMPACTD_OK;
+}
+
+/* Isolates the next pages of the round, so many at most, one after the other, as that many compactd_isolate calls would: under one hold of the
+ * caller's lock. `pages` has room for so many, and `words` for the words of each, those of the page i from word i * page_words on. Gets how many
+ * were isolated, also where it is refused, and answers the refusal that stopped it. This too is a part of the header.
+ * Refused: as compactd_isolate is. With `count` 0 no call is made. */
+COMPACTD_IN_HEADER uint32_t compactd_isolate_many(compactd_pool *pool, compactd_moving_page *pages, size_t count, uint64_t *words,
+                                                  size_t page_words, size_t *isolated)
+{
+    uint32_t answer = COMPACTD_OK;
+    size_t at;
+
+    for (at = 0; at < count; at++) {
+        answer = compactd_isolate(pool, &pages[at], words + at * page_words, page_words);
+        if (answer != COMPACTD_OK)
+            break;
+    }
+    *isolated = at;
+    return answer;
+}
+
+/* Ends the moves of pages, one after the other, as that many compactd_commit calls would, with copies of their words that lie as those of
+ * compactd_isolate_many do. `statuses` gets the answer for each page, and `moved` whether it was moved, 0 where it was refused. One that is
+ * refused doesn't stop the others. Answers 0 where none was, and else the first refusal of a page. This too is a part of the header.
+ * Refused: as compactd_commit is. With `count` 0 no call is made. */
+COMPACTD_IN_HEADER uint32_t compactd_commit_many(compactd_pool *pool, const compactd_moving_page *pages, size_t count, const uint64_t *words,
+                                                 size_t page_words, uint32_t *statuses, compactd_bool *moved)
+{
+    uint32_t answer = COMPACTD_OK;
+    size_t at;
+
+    for (at = 0; at < count; at++) {
+        moved[at] = 0;
+        statuses[at] = compactd_commit(pool, &pages[at], words + at * page_words, page_words, &moved[at]);
+        if (answer == COMPACTD_OK)
+            answer = statuses[at];
+    }
+    return answer;
 }
 
 /* Evacuations. */

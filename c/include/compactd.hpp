@@ -4,11 +4,12 @@
 // A Pool can be moved and not copied, and closes when it is destroyed. A Huge is a block that a pool handed out, and a Moving is a page
 // that is moving. Both can be moved and not copied. When a Huge is destroyed, it gives its block back; when a Moving is destroyed, it
 // puts its page back. Both keep the pool's memory until then, also where the Pool is destroyed before. A Memory is a mapping that a pool may
-// lie in. The words of its blocks are lent then: a BlockWords has those of one block, and returns them when it is destroyed.
+// lie in. The words of its blocks and of pinned pages are lent then: a BlockWords has those of one block and a PageWords those of one page.
+// Each returns them when it is destroyed.
 //
-// As in C, calls on one pool don't overlap, unless all of them are questions. Destroying a Pool, a Huge, a BlockWords or a Moving is a call
-// on its pool that isn't a question. Threads that share a pool make each call under a lock of their own, destructors included. This header isn't
-// proved. It passes what it is given to calls that are.
+// As in C, calls on one pool don't overlap, unless all of them are questions. Destroying a Pool, a Huge, a BlockWords, a PageWords or a Moving
+// is a call on its pool that isn't a question. Threads that share a pool make each call under a lock of their own, destructors included. This
+// header isn't proved. It passes what it is given to calls that are.
 #ifndef COMPACTD_HPP
 #define COMPACTD_HPP
 
@@ -104,6 +105,7 @@ public:
     std::size_t size() const noexcept { return words_.count; }
 
 private:
+    friend class PageWords;
     friend class Pool;
 
     compactd_words words_;
@@ -184,6 +186,75 @@ private:
     std::shared_ptr<detail::Handle> handle_;
     std::uint32_t first_;
     std::uint32_t order_;
+    compactd_words words_;
+};
+
+// The words of a page that Pool::pin_words pinned, while they are lent. They are read and written by the pointer, beside calls on the pool
+// too. When this is destroyed, they are returned to the page, as if the client had stored each of them, and the pin is taken off. Where that is
+// refused, as JOURNAL_FULL can be, or the address names another page by then, the page stays pinned and its words stay lent.
+class PageWords {
+public:
+    PageWords(PageWords &&other) noexcept
+        : handle_(std::move(other.handle_)), client_(other.client_), address_(other.address_), words_(other.words_)
+    {
+        other.words_ = compactd_words();
+    }
+
+    PageWords &operator=(PageWords &&other) noexcept
+    {
+        if (this != &other) {
+            let_go();
+            handle_ = std::move(other.handle_);
+            client_ = other.client_;
+            address_ = other.address_;
+            std::swap(words_, other.words_);
+        }
+        return *this;
+    }
+
+    PageWords(const PageWords &) = delete;
+    PageWords &operator=(const PageWords &) = delete;
+    ~PageWords() { let_go(); }
+
+    Address address() const noexcept { return address_; }
+
+    std::uint64_t *data() noexcept { return words_.at; }
+    const std::uint64_t *data() const noexcept { return words_.at; }
+    std::size_t size() const noexcept { return words_.count; }
+    std::uint64_t *begin() noexcept { return words_.at; }
+    const std::uint64_t *begin() const noexcept { return words_.at; }
+    std::uint64_t *end() noexcept { return words_.at + words_.count; }
+    const std::uint64_t *end() const noexcept { return words_.at + words_.count; }
+    std::uint64_t &operator[](std::size_t at) noexcept { return words_.at[at]; }
+    const std::uint64_t &operator[](std::size_t at) const noexcept { return words_.at[at]; }
+
+private:
+    friend class Pool;
+
+    PageWords(const std::shared_ptr<detail::Handle> &handle, std::uint32_t client, Address address, const compactd_words &words) noexcept
+        : handle_(handle), client_(client), address_(address), words_(words)
+    {
+    }
+
+    // Whether the address names the page, which stays in its frame while it has a pin.
+    bool is_named() const noexcept
+    {
+        compactd_page_info info = compactd_page_info();
+        return compactd_look(&handle_->raw, address_.space, address_.vpage, &info) == COMPACTD_OK && !info.moving
+               && words_.at == handle_->memory.words_.at + info.frame * words_.count;
+    }
+
+    void let_go() noexcept
+    {
+        if (handle_ && is_named())
+            detail::ignore(compactd_unpin_words(&handle_->raw, client_, address_.space, address_.vpage, &words_));
+        handle_.reset();
+        words_ = compactd_words();
+    }
+
+    std::shared_ptr<detail::Handle> handle_;
+    std::uint32_t client_;
+    Address address_;
     compactd_words words_;
 };
 
@@ -406,8 +477,8 @@ public:
         detail::done(compactd_open_sized(&handle_->raw, page_words, size.blocks, size.spaces, size.vpages, places));
     }
 
-    // The same in memory that was mapped, which has as many words as the pool has in pages: the words of blocks are lent then. Where that is
-    // refused, the memory stays where it was.
+    // The same in memory that was mapped, which has as many words as the pool has in pages: the words of blocks and of pinned pages are lent
+    // then. Where that is refused, the memory stays where it was.
     Pool(PageSize page_size, PoolSize size, Memory &&memory, std::uint32_t places = 0) : handle_(std::make_shared<detail::Handle>())
     {
         const std::uint32_t page_words = static_cast<std::uint32_t>(page_size);
@@ -504,6 +575,16 @@ public:
     void pin(std::uint32_t client, Address at) { detail::done(compactd_pin(raw(), client, at.space, at.vpage)); }
 
     void unpin(std::uint32_t client, Address at) { detail::done(compactd_unpin(raw(), client, at.space, at.vpage)); }
+
+    // Pins a page and lends its words, in a pool that lies in a Memory: the pointer leads to them until the guard is destroyed, which takes the
+    // pin off. Meanwhile the page isn't loaded, stored, read or written by calls. Where lending is refused, the page has no more pins than
+    // before.
+    PageWords pin_words(std::uint32_t client, Address at)
+    {
+        compactd_words words = compactd_words();
+        detail::done(compactd_pin_words(raw(), client, at.space, at.vpage, &words));
+        return PageWords(handle_, client, at, words);
+    }
 
     // Hands out the lowest block of 2^order free frames.
     Huge take_huge(std::uint32_t order = 9)
@@ -662,6 +743,33 @@ public:
     bool isolate(compactd_moving_page &page, std::uint64_t *words, std::size_t count)
     {
         return is_there(compactd_isolate(raw(), &page, words, count), COMPACTD_MET);
+    }
+
+    // Isolates the next pages of the round, so many at most, one after the other. There are fewer where the scanners have met or the journal has
+    // no room for a further move. Where there is none for the first, it throws as isolate does.
+    std::vector<Moving> isolate_many(std::size_t most)
+    {
+        std::vector<Moving> pages;
+        std::uint32_t answer = COMPACTD_OK;
+        while (answer == COMPACTD_OK && pages.size() < most) {
+            std::vector<std::uint64_t> words(describe().page_words);
+            compactd_moving_page page = compactd_moving_page();
+            answer = compactd_isolate(raw(), &page, words.data(), words.size());
+            if (answer == COMPACTD_OK)
+                pages.push_back(Moving(handle_, page, std::move(words)));
+        }
+        if (pages.empty())
+            is_there(answer, COMPACTD_MET);
+        return pages;
+    }
+
+    // Ends the moves of pages with their words, and returns how many were moved; the others have a pin and are in their old frames.
+    std::size_t commit_many(std::vector<Moving> &pages)
+    {
+        std::size_t moved = 0;
+        for (Moving &page : pages)
+            moved += page.commit();
+        return moved;
     }
 
     // Ends the move of a page with a copy of its words. Returns whether the page was moved; else it has a pin and is in its old frame.

@@ -27,6 +27,11 @@ static uint32_t in_run, unclaimed;
 static uint32_t firsts[4];
 static size_t claimed;
 static compactd_words lent;
+static compactd_moving_page carried[4];
+static size_t isolated;
+static uint32_t statuses[4];
+static compactd_bool are_moved[4];
+static uint64_t many[4 * 512]; /* words of 4 pages */
 
 /* Each call on a pool that is closed: from the beginning, or by compactd_close. */
 static void closed(compactd_pool *pool)
@@ -47,6 +52,10 @@ static void closed(compactd_pool *pool)
     HOLDS(request.frame == 7 && request.status == 7);
     IS(CLOSED, compactd_pin(pool, 0, 0, 0));
     IS(CLOSED, compactd_unpin(pool, 0, 0, 0));
+    IS(CLOSED, compactd_page_words(pool, 0, 0, &lent));
+    IS(CLOSED, compactd_return_page(pool, 0, 0, 0, &lent));
+    IS(CLOSED, compactd_pin_words(pool, 0, 0, 0, &lent));
+    IS(CLOSED, compactd_unpin_words(pool, 0, 0, 0, &lent));
     IS(CLOSED, compactd_take_order(pool, 9, &frame));
     IS(CLOSED, compactd_give_order(pool, 0, 9));
     IS(CLOSED, compactd_read_block(pool, 0, 9, 0, words, 1));
@@ -96,6 +105,10 @@ static void closed(compactd_pool *pool)
     IS(CLOSED, compactd_isolate(pool, &page, words, 8));
     IS(CLOSED, compactd_commit(pool, &page, words, 8, &is_so));
     IS(CLOSED, compactd_put_back(pool, &page));
+    isolated = 7;
+    IS(CLOSED, compactd_isolate_many(pool, carried, 4, words, 8, &isolated));
+    IS(CLOSED, compactd_commit_many(pool, carried, 1, words, 8, statuses, are_moved));
+    HOLDS(isolated == 0 && statuses[0] == COMPACTD_CLOSED && !are_moved[0]);
     IS(CLOSED, compactd_close(pool));
     IS(CLOSED, compactd_close(pool));
 }
@@ -175,6 +188,14 @@ static void ranges(compactd_pool *pool, uint32_t page_words)
     IS(RANGE, compactd_unmap(pool, 8, 0, 0));
     IS(RANGE, compactd_pin(pool, 8, 0, 0));
     IS(RANGE, compactd_unpin(pool, 0, 0, far));
+    IS(RANGE, compactd_page_words(pool, far, 0, &lent));
+    IS(RANGE, compactd_page_words(pool, 0, 1 << 24, &lent));
+    IS(UNMAPPED, compactd_page_words(pool, 255, (1 << 24) - 1, &lent));
+    IS(RANGE, compactd_return_page(pool, 0, 0, 0, &lent));
+    IS(RANGE, compactd_pin_words(pool, 8, 0, 0, &lent));
+    IS(UNMAPPED, compactd_pin_words(pool, 0, 255, 0, &lent));
+    IS(RANGE, compactd_unpin_words(pool, 0, 0, 0, &lent));
+    HOLDS(lent.at == NULL && lent.count == 0);
     IS(RANGE, compactd_take_order(pool, 2, &frame));
     IS(RANGE, compactd_take_order(pool, 10, &frame));
     IS(RANGE, compactd_give_order(pool, 4, 3));
@@ -470,6 +491,55 @@ static void lists(compactd_pool *pool, uint32_t page_words, uint32_t most, uint3
 static void is_listed(uint32_t at, uint32_t source, uint32_t target, uint32_t vpage)
 {
     HOLDS(listed[at].source == source && listed[at].target == target && listed[at].space == 0 && listed[at].vpage == vpage);
+}
+
+/* Pages that are carried four at a time, over pages in the frames from 0 on. */
+static void carried_together(uint32_t page_words)
+{
+    compactd_pool pool = {0};
+    uint32_t at;
+
+    OK(compactd_open(&pool, page_words, 1));
+    for (at = 0; at < 6; at++) {
+        OK(compactd_map(&pool, 0, 0, at, 0, &frame));
+        OK(compactd_store(&pool, 0, 0, at, 7, 10 + at));
+    }
+    isolated = 7;
+    IS(MET, compactd_isolate_many(&pool, carried, 4, many, page_words, &isolated)); /* no round was begun */
+    HOLDS(isolated == 0);
+    OK(compactd_isolate_many(&pool, carried, 0, many, page_words, &isolated));
+    OK(compactd_commit_many(&pool, carried, 0, many, page_words, statuses, are_moved));
+    OK(compactd_begin_round(&pool));
+    isolated = 7;
+    IS(RANGE, compactd_isolate_many(&pool, carried, 4, many, page_words + 1, &isolated));
+    HOLDS(isolated == 0);
+    OK(compactd_isolate_many(&pool, carried, 4, many, page_words, &isolated));
+    HOLDS(isolated == 4 && carried[3].serial == 3 && many[3 * page_words + 7] == 13);
+    OK(compactd_pin(&pool, 0, 0, 1));
+    OK(compactd_put_back(&pool, &carried[2]));
+    many[3 * page_words]++; /* another word than the page has */
+    IS(STRANGER, compactd_commit_many(&pool, carried, 4, many, page_words, statuses, are_moved));
+    HOLDS(statuses[0] == 0 && statuses[1] == 0 && statuses[2] == COMPACTD_STRANGER && statuses[3] == COMPACTD_STRANGER);
+    HOLDS(are_moved[0] && !are_moved[1] && !are_moved[2] && !are_moved[3]);
+    is_in_frame(&pool, 0, 511);
+    is_in_frame(&pool, 1, 1);
+    is_in_frame(&pool, 2, 2);
+    OK(compactd_put_back(&pool, &carried[3]));
+    IS(MET, compactd_isolate_many(&pool, carried, 4, many, page_words, &isolated));
+    HOLDS(isolated == 2 && many[page_words + 7] == 15);
+    OK(compactd_commit_many(&pool, carried, 2, many, page_words, statuses, are_moved));
+    HOLDS(are_moved[0] && are_moved[1]);
+    is_in_frame(&pool, 5, 506);
+    OK(compactd_close(&pool));
+    OK(compactd_open_journal(&pool, page_words, 1, 7));
+    for (at = 0; at < 3; at++)
+        OK(compactd_map(&pool, 0, 0, at, 0, &frame));
+    OK(compactd_begin_round(&pool));
+    IS(JOURNAL_FULL, compactd_isolate_many(&pool, carried, 3, many, page_words, &isolated));
+    HOLDS(isolated == 2);
+    OK(compactd_commit_many(&pool, carried, 2, many, page_words, statuses, are_moved));
+    HOLDS(are_moved[0] && are_moved[1]);
+    OK(compactd_close(&pool));
 }
 
 /* Rounds whose moves are listed, over pages in the frames from 0 on. */
@@ -1445,6 +1515,7 @@ static void both_sizes(uint32_t page_words)
     journal(page_words);
     slices(page_words);
     slices_of_a_journal(page_words);
+    carried_together(page_words);
     listed_moves(page_words);
     many_pages(page_words);
     many_pages_of_a_full_pool(page_words);

@@ -1,4 +1,4 @@
-/* Pools in memory of the caller's, and words of blocks that are lent: each refusal and each change of these calls, in pools with pages of
+/* Pools in memory of the caller's, and words of blocks and of pinned pages that are lent: each refusal and each change of these calls, in pools with pages of
  * both sizes, and memory that is mapped by compactd_memory.h. Prints each call that answers another number, with its line; the status is
  * then 1. */
 #define _DEFAULT_SOURCE
@@ -21,6 +21,8 @@ static uint64_t words[512];
 static compactd_bool is_so;
 static compactd_counts counts;
 static compactd_words memory, lent, other;
+static compactd_moving_page page;
+static compactd_page_info info;
 
 static int is_nothing(const compactd_words *found)
 {
@@ -497,6 +499,306 @@ static void closings(uint32_t page_words)
     OK(compactd_close(&pool));
 }
 
+/* Pages. */
+
+/* A pool whose page 9 of space 0 is in frame 9, and is shared as page 5 of space 1. Its words are written. Returns where the memory begins. */
+static uint64_t *open_with_page(compactd_pool *pool, uint32_t page_words, uint32_t places)
+{
+    uint64_t *begin = open_in(pool, page_words, places);
+
+    OK(compactd_map_at(pool, 0, 0, 9, 0, 9));
+    write_page(pool, 9, page_words);
+    OK(compactd_share(pool, 0, 0, 9, 1, 5));
+    return begin;
+}
+
+static void refused_lending(uint32_t page_words)
+{
+    compactd_pool pool = {0};
+    uint64_t *begin = open_with_page(&pool, page_words, 0);
+
+    IS(RANGE, compactd_page_words(&pool, 256, 9, &lent));
+    IS(RANGE, compactd_page_words(&pool, 0, 1 << 24, &lent));
+    IS(UNMAPPED, compactd_page_words(&pool, 0, 8, &lent));
+    IS(UNMAPPED, compactd_page_words(&pool, 255, 9, &lent));
+    IS(NOT_PINNED, compactd_page_words(&pool, 0, 9, &lent));
+    OK(compactd_pin(&pool, 0, 0, 9));
+    OK(compactd_unpin(&pool, 0, 1, 5));
+    IS(NOT_PINNED, compactd_page_words(&pool, 1, 5, &lent));
+    OK(compactd_begin_round(&pool));
+    OK(compactd_isolate(&pool, &page, words, page_words));
+    IS(MOVING, compactd_page_words(&pool, 0, 9, &lent));
+    OK(compactd_pin(&pool, 0, 0, 9));
+    IS(MOVING, compactd_page_words(&pool, 0, 9, &lent));
+    OK(compactd_commit(&pool, &page, words, page_words, &is_so));
+    HOLDS(!is_so && is_nothing(&lent)); /* it was put back, since it has a pin */
+    OK(compactd_page_words(&pool, 0, 9, &lent));
+    other.at = NULL;
+    other.count = 0;
+    IS(LENT, compactd_page_words(&pool, 0, 9, &other));
+    IS(LENT, compactd_page_words(&pool, 1, 5, &other));
+    HOLDS(is_nothing(&other) && lent.at == begin + (size_t)9 * page_words && lent.count == page_words && are_all(&lent, 9));
+    OK(compactd_return_page(&pool, 0, 0, 9, &lent));
+    close_in(&pool, begin, page_words);
+    OK(compactd_open(&pool, page_words, 1));
+    OK(compactd_map(&pool, 0, 0, 0, 0, &frame));
+    IS(NOT_PINNED, compactd_page_words(&pool, 0, 0, &lent));
+    OK(compactd_pin(&pool, 0, 0, 0));
+    IS(OWN_MEMORY, compactd_page_words(&pool, 0, 0, &lent));
+    HOLDS(is_nothing(&lent));
+    OK(compactd_close(&pool));
+}
+
+/* What loads, stores, reads and writes of a page are refused as while its words are lent, and what else comes first. */
+static void are_refused(compactd_pool *pool, uint32_t space, uint32_t vpage, uint32_t page_words)
+{
+    words[0] = 7;
+    IS(LENT, compactd_load(pool, 0, space, vpage, 0, words));
+    IS(RANGE, compactd_load(pool, 8, space, vpage, 0, words));
+    IS(RANGE, compactd_load(pool, 0, space, vpage, page_words, words));
+    IS(LENT, compactd_store(pool, 0, space, vpage, page_words - 1, 7));
+    IS(RANGE, compactd_store(pool, 0, space, vpage, page_words, 7));
+    IS(LENT, compactd_read(pool, 0, space, vpage, 0, words, page_words));
+    IS(LENT, compactd_read(pool, 0, space, vpage, 1, words, 0));
+    IS(RANGE, compactd_read(pool, 0, space, vpage, 1, words, page_words));
+    IS(LENT, compactd_write(pool, 0, space, vpage, page_words - 1, words, 1));
+    IS(LENT, compactd_write(pool, 0, space, vpage, 0, words, 0));
+    IS(RANGE, compactd_write(pool, 0, space, vpage, page_words - 1, words, 2));
+    HOLDS(words[0] == 7);
+}
+
+/* While the words of a page are lent, it is pinned, shared and unmapped as before, but for its last pin and its last address. */
+static void refusals_of_a_lent_page(uint32_t page_words)
+{
+    compactd_pool pool = {0};
+    uint64_t *begin = open_with_page(&pool, page_words, 0);
+
+    OK(compactd_pin(&pool, 0, 1, 5));
+    OK(compactd_page_words(&pool, 1, 5, &lent));
+    are_refused(&pool, 0, 9, page_words);
+    are_refused(&pool, 1, 5, page_words);
+    IS(LENT, compactd_unpin(&pool, 0, 0, 9));
+    IS(LENT, compactd_unpin(&pool, 0, 1, 5));
+    IS(RANGE, compactd_unpin(&pool, 8, 1, 5));
+    OK(compactd_pin(&pool, 0, 0, 9));
+    OK(compactd_unpin(&pool, 0, 1, 5));
+    IS(LENT, compactd_unpin(&pool, 0, 1, 5));
+    OK(compactd_share(&pool, 0, 0, 9, 0, 10));
+    are_refused(&pool, 0, 10, page_words);
+    OK(compactd_unmap(&pool, 0, 1, 5));
+    OK(compactd_unmap(&pool, 0, 0, 9));
+    IS(PINNED, compactd_unmap(&pool, 0, 0, 10));
+    IS(LENT, compactd_close_in(&pool, &other));
+    OK(compactd_look(&pool, 0, 10, &info));
+    HOLDS(info.frame == 9 && info.pins == 1 && info.maps == 1 && !info.moving);
+    OK(compactd_map(&pool, 0, 0, 11, 0, &frame)); /* another page */
+    write_page(&pool, 11, page_words);
+    HOLDS(page_has(&pool, 11, page_words) && are_all(&lent, 9));
+    fill(&lent, 10);
+    OK(compactd_return_page(&pool, 0, 0, 10, &lent));
+    HOLDS(is_nothing(&lent) && page_has(&pool, 10, page_words));
+    OK(compactd_store(&pool, 0, 0, 10, 3, 5));
+    OK(compactd_unpin(&pool, 0, 0, 10));
+    IS(NOT_PINNED, compactd_page_words(&pool, 0, 10, &lent));
+    OK(compactd_unmap(&pool, 0, 0, 10));
+    close_in(&pool, begin, page_words);
+}
+
+static void refused_returns_of_a_page(uint32_t page_words)
+{
+    compactd_pool pool = {0};
+    uint64_t *begin = open_with_page(&pool, page_words, 0);
+
+    OK(compactd_map_at(&pool, 0, 0, 3, 0, 3));
+    OK(compactd_begin_round(&pool));
+    OK(compactd_isolate(&pool, &page, words, page_words));
+    OK(compactd_pin(&pool, 0, 0, 9));
+    OK(compactd_page_words(&pool, 0, 9, &lent));
+    fill(&lent, 4);
+    other = lent;
+    IS(RANGE, compactd_return_page(&pool, 8, 0, 9, &lent));
+    IS(RANGE, compactd_return_page(&pool, 0, 256, 9, &lent));
+    IS(RANGE, compactd_return_page(&pool, 0, 0, 1 << 24, &lent));
+    IS(UNMAPPED, compactd_return_page(&pool, 0, 0, 8, &lent));
+    IS(MOVING, compactd_return_page(&pool, 0, 0, 3, &lent));
+    lent.count--;
+    IS(RANGE, compactd_return_page(&pool, 0, 0, 9, &lent));
+    lent.count += 2;
+    IS(RANGE, compactd_return_page(&pool, 0, 0, 9, &lent));
+    IS(RANGE, compactd_return_page(&pool, 0, 0, 9, &memory)); /* no words at all */
+    HOLDS(is_nothing(&memory));
+    lent = other;
+    HOLDS(are_all(&lent, 4));
+    IS(LENT, compactd_load(&pool, 0, 0, 9, 0, words)); /* it is lent as before */
+    OK(compactd_put_back(&pool, &page));
+    OK(compactd_return_page(&pool, 7, 1, 5, &lent)); /* by its other address */
+    HOLDS(is_nothing(&lent));
+    OK(compactd_read(&pool, 0, 0, 9, 0, words, page_words));
+    HOLDS(words[0] == word_of(4, 0) && words[page_words - 1] == word_of(4, page_words - 1));
+    close_in(&pool, begin, page_words);
+}
+
+/* A page that comes back was written: it is dirty, each of its words has a record, and it has what was left, again and again. */
+static void records_of_a_page(uint32_t page_words)
+{
+    compactd_pool pool = {0};
+    uint64_t *begin = open_in(&pool, page_words, 2 * page_words + 6);
+    uint64_t records, room;
+    compactd_record record;
+
+    OK(compactd_map(&pool, 0, 0, 0, 0, &frame));
+    OK(compactd_pin(&pool, 0, 0, 0));
+    OK(compactd_page_words(&pool, 0, 0, &lent));
+    HOLDS(are_zeros(lent.at, lent.count));
+    OK(compactd_look(&pool, 0, 0, &info));
+    OK(compactd_journal(&pool, &records, &room));
+    HOLDS(info.flags == 0 && records == 2 && room == 2 * page_words + 4);
+    fill(&lent, 3);
+    OK(compactd_return_page(&pool, 6, 0, 0, &lent));
+    OK(compactd_look(&pool, 0, 0, &info));
+    OK(compactd_journal(&pool, &records, &room));
+    HOLDS(info.flags == COMPACTD_DIRTY && info.pins == 1 && records == page_words + 2 && room == page_words + 4);
+    OK(compactd_record_at(&pool, page_words + 1, &record));
+    HOLDS(record.kind == COMPACTD_WAS_STORED && record.client == 6 && record.space == 0 && record.vpage == 0);
+    HOLDS(record.number == page_words - 1 && record.value == word_of(3, page_words - 1));
+    OK(compactd_page_words(&pool, 0, 0, &lent));
+    OK(compactd_mark(&pool, 1));
+    OK(compactd_map(&pool, 0, 0, 1, 0, &frame));
+    OK(compactd_map(&pool, 0, 0, 2, 0, &frame));
+    OK(compactd_begin_round(&pool));
+    OK(compactd_isolate(&pool, &page, words, page_words)); /* its end keeps the last place */
+    IS(JOURNAL_FULL, compactd_return_page(&pool, 0, 0, 0, &lent));
+    IS(JOURNAL_FULL, compactd_return_page(&pool, 0, 0, 9, &lent));
+    HOLDS(lent.count == page_words && are_all(&lent, 3));
+    OK(compactd_put_back(&pool, &page));
+    IS(JOURNAL_FULL, compactd_return_page(&pool, 0, 0, 0, &lent));
+    OK(compactd_load(&pool, 0, 0, 1, 0, words));
+    IS(LENT, compactd_load(&pool, 0, 0, 0, 0, words));
+    IS(LENT, compactd_close_in(&pool, &memory));
+    OK(compactd_close(&pool)); /* the words can't come back */
+    lent.at = NULL;
+    lent.count = 0;
+    free(begin);
+}
+
+/* A page is pinned and its words are lent by one call of the header, and by another one they come back. */
+static void pinned_words(uint32_t page_words)
+{
+    compactd_pool pool = {0};
+    uint64_t *begin = open_with_page(&pool, page_words, 0);
+    uint64_t records, later, room;
+
+    IS(UNMAPPED, compactd_pin_words(&pool, 0, 0, 8, &lent));
+    OK(compactd_pin_words(&pool, 0, 0, 9, &lent));
+    HOLDS(lent.count == page_words && are_all(&lent, 9));
+    OK(compactd_journal(&pool, &records, &room));
+    IS(LENT, compactd_pin_words(&pool, 0, 1, 5, &other));
+    OK(compactd_journal(&pool, &later, &room));
+    OK(compactd_look(&pool, 0, 9, &info));
+    HOLDS(later == records + 2 && info.pins == 1);
+    IS(RANGE, compactd_unpin_words(&pool, 8, 0, 9, &lent));
+    IS(LENT, compactd_load(&pool, 0, 0, 9, 0, words));
+    fill(&lent, 9);
+    OK(compactd_unpin_words(&pool, 0, 0, 9, &lent));
+    OK(compactd_look(&pool, 0, 9, &info));
+    HOLDS(is_nothing(&lent) && info.pins == 0 && page_has(&pool, 9, page_words));
+    OK(compactd_begin_round(&pool));
+    OK(compactd_isolate(&pool, &page, words, page_words));
+    IS(MOVING, compactd_pin_words(&pool, 0, 0, 9, &lent));
+    OK(compactd_look(&pool, 0, 9, &info));
+    HOLDS(info.pins == 0 && is_nothing(&lent));
+    OK(compactd_commit(&pool, &page, words, page_words, &is_so));
+    HOLDS(is_so);
+    close_in(&pool, begin, page_words);
+    begin = open_in(&pool, page_words, page_words + 2);
+    OK(compactd_map(&pool, 0, 0, 0, 0, &frame));
+    OK(compactd_pin_words(&pool, 0, 0, 0, &lent));
+    IS(JOURNAL_FULL, compactd_unpin_words(&pool, 0, 0, 0, &lent)); /* its second call */
+    HOLDS(is_nothing(&lent));
+    IS(JOURNAL_FULL, compactd_pin_words(&pool, 0, 0, 0, &lent));
+    close_in(&pool, begin, page_words);
+}
+
+/* Rounds, evacuations and keepers beside a page in frame 100 that is lent, where two of three frames have pages. */
+static void moves_beside_a_page(uint32_t page_words)
+{
+    compactd_pool pool = {0};
+    uint64_t *begin = open_in(&pool, page_words, 0);
+    uint32_t vpage, firsts[2];
+    size_t claimed = 0;
+
+    for (vpage = 1; vpage < FRAMES; vpage++)
+        if (vpage % 3 != 0 && vpage != 100) {
+            OK(compactd_map_at(&pool, 0, 0, vpage, 0, vpage));
+            write_page(&pool, vpage, page_words);
+        }
+    OK(compactd_map_at(&pool, 0, 0, 0, 0, 100));
+    OK(compactd_pin_words(&pool, 0, 0, 0, &lent));
+    fill(&lent, 77);
+    IS(NO_BLOCK, compactd_evacuate(&pool, 96, 3, &moved));
+    IS(NO_BLOCK, compactd_claim(&pool, 96, 3, &pages));
+    OK(compactd_evacuate(&pool, 104, 3, &moved));
+    HOLDS(moved == 5);
+    OK(compactd_begin_round(&pool));
+    OK(compactd_move_pages(&pool, 10, &moved, &stopped));
+    lent.at[0]++; /* the caller goes on with its words */
+    OK(compactd_compact(&pool, &is_so));
+    HOLDS(is_so && moved == 10 && lent.at[0]-- == word_of(77, 0) + 1);
+    do
+        OK(compactd_keep(&pool, 5, 5, firsts, 2, &claimed, &moved, &is_so));
+    while (is_so);
+    OK(compactd_take_kept(&pool, 5, firsts, 2, &claimed, &first, &moved));
+    OK(compactd_block_words(&pool, first, 5, &other));
+    fill(&other, 11);
+    OK(compactd_compact(&pool, &is_so));
+    HOLDS(are_all(&lent, 77) && are_all(&other, 11) && lent.at == begin + (size_t)100 * page_words);
+    OK(compactd_look(&pool, 0, 0, &info));
+    HOLDS(info.frame == 100 && info.pins == 1);
+    for (vpage = 1; vpage < FRAMES; vpage++)
+        if (vpage % 3 != 0 && vpage != 100)
+            HOLDS(page_has(&pool, vpage, page_words));
+    OK(compactd_return_block(&pool, first, 5, &other));
+    IS(LENT, compactd_close_in(&pool, &memory));
+    OK(compactd_unpin_words(&pool, 0, 0, 0, &lent));
+    OK(compactd_read(&pool, 0, 0, 0, 0, words, page_words));
+    HOLDS(words[0] == word_of(77, 0) && words[page_words - 1] == word_of(77, page_words - 1));
+    OK(compactd_evacuate(&pool, 96, 3, &moved)); /* now it goes */
+    OK(compactd_load(&pool, 0, 0, 0, 1, words));
+    HOLDS(moved > 0 && words[0] == word_of(77, 1));
+    close_in(&pool, begin, page_words);
+}
+
+/* Each page of a pageblock, all lent at once: their words lie side by side, and each is as it was left. */
+static void a_pageblock_of_pages(uint32_t page_words)
+{
+    static compactd_words of_page[512];
+    compactd_pool pool = {0};
+    uint64_t *begin = open_in(&pool, page_words, 0);
+    uint32_t vpage, turn;
+
+    for (vpage = 0; vpage < 512; vpage++)
+        OK(compactd_map_at(&pool, 0, 0, vpage, vpage % 7 == 0, 1023 - vpage));
+    for (turn = 0; turn < 2; turn++) {
+        for (vpage = 0; vpage < 512; vpage++) {
+            OK(compactd_pin_words(&pool, 0, 0, vpage, &of_page[vpage]));
+            HOLDS(of_page[vpage].at == begin + (size_t)(1023 - vpage) * page_words);
+            HOLDS(turn == 0 ? are_zeros(of_page[vpage].at, page_words) : are_all(&of_page[vpage], vpage));
+        }
+        for (vpage = 0; vpage < 512; vpage++)
+            fill(&of_page[vpage], vpage);
+        for (vpage = 0; vpage < 512; vpage++) {
+            OK(compactd_unpin_words(&pool, 0, 0, vpage, &of_page[vpage]));
+            HOLDS(page_has(&pool, vpage, page_words));
+        }
+    }
+    OK(compactd_compact(&pool, &is_so));
+    for (vpage = 0; vpage < 512; vpage++)
+        HOLDS(page_has(&pool, vpage, page_words));
+    close_in(&pool, begin, page_words);
+}
+
+/* Memory that is mapped. */
+
 /* How many of the pages of 4 KiB of some memory the system has in memory of its own. */
 static size_t resident(const uint64_t *at, size_t count)
 {
@@ -590,6 +892,13 @@ static void both_sizes(uint32_t page_words)
     moves_beside(page_words);
     full_journal(page_words);
     closings(page_words);
+    refused_lending(page_words);
+    refusals_of_a_lent_page(page_words);
+    refused_returns_of_a_page(page_words);
+    records_of_a_page(page_words);
+    pinned_words(page_words);
+    moves_beside_a_page(page_words);
+    a_pageblock_of_pages(page_words);
     mapped(page_words, 0);
     mapped(page_words, 1);
 }

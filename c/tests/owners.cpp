@@ -16,6 +16,7 @@ using compactd::Huge;
 using compactd::Memory;
 using compactd::Moving;
 using compactd::PageSize;
+using compactd::PageWords;
 using compactd::Pool;
 using compactd::PoolSize;
 
@@ -28,6 +29,7 @@ static_assert(std::is_nothrow_move_constructible<Moving>::value && std::is_nothr
 
 static_assert(!std::is_copy_constructible<Memory>::value && !std::is_copy_constructible<BlockWords>::value, "words have one owner");
 static_assert(std::is_nothrow_move_assignable<Memory>::value && std::is_nothrow_move_assignable<BlockWords>::value, "both are moved");
+static_assert(!std::is_copy_constructible<PageWords>::value && std::is_nothrow_move_constructible<PageWords>::value, "as those of a page");
 
 namespace {
 
@@ -201,9 +203,61 @@ void words_that_are_lent()
     HOLDS(pool.info().free == 1024);
 }
 
+// A page that a guard pins, whose words come back to it.
+void words_of_pages()
+{
+    Pool pool(PageSize::bytes4096, two_blocks, Memory(PageSize::bytes4096, 2), 5000);
+    const Address at = {0, 0}, alias = {0, 7}, other = {0, 1};
+    pool.map(0, at);
+    pool.map(0, other);
+    pool.share(0, at, alias);
+    HOLDS(refusal([&] { pool.pin_words(0, {0, 2}); }) == COMPACTD_UNMAPPED);
+    {
+        PageWords words = pool.pin_words(0, at), others = pool.pin_words(5, other);
+        HOLDS(words.size() == 512 && others.data() == words.end() && words[511] == 0 && words.address().vpage == 0);
+        HOLDS(refusal([&] { pool.pin_words(0, alias); }) == COMPACTD_LENT && pool.look(at).pins == 1);
+        HOLDS(refusal([&] { pool.load(0, alias, 0); }) == COMPACTD_LENT && refusal([&] { pool.unpin(0, at); }) == COMPACTD_LENT);
+        HOLDS(refusal([&] { pool.close_in(); }) == COMPACTD_LENT && pool.compact() && pool.look(at).frame == 0);
+        std::uint64_t number = 0;
+        for (std::uint64_t &word : words)
+            word = number++;
+        others[1] = 8;
+        others = std::move(words); // which returns those that it had
+        HOLDS(pool.load(0, other, 1) == 8 && pool.look(other).pins == 0 && words.size() == 0 && others[511] == 511);
+        PageWords moved = std::move(others);
+        HOLDS(moved.end()[-1] == 511 && refusal([&] { pool.load(0, at, 0); }) == COMPACTD_LENT);
+    }
+    HOLDS(pool.load(0, alias, 511) == 511 && pool.look(at).pins == 0 && pool.look(at).flags == COMPACTD_DIRTY);
+    HOLDS(pool.compact() && pool.look(at).frame == 1023 && pool.load(0, at, 9) == 9);
+}
+
+// An address that names another page by the time that a guard goes: that page is left as it is.
+void words_of_another_page()
+{
+    Pool pool(PageSize::bytes64, two_blocks, Memory(PageSize::bytes64, 2));
+    const Address at = {0, 0}, alias = {0, 7};
+    pool.map(0, at);
+    {
+        PageWords words = pool.pin_words(0, at);
+        words[0] = 5;
+        pool.share(0, at, alias);
+        pool.unmap(0, at);
+        pool.map(0, at);
+        pool.pin(0, at);
+    }
+    HOLDS(pool.load(0, at, 0) == 0 && pool.look(at).pins == 1);
+    HOLDS(refusal([&] { pool.load(0, alias, 0); }) == COMPACTD_LENT && pool.look(alias).pins == 1);
+}
+
 // The memory stays until the last one goes that has words of it.
 void words_that_stay()
 {
+    std::unique_ptr<Pool> small(new Pool(PageSize::bytes64, two_blocks, Memory(PageSize::bytes64, 2)));
+    small->map(0, {0, 0});
+    PageWords of_page = small->pin_words(0, {0, 0});
+    small.reset();
+    of_page[7] = 6;
+    HOLDS(of_page[7] == 6);
     std::unique_ptr<Pool> pool(new Pool(PageSize::bytes64, two_blocks, Memory(PageSize::bytes64, 2)));
     std::unique_ptr<Huge> huge(new Huge(pool->take_huge(9)));
     BlockWords words = huge->words();
@@ -441,6 +495,25 @@ void carriers_that_go()
     HOLDS(other && other.commit()); // its memory outlives the pool's object
 }
 
+// Pages that are carried together. Those that nobody commits go back.
+void carried_together()
+{
+    Pool pool = with_round();
+    std::vector<Moving> pages = pool.isolate_many(1);
+    HOLDS(pages.size() == 1 && pages[0].words()[1] == 9 && pool.isolate_many(0).empty());
+    for (Moving &page : pool.isolate_many(9))
+        pages.push_back(std::move(page));
+    HOLDS(pages.size() == 2 && pool.isolate_many(9).empty() && pool.commit_many(pages) == 2 && pool.look(high).frame == 510);
+    pool.begin_round();
+    HOLDS(refusal([&] { pool.commit_many(pages); }) == COMPACTD_STRANGER && pool.isolate_many(9).size() == 0);
+    Pool kept(PageSize::bytes64, 1, 5);
+    kept.map(0, low);
+    kept.map(0, high);
+    kept.begin_round();
+    HOLDS(kept.isolate_many(2).size() == 1);
+    HOLDS(kept.info().moving == 0 && refusal([&] { kept.isolate_many(2); }) == COMPACTD_JOURNAL_FULL && kept.look(low).frame == 0);
+}
+
 void questions()
 {
     const Pool pool(PageSize::bytes4096, 3), kept(PageSize::bytes64, 1, 77);
@@ -472,6 +545,8 @@ int main()
     huge_pages();
     memory();
     words_that_are_lent();
+    words_of_pages();
+    words_of_another_page();
     words_that_stay();
     moves_into_themselves();
     pools_that_go();
@@ -484,6 +559,7 @@ int main()
     reservations();
     blocks_kept_ready();
     carriers_that_go();
+    carried_together();
     questions();
     journals();
     std::printf("%s\n", is_well ? "pools, huge pages and moving pages are owned as they should be" : "something is otherwise");

@@ -166,6 +166,21 @@ static void make_rounds(compactd_pool *pool, uint32_t page_words)
     made(compactd_compact(pool, &is_so));
 }
 
+static void make_calls_on_pinned_pages(compactd_pool *pool)
+{
+    compactd_words lent = {0}, no_words = {0};
+
+    made(compactd_pin(pool, 0, 0, 3));
+    made(compactd_page_words(pool, 0, 3, &lent));
+    if (lent.count > 0) {
+        made(compactd_page_words(pool, 0, 3, &no_words));
+        made(compactd_unpin(pool, 0, 0, 3));
+        made(compactd_close_in(pool, &no_words));
+        made(compactd_return_page(pool, 0, 0, 3, &lent));
+    }
+    made(compactd_unpin(pool, 0, 0, 3));
+}
+
 static void make_calls_on_blocks(compactd_pool *pool, uint32_t page_words)
 {
     compactd_words lent = {0}, no_words = {0};
@@ -216,6 +231,7 @@ static void make_calls(compactd_pool *pool, uint32_t page_words)
 
     for (turn = 0; turn < 2; turn++) {
         make_calls_on_pages(pool, page_words);
+        make_calls_on_pinned_pages(pool);
         make_rounds(pool, page_words);
         make_calls_on_blocks(pool, page_words);
         ask(pool);

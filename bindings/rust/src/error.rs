@@ -39,7 +39,7 @@ pub enum Error {
     Marked,
     /// The pageblock isn't marked.
     NotMarked,
-    /// The words of the block are lent.
+    /// The words are lent.
     Lent,
     /// The pool lies in memory of its own.
     OwnMemory,
@@ -68,7 +68,7 @@ const KNOWN: [(Error, u32, &str); 20] = [
     (Error::PagesMoving, 16, "a page of the pool is moving"),
     (Error::Marked, 17, "the pageblock is marked already"),
     (Error::NotMarked, 18, "the pageblock isn't marked"),
-    (Error::Lent, 19, "the words of the block are lent"),
+    (Error::Lent, 19, "the words are lent"),
     (Error::OwnMemory, 20, "the pool lies in memory of its own"),
     (Error::NotMoving, 54, "no page is moving out of this frame or a higher one"),
 ];

@@ -28,14 +28,14 @@
 //! # Memory
 //!
 //! A pool has memory of the library's, or lies in a [`Memory`], which is mapped in huge pages of the processor. Then [`Pool::block_words`]
-//! lends the words of a block as a slice, and nothing is copied.
+//! lends the words of a block as a slice, and [`Pool::pin_words`] those of a page, which has a pin meanwhile. Nothing is copied.
 //!
 //! # What is proved
 //!
 //! Each function of the library is proved to meet its contract: when it is refused and with which number, what it answers, and what it
 //! leaves. This crate, which calls them, isn't proved, nor is the compiler that builds it. It is small, and safe by its types: a handle
 //! is made zeroed and is private, each call borrows the pool alone, and lengths come from slices. Words that are lent have one owner, who
-//! returns them to their pool and block. So the library gets what its contracts ask for.
+//! returns them to their pool, and to their block or page. So the library gets what its contracts ask for.
 //!
 //! # Threads
 //!
@@ -61,7 +61,7 @@ pub use claims::Step;
 pub use error::Error;
 pub use huge::{Huge, Kept};
 pub use keeping::{CheapestRun, Keeper, KeeperStep, Taken};
-pub use memory::{BlockWords, Memory};
+pub use memory::{BlockWords, Memory, PageWords};
 pub use moving::{Move, Moving, MovingGuard, MovingPage};
 pub use pool::{version, Address, PageSize, Pool, PoolSize};
 pub use questions::{Look, Place};

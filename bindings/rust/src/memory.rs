@@ -9,7 +9,7 @@ use std::sync::Arc;
 
 use crate::pool::done;
 use crate::raw;
-use crate::{Error, Huge, Kept, PageSize, Pool, PoolSize};
+use crate::{Address, Error, Huge, Kept, PageSize, Place, Pool, PoolSize};
 
 /// Bytes of the pages that x86-64 has.
 const HUGE_PAGE: usize = 2 << 20;
@@ -58,7 +58,8 @@ impl Memory {
     }
 }
 
-/// What was mapped. A pool that lies in it keeps it, and so does each [`BlockWords`] of that pool: it is unmapped after all of them.
+/// What was mapped. A pool that lies in it keeps it, and so does each [`BlockWords`] and [`PageWords`] of that pool: it is unmapped after all
+/// of them.
 #[derive(Debug)]
 pub(crate) struct Mapping {
     at: NonNull<u64>,
@@ -106,6 +107,44 @@ fn bytes_of(words: usize) -> Option<usize> {
     Some(words.checked_mul(8)?.checked_add(SMALL_PAGE - 1)? / SMALL_PAGE * SMALL_PAGE)
 }
 
+/// Words that a pool lent, and the mapping where they lie. There are none once the pool has taken them back.
+struct Lent {
+    words: raw::Words,
+    _mapping: Arc<Mapping>,
+}
+
+// SAFETY: the words are this one's alone until a pool takes them back.
+unsafe impl Send for Lent {}
+unsafe impl Sync for Lent {}
+
+impl Lent {
+    fn is_over(&self) -> bool {
+        self.words.at.is_null()
+    }
+
+    fn slice(&self) -> &[u64] {
+        if self.is_over() {
+            return &[];
+        }
+        // SAFETY: so many words are there, in a mapping that this keeps, and are this one's alone.
+        unsafe { slice::from_raw_parts(self.words.at, self.words.count) }
+    }
+
+    fn slice_mut(&mut self) -> &mut [u64] {
+        if self.is_over() {
+            return &mut [];
+        }
+        // SAFETY: as above.
+        unsafe { slice::from_raw_parts_mut(self.words.at, self.words.count) }
+    }
+
+    fn bytes_mut(&mut self) -> &mut [u8] {
+        let words = self.slice_mut();
+        // SAFETY: each word has 8 bytes, and any bytes are words.
+        unsafe { slice::from_raw_parts_mut(words.as_mut_ptr().cast(), words.len() * 8) }
+    }
+}
+
 /// The words of a block while they are lent, as a slice. They may be used beside calls on the pool, and by other threads.
 ///
 /// [`Pool::return_words`] of the pool that lent them takes them back. Where this is dropped instead, they stay lent until the pool is
@@ -118,15 +157,9 @@ fn bytes_of(words: usize) -> Option<usize> {
 /// ```
 #[must_use = "words that are dropped stay lent until their pool is dropped"]
 pub struct BlockWords {
-    words: raw::Words,
+    lent: Lent,
     huge: Huge,
-    /// Where the words lie.
-    _mapping: Arc<Mapping>,
 }
-
-// SAFETY: the words are this one's alone until a pool takes them back.
-unsafe impl Send for BlockWords {}
-unsafe impl Sync for BlockWords {}
 
 impl BlockWords {
     /// The block.
@@ -134,18 +167,24 @@ impl BlockWords {
         &self.huge
     }
 
+    /// The bytes of the words, as for reading a file into them.
+    pub fn bytes_mut(&mut self) -> &mut [u8] {
+        self.lent.bytes_mut()
+    }
+
     /// Gives the system the memory back that the words take up: that of the pages of 4 KiB that lie in them as a whole. The words of these
     /// pages are 0 then, and the system finds memory for a page when it is next used.
     ///
     /// It fails where the system doesn't take it.
     pub fn release(&mut self) -> io::Result<()> {
-        let before = self.words.at.cast::<u8>().align_offset(SMALL_PAGE);
-        let whole = (self.words.count * 8).saturating_sub(before) / SMALL_PAGE * SMALL_PAGE;
+        let words = &self.lent.words;
+        let before = words.at.cast::<u8>().align_offset(SMALL_PAGE);
+        let whole = (words.count * 8).saturating_sub(before) / SMALL_PAGE * SMALL_PAGE;
         if whole == 0 {
             return Ok(());
         }
         // SAFETY: these pages lie in the words, which are this one's alone.
-        match unsafe { madvise(self.words.at.cast::<u8>().wrapping_add(before).cast(), whole, DONT_NEED) } {
+        match unsafe { madvise(words.at.cast::<u8>().wrapping_add(before).cast(), whole, DONT_NEED) } {
             0 => Ok(()),
             _ => Err(io::Error::last_os_error()),
         }
@@ -156,15 +195,13 @@ impl Deref for BlockWords {
     type Target = [u64];
 
     fn deref(&self) -> &[u64] {
-        // SAFETY: so many words are there, in a mapping that this keeps, and are this one's alone.
-        unsafe { slice::from_raw_parts(self.words.at, self.words.count) }
+        self.lent.slice()
     }
 }
 
 impl DerefMut for BlockWords {
     fn deref_mut(&mut self) -> &mut [u64] {
-        // SAFETY: as above.
-        unsafe { slice::from_raw_parts_mut(self.words.at, self.words.count) }
+        self.lent.slice_mut()
     }
 }
 
@@ -174,10 +211,60 @@ impl fmt::Debug for BlockWords {
     }
 }
 
-/// Pools in memory that was mapped, and the words of their blocks.
+/// The words of a page that is pinned, while they are lent, as a slice. They may be used beside calls on the pool, and by other threads, or by
+/// the kernel, which may read a file straight into them.
+///
+/// [`Pool::unpin_words`] of the pool that lent them takes them back and the pin off. Where this is dropped instead, the page stays pinned and
+/// its words stay lent until the pool is dropped.
+///
+/// ```compile_fail
+/// fn two(words: compactd::PageWords) -> (compactd::PageWords, compactd::PageWords) {
+///     (words.clone(), words)
+/// }
+/// ```
+#[must_use = "words that are dropped stay lent until their pool is dropped"]
+pub struct PageWords {
+    lent: Lent,
+    client: u32,
+    address: Address,
+}
+
+impl PageWords {
+    /// The address by which the page was pinned.
+    pub fn address(&self) -> Address {
+        self.address
+    }
+
+    /// The bytes of the words, as for reading a file into them.
+    pub fn bytes_mut(&mut self) -> &mut [u8] {
+        self.lent.bytes_mut()
+    }
+}
+
+impl Deref for PageWords {
+    type Target = [u64];
+
+    fn deref(&self) -> &[u64] {
+        self.lent.slice()
+    }
+}
+
+impl DerefMut for PageWords {
+    fn deref_mut(&mut self) -> &mut [u64] {
+        self.lent.slice_mut()
+    }
+}
+
+impl fmt::Debug for PageWords {
+    fn fmt(&self, f: &mut fmt::Formatter<'_>) -> fmt::Result {
+        f.debug_struct("PageWords").field("address", &self.address).finish_non_exhaustive()
+    }
+}
+
+/// Pools in memory that was mapped, and the words of their blocks and pages.
 impl Pool {
     /// Opens a pool of any size, as [`Pool::open_sized`] does, whose pages lie in memory that was mapped. The words of its blocks are lent by
-    /// [`Pool::block_words`]. Memory that is refused comes back with the error.
+    /// [`Pool::block_words`], and those of its pages by [`Pool::pin_words`]. Memory that is refused comes back with the error.
     ///
     /// ```
     /// # use compactd::{Memory, PageSize, Pool, PoolSize};
@@ -218,7 +305,8 @@ impl Pool {
     /// Closes a pool that was opened by [`Pool::open_in`], and returns its memory, which another pool may be opened in. A pool that is refused
     /// comes back with the error.
     ///
-    /// Refused as [`Error::OwnMemory`] where it was opened by another call, or as [`Error::Lent`] where words of a block are lent.
+    /// Refused as [`Error::OwnMemory`] where it was opened by another call, or as [`Error::Lent`] where words of a block or of a page
+    /// are lent.
     pub fn close_in(mut self) -> Result<Memory, Kept<Pool>> {
         let Some(mapping) = self.mapping.take() else {
             return Err(Kept { error: Error::OwnMemory, value: self });
@@ -245,7 +333,7 @@ impl Pool {
         let lent =
             self.own(&huge).and_then(|()| done(unsafe { raw::compactd_block_words(&mut self.raw, huge.first, huge.order, &mut words) }));
         match (lent, &self.mapping) {
-            (Ok(()), Some(mapping)) => Ok(BlockWords { words, huge, _mapping: Arc::clone(mapping) }),
+            (Ok(()), Some(mapping)) => Ok(BlockWords { lent: Lent { words, _mapping: Arc::clone(mapping) }, huge }),
             (answer, _) => Err(Kept { error: answer.err().unwrap_or(Error::OwnMemory), value: huge }),
         }
     }
@@ -256,11 +344,77 @@ impl Pool {
     /// Refused as [`Error::NotHuge`] where another pool lent them.
     pub fn return_words(&mut self, mut words: BlockWords) -> Result<Huge, Kept<BlockWords>> {
         let (first, order) = (words.huge.first, words.huge.order);
-        let returned =
-            self.own(&words.huge).and_then(|()| done(unsafe { raw::compactd_return_block(&mut self.raw, first, order, &mut words.words) }));
+        let returned = self
+            .own(&words.huge)
+            .and_then(|()| done(unsafe { raw::compactd_return_block(&mut self.raw, first, order, &mut words.lent.words) }));
         match returned {
             Ok(()) => Ok(words.huge),
             Err(error) => Err(Kept { error, value: words }),
+        }
+    }
+
+    /// Pins a page and lends its words. Until they come back, loads, stores, reads and writes of the page are refused as [`Error::Lent`], at each
+    /// of its addresses, and no call takes its last pin off. Where lending is refused, the page has no more pins than before.
+    ///
+    /// ```
+    /// # use compactd::{Address, Error, Memory, PageSize, Pool, PoolSize};
+    /// # fn main() -> Result<(), Box<dyn std::error::Error>> {
+    /// # let size = PoolSize { blocks: 1, spaces: 1, vpages: 1024 };
+    /// # let memory = Memory::of_pool(PageSize::Bytes4096, size.blocks)?;
+    /// # let mut pool = Pool::open_in(PageSize::Bytes4096, size, 0, memory)?;
+    /// let at = Address::new(0, 9);
+    /// pool.map(0, at, false)?;
+    /// let mut words = pool.pin_words(0, at)?;
+    /// words.fill(7);
+    /// assert_eq!(pool.load(0, at, 5), Err(Error::Lent));
+    /// pool.unpin_words(words)?;
+    /// assert_eq!(pool.load(0, at, 5), Ok(7));
+    /// # Ok(())
+    /// # }
+    /// ```
+    ///
+    /// Refused as [`Pool::pin`] is; then as [`Error::Moving`], as [`Error::Lent`] where they are lent already, or as [`Error::OwnMemory`] where the
+    /// pool wasn't opened by [`Pool::open_in`]. Where the journal has no place for taking the pin off again, it stays, and this is refused as
+    /// [`Error::JournalFull`].
+    pub fn pin_words(&mut self, client: u32, at: Address) -> Result<PageWords, Error> {
+        self.pin(client, at)?;
+        let mut words = raw::Words::NONE;
+        let lent = done(unsafe { raw::compactd_page_words(&mut self.raw, at.space, at.vpage, &mut words) });
+        match (lent, &self.mapping) {
+            (Ok(()), Some(mapping)) => Ok(PageWords { lent: Lent { words, _mapping: Arc::clone(mapping) }, client, address: at }),
+            (answer, _) => {
+                self.unpin(client, at)?;
+                Err(answer.err().unwrap_or(Error::OwnMemory))
+            }
+        }
+    }
+
+    /// Takes the words of a page back, and a pin off it. The page has the words that were left there, as if the client who pinned it had stored
+    /// each of them. Words that are refused come back with the error.
+    ///
+    /// Refused as [`Error::Unmapped`] where the address by which the page was pinned doesn't name it any more, or another pool lent the words; or as
+    /// [`Error::JournalFull`]: where the journal had room for the words alone, they are back, this is empty, and the pin stays.
+    pub fn unpin_words(&mut self, mut words: PageWords) -> Result<(), Kept<PageWords>> {
+        let returned = if words.lent.is_over() { Ok(()) } else { self.return_page(&mut words) };
+        let ended = returned.and_then(|()| self.unpin(words.client, words.address));
+        ended.map_err(|error| Kept { error, value: words })
+    }
+
+    fn return_page(&mut self, words: &mut PageWords) -> Result<(), Error> {
+        let Address { space, vpage } = words.address;
+        if self.words_at(words.address)? != words.lent.words.at {
+            return Err(Error::Unmapped);
+        }
+        done(unsafe { raw::compactd_return_page(&mut self.raw, words.client, space, vpage, &mut words.lent.words) })
+    }
+
+    /// Where the words of the page of an address lie: a page whose words are lent has a pin, so it stays there.
+    fn words_at(&mut self, at: Address) -> Result<*mut u64, Error> {
+        match (self.look(at)?.place, &self.mapping) {
+            (Place::At { frame, .. }, Some(mapping)) => {
+                Ok(mapping.at.as_ptr().wrapping_add(frame as usize * self.page_size().words() as usize))
+            }
+            _ => Err(Error::Unmapped),
         }
     }
 }

@@ -190,7 +190,7 @@ impl Pool {
 
     /// Reads a word of a page.
     ///
-    /// Refused as [`Error::Range`], [`Error::JournalFull`], [`Error::Unmapped`] or [`Error::Moving`].
+    /// Refused as [`Error::Range`], [`Error::JournalFull`], [`Error::Unmapped`], [`Error::Moving`] or [`Error::Lent`].
     pub fn load(&mut self, client: u32, at: Address, word: u32) -> Result<u64, Error> {
         let mut value = 0;
         done(unsafe { raw::compactd_load(&mut self.raw, client, at.space, at.vpage, word, &mut value) })?;
@@ -228,7 +228,8 @@ impl Pool {
 
     /// Takes a pin off a page.
     ///
-    /// Refused as [`Error::Range`], [`Error::JournalFull`], [`Error::Unmapped`] or [`Error::NotPinned`].
+    /// Refused as [`Error::Range`], [`Error::JournalFull`], [`Error::Unmapped`], [`Error::NotPinned`], or as [`Error::Lent`] where this is its
+    /// last pin and its words are lent.
     pub fn unpin(&mut self, client: u32, at: Address) -> Result<(), Error> {
         done(unsafe { raw::compactd_unpin(&mut self.raw, client, at.space, at.vpage) })
     }
@@ -274,7 +275,8 @@ impl Pool {
 
     /// Reads words of a page from word `from`, as that many calls of [`Pool::load`] would.
     ///
-    /// Refused as [`Error::Range`], also where they go past the page, [`Error::JournalFull`], [`Error::Unmapped`] or [`Error::Moving`].
+    /// Refused as [`Error::Range`], also where they go past the page, [`Error::JournalFull`], [`Error::Unmapped`], [`Error::Moving`] or
+    /// [`Error::Lent`].
     pub fn read(&mut self, client: u32, at: Address, from: u32, values: &mut [u64]) -> Result<(), Error> {
         let (words, count) = (values.as_mut_ptr(), values.len());
         done(unsafe { raw::compactd_read(&mut self.raw, client, at.space, at.vpage, from, words, count) })

@@ -160,6 +160,8 @@ extern "C" {
     pub fn compactd_write_block(pool: *mut Handle, first: u32, order: u32, from: usize, values: *const u64, count: usize) -> u32;
     pub fn compactd_block_words(pool: *mut Handle, first: u32, order: u32, words: *mut Words) -> u32;
     pub fn compactd_return_block(pool: *mut Handle, first: u32, order: u32, words: *mut Words) -> u32;
+    pub fn compactd_page_words(pool: *mut Handle, space: u32, vpage: u32, words: *mut Words) -> u32;
+    pub fn compactd_return_page(pool: *mut Handle, client: u32, space: u32, vpage: u32, words: *mut Words) -> u32;
     pub fn compactd_info(pool: *mut Handle, counts: *mut Counts) -> u32;
     pub fn compactd_describe(pool: *mut Handle, geometry: *mut Geometry) -> u32;
     pub fn compactd_free_runs(pool: *mut Handle, order: u32, runs: *mut u32) -> u32;

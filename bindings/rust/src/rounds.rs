@@ -234,6 +234,42 @@ impl Pool {
         }
     }
 
+    /// Isolates the next pages of the round, so many at most, one after the other: under one hold of a lock, where threads share the pool. There
+    /// are fewer where the scanners have met or the journal has no room for a further move.
+    ///
+    /// ```
+    /// # use compactd::{Address, Error, PageSize, Pool};
+    /// # fn main() -> Result<(), Error> {
+    /// # let mut pool = Pool::open(PageSize::Bytes64, 1)?;
+    /// # for page in 0..40 {
+    /// #     pool.map(0, Address::new(0, page), false)?;
+    /// # }
+    /// pool.begin_round();
+    /// let pages = pool.isolate_many(64)?;
+    /// assert_eq!(pages.len(), 40);
+    /// assert!(pool.commit_many(pages).iter().all(|moved| *moved == Ok(true)));
+    /// # Ok(())
+    /// # }
+    /// ```
+    ///
+    /// Refused as [`Pool::isolate`] is, where no page is isolated.
+    pub fn isolate_many(&mut self, most: usize) -> Result<Vec<Moving>, Error> {
+        let mut pages = Vec::new();
+        while pages.len() < most {
+            match self.isolate() {
+                Ok(Some(page)) => pages.push(page),
+                Err(error) if pages.is_empty() => return Err(error),
+                Ok(None) | Err(_) => break,
+            }
+        }
+        Ok(pages)
+    }
+
+    /// Ends the moves of pages with their words, one after the other, and returns what [`Pool::commit`] returns for each.
+    pub fn commit_many(&mut self, pages: Vec<Moving>) -> Vec<Result<bool, Kept<Moving>>> {
+        pages.into_iter().map(|page| self.commit(page)).collect()
+    }
+
     /// Ends the move of a page with its words. Returns whether the page was moved to its new frame; else it has a pin and is in its old
     /// one.
     ///

@@ -1,8 +1,8 @@
-//! Pools in memory that was mapped, and words of blocks that are lent.
+//! Pools in memory that was mapped, and words of blocks and pages that are lent.
 
 use std::thread;
 
-use compactd::{Address, BlockWords, Error, Kept, Memory, PageSize, Place, Pool, PoolSize};
+use compactd::{Address, BlockWords, Error, Kept, Memory, PageSize, PageWords, Place, Pool, PoolSize, Record};
 
 const SIZE: PoolSize = PoolSize { blocks: 2, spaces: 1, vpages: 1024 };
 const AT: Address = Address { space: 0, vpage: 0 };
@@ -149,4 +149,97 @@ fn lends_words_to_threads() {
     let words = thread::spawn(move || words).join().unwrap();
     assert_eq!([0, 65_535, 65_536, 262_143].map(|at| words[at]), [1, 1, 2, 4]);
     let _huge = pool.return_words(words).unwrap();
+}
+
+// Pages.
+
+const ALIAS: Address = Address { space: 0, vpage: 7 };
+const SEVENS: u64 = u64::MAX / 255 * 7; // a 7 in each byte
+
+/// A pool with a page, and the words of that.
+fn with_page(page_size: PageSize, places: u32) -> (Pool, PageWords) {
+    let mut pool = Pool::open_in(page_size, SIZE, places, memory(page_size)).unwrap();
+    pool.map(0, AT, false).unwrap();
+    let words = pool.pin_words(3, AT).unwrap();
+    (pool, words)
+}
+
+#[test]
+fn pins_no_words_that_it_cant_lend() {
+    let mut own = Pool::open(PageSize::Bytes64, 1).unwrap();
+    assert_eq!(own.pin_words(0, AT).unwrap_err(), Error::Unmapped);
+    own.map(0, AT, false).unwrap();
+    assert_eq!(own.pin_words(0, AT).unwrap_err(), Error::OwnMemory);
+    assert_eq!((own.pin_words(8, AT).unwrap_err(), own.look(AT).unwrap().pins), (Error::Range, 0));
+    let (mut pool, _words) = with_page(PageSize::Bytes64, 0);
+    pool.share(0, AT, ALIAS).unwrap();
+    assert_eq!((pool.pin_words(0, ALIAS).unwrap_err(), pool.look(AT).unwrap().pins), (Error::Lent, 1));
+    let other = Address::new(0, 1);
+    pool.map(0, other, false).unwrap();
+    pool.begin_round();
+    let page = pool.isolate().unwrap().unwrap();
+    assert_eq!((pool.pin_words(0, other).unwrap_err(), pool.commit(page)), (Error::Moving, Ok(true)));
+}
+
+#[test]
+fn has_the_words_of_a_page_that_were_left() {
+    let (mut pool, mut words) = with_page(PageSize::Bytes4096, 600);
+    assert_eq!((words.len(), words.address(), words.iter().all(|word| *word == 0)), (512, AT, true));
+    words.bytes_mut()[4080..].fill(7);
+    assert_eq!((pool.load(0, AT, 0), pool.store(0, AT, 0, 1), pool.unpin(0, AT)), (Err(Error::Lent), Err(Error::Lent), Err(Error::Lent)));
+    pool.compact().unwrap();
+    let Err(Kept { error, value: mut pool }) = pool.close_in() else { panic!("it is closed while words are lent") };
+    assert_eq!((error, words[511]), (Error::Lent, SEVENS));
+    pool.unpin_words(words).unwrap();
+    let mut found = [0; 3];
+    pool.read(0, AT, 509, &mut found).unwrap();
+    let look = pool.look(AT).unwrap();
+    assert_eq!((found, look.pins, look.place), ([0, SEVENS, SEVENS], 0, Place::At { frame: 0, unmovable: false, dirty: true }));
+    assert_eq!(pool.record_at(513).unwrap(), Record::Store { client: 3, address: AT, word: 511, value: SEVENS });
+}
+
+#[test]
+fn keeps_the_words_of_another_page() {
+    let (mut pool, mut words) = with_page(PageSize::Bytes64, 0);
+    words[0] = 5;
+    let (mut other, _others) = with_page(PageSize::Bytes64, 0);
+    let Err(Kept { error, value: words }) = other.unpin_words(words) else { panic!("another pool took the words") };
+    assert_eq!((error, words[0]), (Error::Unmapped, 5));
+    pool.share(0, AT, ALIAS).unwrap();
+    pool.unmap(0, AT).unwrap();
+    let Err(Kept { error, value: words }) = pool.unpin_words(words) else { panic!("no page is there") };
+    assert_eq!(error, Error::Unmapped);
+    pool.map(0, AT, false).unwrap();
+    pool.pin(0, AT).unwrap();
+    let Err(Kept { error, value: words }) = pool.unpin_words(words) else { panic!("another page is there") };
+    assert_eq!((error, pool.load(0, AT, 0)), (Error::Unmapped, Ok(0)));
+    pool.unpin(0, AT).unwrap();
+    pool.unmap(0, AT).unwrap();
+    pool.share(0, ALIAS, AT).unwrap();
+    pool.unpin_words(words).unwrap();
+    assert_eq!(pool.load(0, ALIAS, 0), Ok(5));
+}
+
+#[test]
+fn keeps_a_pin_that_a_full_journal_has_no_place_for() {
+    let (mut pool, mut words) = with_page(PageSize::Bytes64, 10);
+    words[7] = 6;
+    let Err(Kept { error, value: words }) = pool.unpin_words(words) else { panic!("there is a place more") };
+    assert_eq!((error, words.len(), pool.look(AT).unwrap().pins), (Error::JournalFull, 0, 1));
+    assert_eq!(pool.unpin_words(words).unwrap_err().error, Error::JournalFull);
+    assert!(pool.close_in().is_ok());
+    let (mut pool, words) = with_page(PageSize::Bytes64, 9);
+    let Err(Kept { error, value: words }) = pool.unpin_words(words) else { panic!("there are no places") };
+    assert_eq!((error, words.len()), (Error::JournalFull, 8));
+}
+
+#[test]
+fn keeps_words_of_a_page_once_the_pool_is_gone() {
+    let (mut pool, words) = with_page(PageSize::Bytes64, 0);
+    drop(words);
+    assert_eq!((pool.load(0, AT, 0), pool.look(AT).unwrap().pins), (Err(Error::Lent), 1));
+    let (pool, mut words) = with_page(PageSize::Bytes64, 0);
+    drop(pool);
+    words.fill(6);
+    assert!(thread::spawn(move || words.iter().all(|word| *word == 6)).join().unwrap());
 }

@@ -425,3 +425,29 @@ fn tells_errors() {
     assert_eq!((Error::PagesMoving.number(), Error::Other(99).number()), (16, 99));
     assert_eq!(Error::Other(99).to_string(), "unknown refusal 99");
 }
+
+#[test]
+fn carries_pages_together() {
+    let mut pool = pool();
+    for page in 0..3 {
+        pool.map(0, Address::new(0, page), false).unwrap();
+    }
+    assert_eq!(pool.isolate_many(2).unwrap(), []); // no round was begun
+    pool.begin_round();
+    let mut pages = pool.isolate_many(2).unwrap();
+    assert_eq!((pages.len(), pool.isolate_many(0), pool.info().moving), (2, Ok(vec![]), 2));
+    pool.pin(0, AT).unwrap();
+    pages.extend(pool.isolate_many(9).unwrap());
+    pool.put_back_lost(pages[1].page()).unwrap();
+    let answers = pool.commit_many(pages);
+    assert_eq!((answers.len(), &answers[0], &answers[2]), (3, &Ok(false), &Ok(true)));
+    assert_eq!(answers[1].as_ref().unwrap_err().error, Error::Stranger);
+
+    let mut kept = Pool::open_journal(PageSize::Bytes64, 1, 5).unwrap();
+    kept.map(0, AT, false).unwrap();
+    kept.map(0, Address::new(0, 1), false).unwrap();
+    kept.begin_round();
+    let pages = kept.isolate_many(2).unwrap();
+    assert_eq!((pages.len(), kept.isolate_many(2)), (1, Err(Error::JournalFull)));
+    assert_eq!(kept.commit_many(pages), [Ok(true)]);
+}

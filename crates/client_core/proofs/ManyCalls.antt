@@ -1,6 +1,7 @@
 -- Calls of a client, one after the other: those of a read or a write of several words, and what they leave.
 use Rattle.std.proofs.Common.{◌≡◌, ℕ, zero, suc, ◌+◌, ◌≤◌, Bool, true, false, not, if◌then◌else◌, List, [], ◌∷◌, ◌++◌, length, refl, sym, ap, subst, ◌∙◌, append-nil, append_assoc, eq-eqb, Option, None, Some, arith}
 use Rattle.std.specs.Prelude.{Result, Ok, Err, OnOk, is_some}
+use Rattle.std.specs.Option.{option_or}
 use Rattle.std.specs.Result.{result_err}
 use Rattle.std.proofs.lemmas.Bool.{not-false}
 use Rattle.std.proofs.lemmas.Bool.Decides.{nat_tests}
@@ -32,6 +33,10 @@ at_then None e = cc
 at_then (Some (At frame)) e = (frame, refl)
 at_then (Some (Moving serial source target)) e = cc
 
+first_none : (first second : Option ZoneError) → option_or first second ≡ None → first ≡ None
+first_none None second e = refl
+first_none (Some error) second e = cc
+
 -- a zone that accepts a call in bulk has a place in its journal for each word, and the page is in a frame
 bulk_accepted : (z : ZoneState) (address : Address) (from count : ℕ) → bulk_refusal z address from count ≡ None
     → (length (out z.records) + count ≤ z.room) × ((frame : ℕ) × (placement_at z address ≡ Some (At frame)))
@@ -39,7 +44,7 @@ bulk_accepted z address from count accepted =
     let room = passes (not (has_room_for z count)) _ _ (passes _ _ _ accepted).1 in
     let fits : has_room_for z count ≡ true = not-false (has_room_for z count) room.0 in
     let spare : length (out z.records) + count ≤ z.room = grind (arith, nat_tests) in
-    (spare, at_then (placement_at z address) room.1)
+    (spare, at_then (placement_at z address) (first_none (placement_refusal (placement_at z address)) _ room.1))
 
 -- a read is the loads of its words
 loads_are_calls : (z : ZoneState) (client : ℕ) (address : Address) (frame from count : ℕ) → IsValidZone z

@@ -5,10 +5,12 @@ ghost use Rattle.std.specs.FinSet as set;
 ghost use Rattle.std.specs.Option.{option_map};
 ghost use Rattle.compactd_c.specs.Answers.{answer, left};
 ghost use Rattle.compactd_c.specs.Kinds.{IsPageSize};
-ghost use Rattle.compactd_c.specs.Memory.{back_refusal, block_refusal, end_refusal, words_in, IsOpenableIn};
+ghost use Rattle.compactd_c.specs.Memory.{back_refusal, block_refusal, end_refusal, page_back_refusal, page_words_refusal, words_in, IsOpenableIn};
 ghost use Rattle.compactd_c.specs.Sizes.{size_with, some_places};
+ghost use Rattle.compactd_c.specs.Asked.{address_of};
+ghost use Rattle.state_core.specs.Bulk.{values_at};
 ghost use Rattle.state_core.specs.Contents.{contents_of};
-ghost use Rattle.state_core.specs.Lending.{block_lent, block_place, block_returned};
+ghost use Rattle.state_core.specs.Lending.{block_lent, block_place, block_returned, page_lent, page_place, page_returned, LendsNone};
 ghost use Rattle.state_core.specs.Opening.{opened_in, places_of, IsAllowed};
 ghost use Rattle.state_core.specs.ZoneState.{ZoneState};
 
@@ -96,7 +98,7 @@ fn open_boxed(
 
 /// Closes a pool in memory of its caller's, and gives that memory back.
 ///
-/// Refused as OWN_MEMORY where the pool lies in memory of its own, as LENT where words of a block are lent, or as CLOSED.
+/// Refused as OWN_MEMORY where the pool lies in memory of its own, as LENT where words of it are lent, or as CLOSED.
 #[unsafe(no_mangle)]
 pub extern "C" fn compactd_close_in(alloc: Global, pool: &mut Pool, memory: &mut HeldWords) -> u32
     ensures answer { result ≡ answer pool.old.zone end_refusal }
@@ -120,7 +122,7 @@ pub extern "C" fn compactd_close_in(alloc: Global, pool: &mut Pool, memory: &mut
 
 /// Ends the zone of an open pool, no words of which may be lent, and gives back the memory of its caller, if it lies in such memory.
 fn ended(alloc: Global, pool: &mut Pool) -> Option<Row>
-    requires { (z : ZoneState) → pool.old.zone ≡ Some z → z.lent ≡ set.empty }
+    requires { (z : ZoneState) → pool.old.zone ≡ Some z → LendsNone z }
     ensures at { (z : ZoneState) → pool.old.zone ≡ Some z → option_map (λ row. row.at) result ≡ z.memory }
     ensures count { (z : ZoneState) → pool.old.zone ≡ Some z → IfSome result (λ row. length row.words ≡ 512 * z.blocks * z.page_size) }
     ensures some { IfSome result (λ row. 0 < length row.words) }
@@ -183,6 +185,70 @@ pub extern "C" fn compactd_return_block(
         return number(ZoneError::Range);
     };
     match zone.return_block(first, order, row) {
+        Ok(()) => 0,
+        Err((error, row)) => {
+            *words = HeldWords::of(row);
+            number(error)
+        }
+    }
+}
+
+/// Lends the words of the page that an address names, which is pinned. They are the caller's until `compactd_return_page`. Meanwhile no call
+/// reads or writes them, and the page keeps a pin. Nothing is copied.
+///
+/// Refused as RANGE where a number is out of its range, as UNMAPPED, MOVING or NOT_PINNED, as LENT where they are lent already, as
+/// OWN_MEMORY where the pool lies in memory of its own, or as CLOSED.
+#[unsafe(no_mangle)]
+pub extern "C" fn compactd_page_words(
+    pool: &mut Pool,
+    space: u32,
+    vpage: u32,
+    words: &mut HeldWords,
+) -> u32
+    ensures answer { result ≡ answer pool.old.zone (page_words_refusal space vpage) }
+    ensures zone { pool.new.zone ≡ left pool.old.zone (page_words_refusal space vpage) (λ z. page_lent z (address_of space vpage)) }
+    ensures words { (z : ZoneState) → pool.old.zone ≡ Some z → result ≡ 0 → IfSome words.new.row (λ row. (row.words ≡ values_at z (address_of space vpage) 0 z.page_size) × (Some row.at ≡ page_place z (address_of space vpage))) }
+    ensures given { result ≡ 0 → ¬ (words.new.row ≡ None) }
+    ensures kept { ¬ (result ≡ 0) → words.new.row ≡ words.old.row }
+{
+    let Some(zone) = pool.zone() else {
+        return CLOSED;
+    };
+    match zone.lend_page(space, vpage) {
+        Ok(row) => {
+            *words = HeldWords::of(row);
+            0
+        }
+        Err(error) => number(error),
+    }
+}
+
+/// Takes back the words of a page that `compactd_page_words` lent, which no call tests. The page has what was left in them, as if the client had
+/// stored each word.
+///
+/// Refused as RANGE where a number is out of its range or a page has another number of words, as JOURNAL_FULL where there aren't places
+/// for a store of each word, as UNMAPPED or MOVING, or as CLOSED.
+#[unsafe(no_mangle)]
+pub extern "C" fn compactd_return_page(
+    pool: &mut Pool,
+    client: u32,
+    space: u32,
+    vpage: u32,
+    words: &mut HeldWords,
+) -> u32
+    requires { (z : ZoneState) → pool.old.zone ≡ Some z → IfSome words.old.row (λ row. Some row.at ≡ page_place z (address_of space vpage)) }
+    ensures answer { result ≡ answer pool.old.zone (page_back_refusal client space vpage words.old.row) }
+    ensures zone { pool.new.zone ≡ left pool.old.zone (page_back_refusal client space vpage words.old.row) (λ z. page_returned z client (address_of space vpage) (words_in words.old.row)) }
+    ensures taken { result ≡ 0 → words.new.row ≡ None }
+    ensures kept { ¬ (result ≡ 0) → words.new.row ≡ words.old.row }
+{
+    let Some(zone) = pool.zone() else {
+        return CLOSED;
+    };
+    let Some(row) = replace(words, HeldWords::none()).into_row() else {
+        return number(ZoneError::Range);
+    };
+    match zone.return_page(client, space, vpage, row) {
         Ok(()) => 0,
         Err((error, row)) => {
             *words = HeldWords::of(row);

@@ -16,9 +16,9 @@ use Rattle.state_core.specs.Isolating.{isolate_refusal}
 use Rattle.state_core.specs.Valid.{IsValidZone, is_under}
 use Rattle.state_core.specs.ZoneState.{ZoneState, is_free}
 use Rattle.state_core.proofs.Entries.{get_insert_same, get_insert_other}
-use Rattle.state_core.proofs.Facts.{not_none, room_for_two}
+use Rattle.state_core.proofs.Facts.{not_none, room_for_two, unpinned_here}
 use Rattle.state_core.proofs.Moving.{CanSettle, some_same}
-use Rattle.state_core.proofs.Places.{IsOutWith, free_count, page_count, valid_places, where_is}
+use Rattle.state_core.proofs.Places.{IsOutWith, free_count, page_count, rests_still, valid_places, where_is}
 use Rattle.fewest_core.specs.Evacuation.{moved_away}
 use Rattle.fewest_core.specs.FewestMoves.{Move, IsMove, after_move, under_way}
 
@@ -41,6 +41,7 @@ module _ (z : ZoneState) (m : Move) (law : IsValidZone z) (is : IsMove z m) wher
     valid = law;
     at = is.here;
     numbered = is.known;
+    here = unpinned_here z law m.page (eqb-true (pins z.records m.page) 0 (and_parts _ _ is.movable).0);
     takes = λ g e. inr (ap (is_free z) (eqb-true g m.target e) ∙ target_free, omega (arith, eqb-true g m.target e, is.within));
     upward = λ s source target e. cc;
   }
@@ -128,6 +129,7 @@ module _ (z : ZoneState) (m : Move) (law : IsValidZone z) (is : IsMove z m) wher
         };
         pages = valid_places can_settle z.unmovable (λ q e. some_same can_settle q ∙ law.pages.unmovable q e);
         blocks = law.blocks;
+        loans = record { rest = rests_still can_settle; pinned = law.loans.pinned; lendable = law.loans.lendable };
         fingers = record { ordered = law.fingers.ordered; begun = λ start e. cc; swept = λ quiet. cc };
         sum = omega (arith, law.sum, free_count can_settle, page_count can_settle, as_many_out);
       })

@@ -188,7 +188,9 @@ option_or_none o other e = grind arith
 
 -- a page that an accepted access finds is in a frame
 pub accessed_at : (z : ZoneState) (address : Address) → access_refusal z address ≡ None → (frame : ℕ) × (placement_at z address ≡ Some (At frame))
-accessed_at z address accepted = let room = passed (not (has_room z)) JournalFull _ accepted in at_then _ room.1
+accessed_at z address accepted =
+    let room = passed (not (has_room z)) JournalFull _ accepted in
+    at_then _ (option_or_none (placement_refusal (placement_at z address)) _ room.1)
 
 -- an accepted map finds a free frame
 pub frame_left : (z : ZoneState) (address : Address) → map_refusal z address ≡ None → IsSome (lowest_free_frame z)
@@ -294,5 +296,5 @@ module _ (zone next : ZoneState) (scan : ScanSeat) (ends : EndSeat) (is_open : B
   carried_written client address from values (Ok done) law refused err ok =
       let within = passed (nat_lt zone.page_size (from + length values)) Range _ (sym refused) in
       let room = passed (not (has_room_for zone (length values))) JournalFull _ within.1 in
-      let at = at_then _ room.1 in
+      let at = at_then _ (option_or_none (placement_refusal (placement_at zone address)) _ room.1) in
       changed (stored_all zone client address from values) ok law (written_leaves zone client address from values) (own_written zone client address from values at.0 at.1)

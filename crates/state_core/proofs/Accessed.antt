@@ -1,5 +1,5 @@
 -- A load and a store leave a zone valid.
-use Rattle.std.proofs.Common.{◌≡◌, ℕ, ◌<◌, length, refl, sym, subst, Option, Some, IsSomeAnd}
+use Rattle.std.proofs.Common.{◌≡◌, ℕ, ◌+◌, ◌<◌, ◌≤◌, List, [], ◌∷◌, length, refl, sym, subst, arith, Option, Some, IsSomeAnd}
 use Rattle.std.specs.Prelude.{unwrap_or}
 use Rattle.frame_core.specs.declared.place.Address.{Address}
 use Rattle.frame_core.specs.declared.record.Record.TheVariants.{Load, Store}
@@ -8,6 +8,7 @@ use Rattle.frame_core.specs.Moves.{out}
 use Rattle.state_core.specs.declared.placement.Placement.TheVariants.{At}
 use Rattle.state_core.specs.Valid.{IsValidZone}
 use Rattle.state_core.specs.Access.{value_at, loaded, stored}
+use Rattle.state_core.specs.Bulk.{stored_all}
 use Rattle.state_core.specs.ZoneState.{ZoneState, placement_at}
 use Rattle.state_core.proofs.Quiet.{quiet_before}
 use Rattle.state_core.proofs.Facts.{page_named}
@@ -29,6 +30,7 @@ module _ (v : ZoneState) (law : IsValidZone v) (spare : length (out v.records) <
         ways = λ p serial. (λ way. way, λ way. way);
         handed = λ first. refl;
         marks = λ block. refl;
+        pinned = law.loans.pinned;
         swept = λ quiet. swept_loaded v client address word (law.fingers.swept (quiet_before v (Load client address word (value_at v address word)) law refl quiet));
       })
 
@@ -42,5 +44,12 @@ module _ (v : ZoneState) (law : IsValidZone v) (spare : length (out v.records) <
     ways = λ p serial. (λ way. way, λ way. way);
     handed = λ first. refl;
     marks = λ block. refl;
+    pinned = law.loans.pinned;
     swept = λ quiet. swept_stored v client address word value (law.fingers.swept (quiet_before v (Store client address word value) law refl quiet));
   })
+
+-- so do stores of several words
+pub valid_stored_all : (v : ZoneState) → IsValidZone v → (client : ℕ) (address : Address) (from : ℕ) (values : List ℕ) → length (out v.records) + length values ≤ v.room → IsValidZone (stored_all v client address from values)
+valid_stored_all v law client address from [] room = law
+valid_stored_all v law client address from (value ∷ values) room =
+    valid_stored_all (stored v client address from value) (valid_stored v law (omega (arith, room)) client address from value) client address (from + 1) values (omega (arith, room))

@@ -1,12 +1,13 @@
 -- Each call that isn't refused leaves a valid zone valid.
-use Rattle.std.proofs.Common.{◌≡◌, ℕ, ◌+◌, ◌<◌, ◌≤◌, Bool, true, false, cond, length, refl, sym, ap, subst, arith, ◌-◌, not, is_some, Option, Some, None, IsSome}
+use Rattle.std.proofs.Common.{◌≡◌, ℕ, ◌+◌, ◌<◌, ◌≤◌, Bool, true, false, cond, length, refl, sym, ap, ◌∙◌, subst, arith, ◌-◌, not, is_some, nat_eq, ◌&&◌, Option, Some, None, IsSome}
 use Rattle.std.specs.Prelude.{IsTrue, ◌∷◌, unwrap_or}
 use Rattle.std.specs.Option.{option_or}
-use Rattle.std.proofs.lemmas.Bool.{and_parts, not-false, ltb-true, leb-false, eqb-true}
+use Rattle.std.proofs.lemmas.Bool.{and_parts, not-false, ltb-true, leb-false, eq-eqb, eqb-true}
+use Rattle.std.proofs.lemmas.Bool.Decides.{nat_tests}
 use Rattle.frame_core.proofs.Searches.{lowest_some}
 use Rattle.frame_core.specs.declared.place.Address.{Address}
 use Rattle.frame_core.specs.declared.record.Record.TheVariants as entry
-use Rattle.frame_core.specs.History.{page_at, maps}
+use Rattle.frame_core.specs.History.{page_at, maps, pins}
 use Rattle.frame_core.specs.Moves.{out}
 use Rattle.state_core.specs.declared.call.ZoneCall.{ZoneCall}
 use Rattle.state_core.specs.declared.call.ZoneCall.TheVariants.{Map, MapAt, Load, Store, Share, Unmap, Pin, Unpin, TakeOrder, GiveOrder, Mark, Unmark}
@@ -18,9 +19,9 @@ use Rattle.state_core.specs.Calls.{refusal_of, answer_of, after, answers, record
 use Rattle.state_core.specs.HandingOut.{is_order, is_run, lowest_run, take_order_refusal, give_order_refusal, block_taken, block_given}
 use Rattle.state_core.specs.Valid.{IsValidZone}
 use Rattle.state_core.specs.Mapping.{map_refusal, map_at_refusal, mapped}
-use Rattle.state_core.specs.Pinning.{pin_refusal, unpin_refusal, pinned, unpinned}
+use Rattle.state_core.specs.Pinning.{pins_at, pin_refusal, unpin_refusal, pinned, unpinned}
 use Rattle.state_core.specs.Sharing.{share_refusal, shared}
-use Rattle.state_core.specs.Unmapping.{is_last, unmap_refusal, unmapped}
+use Rattle.state_core.specs.Unmapping.{is_last, last_refusal, unmap_refusal, unmapped}
 use Rattle.state_core.specs.ZoneState.{ZoneState, frame_count, has_address, has_room, is_free, frame_for, lowest_free_frame, lowest_unused_page}
 use Rattle.state_core.proofs.Accessed.{valid_loaded, valid_stored}
 use Rattle.state_core.proofs.Facts.{in_table, none_is, spare, page_named}
@@ -44,6 +45,22 @@ both_passed (Some error) b e = cc
 in_a_frame : (o : Option Placement) → placement_refusal o ≡ None → (frame : ℕ) × (o ≡ Some (At frame))
 in_a_frame (Some (At frame)) e = (frame, refl)
 in_a_frame _ e = cc
+
+-- a page that loses its last address has no pin
+pub last_unpinned : (z : ZoneState) (address : Address) (page : ℕ) → page_at z.records address ≡ Some page → last_refusal z address ≡ None → maps z.records page ≡ 1 → pins z.records page ≡ 0
+last_unpinned z address page named accepted one =
+    let here : pins_at z address ≡ pins z.records page = ap (λ (o : Option ℕ). pins z.records (unwrap_or o 0)) named in
+    let last : is_last z address ≡ true = ap (λ (o : Option ℕ). nat_eq (maps z.records (unwrap_or o 0)) 1) named ∙ eq-eqb _ 1 one in
+    sym here ∙ eqb-true _ 0 (not_pinned (is_last z address) (nat_eq (pins_at z address) 0) (passed _ _ _ accepted).0 last)
+  where
+    not_pinned : (a b : Bool) → (a && not b) ≡ false → a ≡ true → b ≡ true
+    not_pinned true true e last = refl
+    not_pinned true false e last = cc
+    not_pinned false b e last = cc
+
+-- where a page keeps a pin if its words are lent, it has another one
+pub keeps_one : (pins : ℕ) (lent : Bool) → nat_eq pins 0 ≡ false → (nat_eq pins 1 && lent) ≡ false → lent ≡ true → 1 < pins
+keeps_one pins lent some kept away = grind (arith, nat_tests, some, kept, away)
 
 of_this_order : (o : Option ℕ) (order : ℕ) → is_order o order ≡ true → o ≡ Some order
 of_this_order None order e = cc
@@ -102,7 +119,7 @@ module _ (z : ZoneState) where
     kept_load : (address : Address) (word : ℕ) → access_refusal z address ≡ None → IsValidZone (loaded z client address word)
     kept_load address word accepted =
         let room = passed _ _ _ accepted in
-        let at = in_a_frame _ room.1 in
+        let at = in_a_frame _ (both_passed _ _ room.1).0 in
         valid_loaded z law (room_passed room.0) client address at.0 word at.1
 
     kept_store : (address : Address) (word value : ℕ) → access_refusal z address ≡ None → IsValidZone (stored z client address word value)
@@ -130,9 +147,10 @@ module _ (z : ZoneState) where
     kept_unmap : (address : Address) → unmap_refusal z address ≡ None → IsValidZone (unmapped z client address)
     kept_unmap address accepted =
         let room = passed _ _ _ accepted in
-        let at = in_a_frame _ (both_passed _ _ room.1).0 in
+        let both = both_passed _ _ room.1 in
+        let at = in_a_frame _ both.0 in
         let page = page_named z address (At at.0) at.1 in
-        valid_unmapped z client address page.0 at.0 (record { valid = law; spare = room_passed room.0; named = page.1; at = page.2 })
+        valid_unmapped z client address page.0 at.0 (record { valid = law; spare = room_passed room.0; named = page.1; at = page.2; unpinned = last_unpinned z address page.0 page.1 both.1 })
 
     kept_pin : (address : Address) → pin_refusal z address ≡ None → IsValidZone (pinned z client address)
     kept_pin address accepted =
@@ -145,7 +163,9 @@ module _ (z : ZoneState) where
     kept_unpin address accepted =
         let room = passed _ _ _ accepted in
         let named = passed _ _ _ room.1 in
-        valid_unpinned z client address _ (found (page_at z.records address) (not-false _ named.0)) law (room_passed room.0)
+        let some = passed _ _ _ named.1 in
+        let kept = passed _ _ _ some.1 in
+        valid_unpinned z client address _ (found (page_at z.records address) (not-false _ named.0)) law (room_passed room.0) (keeps_one _ _ some.0 kept.0)
 
     kept_take : (order : ℕ) → 3 ≤ order → order ≤ 9 → take_order_refusal z order ≡ None → IsValidZone (block_taken z (unwrap_or (lowest_run z order) 0) order)
     kept_take order low high accepted =

@@ -74,6 +74,7 @@ module _ (v : ZoneState) (law : IsValidZone v) (claimed : set.FinSet nat_cmp) (m
       claims = λ frame c. (may frame c).within;
       unclaimed = λ first frame e. false_from_ne_true _ (λ c. both_ways _ (may frame c).kept (handed_by v law first frame e));
     };
+    loans = law.loans;
     fingers = record { ordered = law.fingers.ordered; begun = λ start e. cc; swept = λ quiet. cc };
     sum = omega (arith, law.sum, counts_add_up (is_free next) (is_held next) (is_free v) (is_held v) (frame_count v) (λ frame h. balance (is_used v frame) (is_handed_out v frame) (set.contains v.claimed frame) (set.contains claimed frame) (used_unheld v law frame) (clear frame)));
   }
@@ -173,6 +174,7 @@ valid_apart v law apart = record {
   agrees = law.agrees;
   pages = law.pages;
   blocks = law.blocks;
+  loans = law.loans;
   fingers = record { ordered = law.fingers.ordered; begun = law.fingers.begun; swept = λ quiet. (let s = law.fingers.swept quiet in record { below = s.below; above = s.above; unheld = s.unheld; movable = s.movable; ways = λ page serial source target e. (let w = s.ways page serial source target e in record { low = w.low; high = w.high; movable = w.movable }) }) };
   sum = law.sum;
 }

@@ -52,9 +52,10 @@ module _ (v : ZoneState) (law : IsValidZone v) (first order : ℕ) (at : map.get
       agrees = law.agrees;
       pages = law.pages;
       blocks = record { each = law.blocks.each; disjoint = law.blocks.disjoint; contents = contents_after; lent = law.blocks.lent; lendable = law.blocks.lendable; claims = law.blocks.claims; unclaimed = law.blocks.unclaimed };
-      fingers = record { ordered = law.fingers.ordered; begun = law.fingers.begun; swept = λ quiet. swept_same v v.records v.room written.contents v.lent (λ page. refl) (law.fingers.swept quiet) };
+      loans = law.loans;
+      fingers = record { ordered = law.fingers.ordered; begun = law.fingers.begun; swept = λ quiet. swept_same v v.records v.room written.contents v.lent v.lent_pages (λ page. refl) (law.fingers.swept quiet) };
       sum = law.sum;
     }
 
 pub met_contents_written : (v : ZoneState) (first from : ℕ) (values : List ℕ) → HaveMet v → HaveMet (contents_written v first from values)
-met_contents_written v first from values = met_same v v.records v.room _ v.lent (λ page. refl)
+met_contents_written v first from values = met_same v v.records v.room _ v.lent v.lent_pages (λ page. refl)

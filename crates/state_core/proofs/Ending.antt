@@ -3,7 +3,7 @@ use Rattle.std.proofs.Common.{◌≡◌, ◌≢◌, ℕ, ◌+◌, ◌<◌, true,
 use Rattle.std.specs.Prelude.{⊤}
 use Rattle.std.specs.List.{list_any}
 use Rattle.std.specs.FinMap as map
-use Rattle.std.proofs.lemmas.Bool.{both_ways, eq-eqb, eqb-true, ne_eqb, or_left, or_right}
+use Rattle.std.proofs.lemmas.Bool.{false_from_ne_true, both_ways, eq-eqb, eqb-true, ne_eqb, or_left, or_right}
 use Rattle.std.proofs.lemmas.Option.{same_Some}
 use Rattle.frame_core.proofs.OnTheWay.{still_out, ended_out, length_without}
 use Rattle.frame_core.specs.declared.record.Cause.{Cause}
@@ -44,6 +44,7 @@ module _ (v : ZoneState) (page serial source target : ℕ) (law : IsValidZone v)
     valid = law;
     at = at;
     numbered = law.pages.numbered page (not_none _ way at);
+    here = false_from_ne_true _ (λ lent. (let rests = law.loans.rest page lent in let bad : Some way ≡ Some (At rests.0) = sym at ∙ rests.1 in absurd (cc)));
     takes = λ g e. inl (ap (takes_up (Some way)) (eqb-true g frame e) ∙ had);
     upward = λ s from to e. cc;
   }

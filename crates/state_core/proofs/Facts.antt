@@ -1,14 +1,15 @@
 -- What is known of a valid zone.
 use Rattle.std.proofs.Common.{◌≡◌, ◌≢◌, ℕ, ◌+◌, ◌^◌, ◌<◌, ◌≤◌, Bool, true, false, cond, length, refl, sym, ap, ◌∙◌, Option, Some, None, IsSome, is_some, nat_eq, ◌||◌, if◌then◌else◌, eq-eqb, ltb-true, arith}
 use Rattle.std.specs.FinMap as map
+use Rattle.std.specs.FinSet as set
 pub use Rattle.std.proofs.lemmas.Bool.{cond-true as taken, cond-false as skipped}
-use Rattle.std.proofs.lemmas.Bool.{and_parts}
+use Rattle.std.proofs.lemmas.Bool.{and_parts, false_from_ne_true}
 use Rattle.std.specs.Option.{option_and_then}
 use Rattle.std.proofs.lemmas.Option.{option_and_then_some}
 use Rattle.frame_core.proofs.OnTheWay.{isolated_within}
 use Rattle.frame_core.specs.Address.{InRange, InTable}
 use Rattle.frame_core.specs.declared.place.Address.{Address}
-use Rattle.frame_core.specs.History.{page_at}
+use Rattle.frame_core.specs.History.{page_at, pins}
 use Rattle.frame_core.specs.Moves.{out, isolated}
 use Rattle.state_core.specs.declared.error.ZoneError.TheVariants.{JournalFull}
 use Rattle.state_core.specs.declared.placement.Placement.{Placement}
@@ -81,3 +82,7 @@ frames_differ v law p q a b at_p at_q ne same =
     ne (law.pages.apart q p (words_frame b)
     (ap (λ (o : Option Placement). takes_up o (words_frame b)) at_q ∙ takes_own b)
     (ap (λ (o : Option Placement). takes_up o (words_frame b)) at_p ∙ ap (takes_up (Some a)) same ∙ takes_own a))
+
+-- the words of a page that has no pin aren't lent
+pub unpinned_here : (v : ZoneState) → IsValidZone v → (page : ℕ) → pins v.records page ≡ 0 → set.contains v.lent_pages page ≡ false
+unpinned_here v law page none = false_from_ne_true _ (λ lent. absurd (omega (arith, law.loans.pinned page lent, none)))

@@ -15,7 +15,7 @@ use Rattle.state_core.specs.Valid.{IsValidZone, is_under}
 use Rattle.state_core.specs.Carrying.{relocated}
 use Rattle.state_core.specs.Pairs.{IsPair}
 use Rattle.state_core.specs.ZoneState.{ZoneState, frame_count, is_free}
-use Rattle.state_core.proofs.Facts.{not_none}
+use Rattle.state_core.proofs.Facts.{unpinned_here, not_none}
 use Rattle.state_core.proofs.Moving.{CanSettle, IsRecorded, isolate_still}
 use Rattle.state_core.proofs.Places.{IsOutWith, free_new, free_same, ways_of}
 
@@ -34,6 +34,7 @@ module _ (v : ZoneState) (pair : Pair) (law : IsValidZone v) (is : IsPair v pair
     valid = law;
     at = is.from.here;
     numbered = law.pages.numbered pair.page (not_none _ (At pair.source) is.from.here);
+    here = unpinned_here v law pair.page (eqb-true (pins v.records pair.page) 0 (and_parts _ _ is.from.movable).0);
     takes = λ g e. elim (or_cases (nat_eq g pair.source) (nat_eq g pair.target) e) [
       | inl source ↦ inl source
       | inr target ↦ inr (ap (is_free v) (eqb-true g pair.target target) ∙ is.to.free, omega (arith, eqb-true g pair.target target, target_within))

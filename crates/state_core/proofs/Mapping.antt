@@ -2,7 +2,7 @@
 use Rattle.std.proofs.Common.{◌≡◌, ◌≢◌, ℕ, ◌+◌, ◌<◌, Bool, true, false, length, inl, inr, refl, sym, ap, subst, ◌∙◌, arith, if◌then◌else◌, Option, Some, None, IsSome, is_some, nat_eq}
 use Rattle.std.specs.FinMap as map
 use Rattle.std.specs.FinSet as set
-use Rattle.std.proofs.lemmas.Bool.{and_from, both_ways, cases_Bool, cond-true, cond-false, eq-eqb, eqb-true, ne_eqb}
+use Rattle.std.proofs.lemmas.Bool.{and_from, both_ways, cases_Bool, cond-true, cond-false, eq-eqb, eqb-true, false_from_ne_true, ne_eqb}
 use Rattle.std.proofs.lemmas.Option.{same_Some}
 use Rattle.frame_core.specs.Address.{InTable}
 use Rattle.frame_core.specs.Below.{one_if}
@@ -39,11 +39,16 @@ module _ (v : ZoneState) (client : ℕ) (address : Address) (unmovable : Bool) (
   abbrev next : ZoneState
   next = placed v client address unmovable page frame
 
+  -- the words of a page that isn't in use aren't lent
+  here : set.contains v.lent_pages page ≡ false
+  here = false_from_ne_true _ (λ lent. clash _ can.unused (ap is_some (can.valid.loans.rest page lent).1))
+
   pub can_map : CanChangePlace v page None (Some (At frame))
   can_map = record {
     valid = can.valid;
     at = can.unused;
     numbered = can.numbered;
+    here = here;
     takes = λ g e. (let same : frame ≡ g = sym (eqb-true g frame e) in let within = can.within in inr (ap (is_free v) (sym same) ∙ can.free, omega arith));
     upward = λ serial source target e. cc;
   }
@@ -137,6 +142,9 @@ module _ (v : ZoneState) (client : ℕ) (address : Address) (unmovable : Bool) (
         ways = ap (λ o. length (out v.records) + places.ways_of o) can.unused;
         handed = λ first. refl;
         marks = λ block. refl;
+        pinned = λ q lent.
+            let apart : q ≢ page = λ same. both_ways _ here (ap (set.contains v.lent_pages) (sym same) ∙ lent) in
+            omega (arith, pins_others q apart, law.loans.pinned q lent);
         stay = stay unmovable;
       }
 

@@ -74,5 +74,6 @@ module _ {v : ZoneState} {page : ℕ} {old new : Placement} (can : CanSettle v p
         ways = recorded.ways;
         handed = still.handed;
         marks = still.marks;
+        pinned = λ q lent. (let some = law.loans.pinned q lent in let same = still.pins q in omega arith);
         stay = λ q e. some_same q ∙ law.pages.unmovable q e;
       })

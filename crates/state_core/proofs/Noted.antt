@@ -1,7 +1,8 @@
 -- One more record leaves a zone valid where each page stays in its place.
-use Rattle.std.proofs.Common.{◌≡◌, ℕ, ◌<◌, ◌≤◌, ◌-◌, List, ◌∷◌, length, arith, ap, Some, IsSome, sym, ◌∙◌}
+use Rattle.std.proofs.Common.{◌≡◌, ℕ, true, ◌<◌, ◌≤◌, ◌-◌, List, ◌∷◌, length, arith, ap, Some, IsSome, sym, ◌∙◌}
 use Rattle.std.specs.Prelude.{◌↔◌}
 use Rattle.std.specs.FinMap as map
+use Rattle.std.specs.FinSet as set
 use Rattle.frame_core.specs.Address.{InTable}
 use Rattle.frame_core.specs.declared.place.Address.{Address}
 use Rattle.frame_core.specs.declared.record.Record.{Record}
@@ -25,6 +26,7 @@ pub record IsNoted (v : ZoneState) (entry : Record) : Type 0 where
   pub ways : (page serial : ℕ) → IsOutWith v.records page serial ↔ IsOutWith (entry ∷ v.records) page serial
   pub handed : (first : ℕ) → handed_out_by (entry ∷ v.records) first ≡ handed_out_by v.records first
   pub marks : (block : ℕ) → is_marked_by (entry ∷ v.records) block ≡ is_marked_by v.records block
+  pub pinned : (page : ℕ) → set.contains v.lent_pages page ≡ true → 0 < pins (entry ∷ v.records) page
   pub swept : SweptIfQuiet (noted v entry)
 
 -- a record that neither isolates a page nor ends its move leaves the journal valid, where it has a place for it
@@ -46,6 +48,7 @@ valid_noted v law entry spare told = record {
   };
   pages = law.pages;
   blocks = law.blocks;
+  loans = record { rest = law.loans.rest; pinned = told.pinned; lendable = law.loans.lendable };
   fingers = record { ordered = law.fingers.ordered; begun = λ start e. begun_more v.records entry v.round law.fingers.begun start e; swept = told.swept };
   sum = omega (arith, law.sum, ap (λ (list : List ℕ). length list) told.out);
 }

@@ -1,5 +1,6 @@
 -- One pin more or less: nothing changes but how many pins the page has.
-use Rattle.std.proofs.Common.{◌≡◌, ◌≢◌, ℕ, ◌+◌, ◌-◌, ◌<◌, length, inl, inr, refl, sym, ap, ◌∙◌, arith, Option, Some}
+use Rattle.std.proofs.Common.{◌≡◌, ◌≢◌, ℕ, ◌+◌, ◌-◌, ◌<◌, true, length, inl, inr, refl, sym, ap, ◌∙◌, arith, Option, Some}
+use Rattle.std.specs.FinSet as set
 use Rattle.std.proofs.lemmas.Bool.{eq-eqb, ne_eqb}
 use Rattle.std.proofs.lemmas.Bool.Decides.{eqb_tells}
 use Rattle.frame_core.specs.Below.{one_if}
@@ -48,11 +49,15 @@ module _ (v : ZoneState) (client : ℕ) (address : Address) (page : ℕ) (named 
       ways = λ p serial. (λ way. way, λ way. way);
       handed = λ first. refl;
       marks = λ block. refl;
+      pinned = λ q lent. (let some = law.loans.pinned q lent in elim (eqb_tells q page) [
+        | inl same ↦ omega (arith, ap (pins (pinned v client address).records) same.1, pins_one_more)
+        | inr other ↦ omega (arith, pinned_others q other.1, some)
+      ]);
       swept = swept_ended v (pinned v client address) (Pin client address) law refl refl refl;
     })
 
-    pub valid_unpinned : IsValidZone (unpinned v client address)
-    valid_unpinned = valid_noted v law (Unpin client address) spare (record {
+    pub valid_unpinned : (set.contains v.lent_pages page ≡ true → 1 < pins v.records page) → IsValidZone (unpinned v client address)
+    valid_unpinned keeps = valid_noted v law (Unpin client address) spare (record {
       truthful = law.journal.truthful;
       well_ended = law.journal.well_ended;
       named = law.agrees.named;
@@ -61,5 +66,11 @@ module _ (v : ZoneState) (client : ℕ) (address : Address) (page : ℕ) (named 
       ways = λ p serial. (λ way. way, λ way. way);
       handed = λ first. refl;
       marks = λ block. refl;
+      pinned = λ q lent. (let some = law.loans.pinned q lent in elim (eqb_tells q page) [
+        | inl same ↦
+            (let more = keeps (ap (set.contains v.lent_pages) (sym same.1) ∙ lent) in
+            omega (arith, ap (pins (unpinned v client address).records) same.1, pins_one_less, more))
+        | inr other ↦ omega (arith, unpinned_others q other.1, some)
+      ]);
       swept = swept_ended v (unpinned v client address) (Unpin client address) law refl refl refl;
     })

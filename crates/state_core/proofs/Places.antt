@@ -52,6 +52,8 @@ pub record CanChangePlace (v : ZoneState) (page : ℕ) (old new : Option Placeme
   pub valid : IsValidZone v
   pub at : map.get v.placement page ≡ old
   pub numbered : page < frame_count v
+  -- its words aren't lent
+  pub here : set.contains v.lent_pages page ≡ false
   pub takes : (frame : ℕ) → takes_up new frame ≡ true → (takes_up old frame ≡ true) ⊎ ((is_free v frame ≡ true) × (frame < frame_count v))
   pub upward : (serial source target : ℕ) → new ≡ Some (Moving serial source target) → source < target
 
@@ -125,6 +127,13 @@ module _ {v : ZoneState} {page : ℕ} {old new : Option Placement} (can : CanCha
   where_is q = elim (eqb_tells q page) [
     | inl same ↦ inl (same.1, ap (map.get v.placement) same.1 ∙ can.at, get_put_same v.placement page q new same.1)
     | inr other ↦ inr (other.1, at_other q other.1)
+  ]
+
+  -- the pages whose words are lent are others, and rest where they did
+  pub rests_still : (q : ℕ) → set.contains v.lent_pages q ≡ true → (frame : ℕ) × (map.get next.placement q ≡ Some (At frame))
+  rests_still q lent = elim (where_is q) [
+    | inl here ↦ absurd (both_ways _ (ap (set.contains v.lent_pages) here.0 ∙ can.here) lent)
+    | inr there ↦ (let at = can.valid.loans.rest q lent in (at.0, there.1 ∙ at.1))
   ]
 
   -- a page that takes up a frame after the change is this page or took it up before
@@ -229,6 +238,7 @@ pub record IsTold (v : ZoneState) (page : ℕ) (new : Option Placement) (entry :
   pub ways : length (out (entry ∷ v.records)) + ways_of (map.get v.placement page) ≡ length (out v.records) + ways_of new
   pub handed : (first : ℕ) → handed_out_by (entry ∷ v.records) first ≡ handed_out_by v.records first
   pub marks : (block : ℕ) → is_marked_by (entry ∷ v.records) block ≡ is_marked_by v.records block
+  pub pinned : (q : ℕ) → set.contains v.lent_pages q ≡ true → 0 < pins (entry ∷ v.records) q
   pub stay : (q : ℕ) → set.contains unmovable q ≡ true → IsSome (map.get (put v.placement page new) q)
 
 module _ {v : ZoneState} {page : ℕ} {old new : Option Placement} (can : CanChangePlace v page old new) (entry : Record) (unmovable : set.FinSet nat_cmp) (told : IsTold v page new entry unmovable) where
@@ -268,6 +278,7 @@ module _ {v : ZoneState} {page : ℕ} {old new : Option Placement} (can : CanCha
         };
         pages = valid_places can unmovable told.stay;
         blocks = law.blocks;
+        loans = record { rest = rests_still can; pinned = told.pinned; lendable = law.loans.lendable };
         fingers = record { ordered = fingers; begun = λ start e. begun_more v.records entry v.round law.fingers.begun start e; swept = swept };
         sum = omega (arith, law.sum, free_count can, page_count can, told.ways, ap ways_of can.at);
       }

@@ -25,6 +25,7 @@ valid_from v law start here as_calm = record {
   agrees = law.agrees;
   pages = law.pages;
   blocks = law.blocks;
+  loans = law.loans;
   fingers = record {
     ordered = (omega arith, omega arith);
     begun = λ other e. (let same : start.records ≡ other.records =

@@ -76,5 +76,6 @@ module _ (v : ZoneState) (client : ℕ) (address alias : Address) (page frame : 
         ways = λ p serial. (λ way. way, λ way. way);
         handed = λ first. refl;
         marks = λ block. refl;
+        pinned = law.loans.pinned;
         swept = swept_ended v next (Share client address alias) law refl refl refl;
       })

@@ -21,9 +21,9 @@ use Rattle.state_core.specs.ZoneState.{ZoneState, is_free, is_quiet}
 use Rattle.state_core.proofs.Ending.{moved_others}
 use Rattle.state_core.proofs.Sweeping.{no_pin, arrived, stayed, on_its_way_not_at, one_frame}
 
--- records that leave pins as they are make no pair, nor do the words of blocks that are handed out, here or lent
-pub met_same : (v : ZoneState) (records : List Record) (room : ℕ) (contents : map.FinMap nat_cmp (List ℕ)) (lent : set.FinSet nat_cmp) → ((page : ℕ) → pins records page ≡ pins v.records page) → HaveMet v → HaveMet (record v { records = records; room = room; contents = contents; lent = lent })
-met_same v records room contents lent same met page from to is = met page from to (record {
+-- records that leave pins as they are make no pair, nor do the words of blocks that are handed out, nor words that are lent
+pub met_same : (v : ZoneState) (records : List Record) (room : ℕ) (contents : map.FinMap nat_cmp (List ℕ)) (lent lent_pages : set.FinSet nat_cmp) → ((page : ℕ) → pins records page ≡ pins v.records page) → HaveMet v → HaveMet (record v { records = records; room = room; contents = contents; lent = lent; lent_pages = lent_pages })
+met_same v records room contents lent lent_pages same met page from to is = met page from to (record {
   from = record { here = is.from.here; movable = sym (still page) ∙ is.from.movable; unmarked = is.from.unmarked; low = is.from.low; high = is.from.high };
   lowest = λ q frame s. is.lowest q frame (record { here = s.here; movable = still q ∙ s.movable; unmarked = s.unmarked; low = s.low; high = s.high });
   to = record { free = is.to.free; unmarked = is.to.unmarked; low = is.to.low; high = is.to.high };
@@ -33,10 +33,10 @@ met_same v records room contents lent same met page from to is = met page from t
   still q = ap (λ n. nat_eq n 0 && not (set.contains v.unmovable q)) (same q)
 
 pub met_loaded : (v : ZoneState) (client : ℕ) (address : Address) (word : ℕ) → HaveMet v → HaveMet (loaded v client address word)
-met_loaded v client address word = met_same v _ _ v.contents v.lent (λ page. refl)
+met_loaded v client address word = met_same v _ _ v.contents v.lent v.lent_pages (λ page. refl)
 
 pub met_stored : (v : ZoneState) (client : ℕ) (address : Address) (word value : ℕ) → HaveMet v → HaveMet (stored v client address word value)
-met_stored v client address word value = met_same v _ _ v.contents v.lent (λ page. refl)
+met_stored v client address word value = met_same v _ _ v.contents v.lent v.lent_pages (λ page. refl)
 
 -- a page whose move ends leaves sources and targets as they were: both its frames are outside the fingers
 module _ (v : ZoneState) (page serial source target : ℕ) (law : IsValidZone v) (swept : IsSwept v) (at : map.get v.placement page ≡ Some (Moving serial source target)) where

@@ -58,10 +58,10 @@ module _ (v : ZoneState) (law : IsValidZone v) (calm : is_calm v ≡ true) where
     ways = λ page serial source target at. absurd (at_rest v law none_out page serial source target at);
   }
 
--- a swept zone stays swept after records that leave pins as they are, and after words of a block that is handed out are
--- written, lent or come back
-pub swept_same : (v : ZoneState) (records : List Record) (room : ℕ) (contents : map.FinMap nat_cmp (List ℕ)) (lent : set.FinSet nat_cmp) → ((page : ℕ) → pins records page ≡ pins v.records page) → IsSwept v → IsSwept (record v { records = records; room = room; contents = contents; lent = lent })
-swept_same v records room contents lent same swept = record {
+-- a swept zone stays swept after records that leave pins as they are, after words of a block that is handed out are written, and after
+-- words are lent or come back
+pub swept_same : (v : ZoneState) (records : List Record) (room : ℕ) (contents : map.FinMap nat_cmp (List ℕ)) (lent lent_pages : set.FinSet nat_cmp) → ((page : ℕ) → pins records page ≡ pins v.records page) → IsSwept v → IsSwept (record v { records = records; room = room; contents = contents; lent = lent; lent_pages = lent_pages })
+swept_same v records room contents lent lent_pages same swept = record {
   below = swept.below;
   above = swept.above;
   unheld = swept.unheld;
@@ -74,10 +74,10 @@ swept_same v records room contents lent same swept = record {
   still page = ap (λ n. nat_eq n 0 && not (set.contains v.unmovable page)) (same page)
 
 pub swept_loaded : (v : ZoneState) (client : ℕ) (address : Address) (word : ℕ) → IsSwept v → IsSwept (loaded v client address word)
-swept_loaded v client address word = swept_same v _ _ v.contents v.lent (λ page. refl)
+swept_loaded v client address word = swept_same v _ _ v.contents v.lent v.lent_pages (λ page. refl)
 
 pub swept_stored : (v : ZoneState) (client : ℕ) (address : Address) (word value : ℕ) → IsSwept v → IsSwept (stored v client address word value)
-swept_stored v client address word value = swept_same v _ _ v.contents v.lent (λ page. refl)
+swept_stored v client address word value = swept_same v _ _ v.contents v.lent v.lent_pages (λ page. refl)
 
 -- the next pair is isolated
 

@@ -9,14 +9,14 @@ use Rattle.frame_core.specs.Below.{one_if}
 use Rattle.frame_core.specs.declared.place.Address.{Address}
 use Rattle.frame_core.proofs.Maps.{maps_changed, maps_some}
 use Rattle.frame_core.specs.declared.record.Record.TheVariants.{Unmap}
-use Rattle.frame_core.specs.History.{same_address, page_at, is_page, maps}
+use Rattle.frame_core.specs.History.{same_address, page_at, is_page, maps, pins}
 use Rattle.frame_core.specs.Moves.{out}
 use Rattle.state_core.specs.declared.placement.Placement.TheVariants.{At}
 use Rattle.state_core.specs.Valid.{IsValidZone, is_under}
 use Rattle.state_core.specs.Unmapping.{is_last, without_page, unmapped}
 use Rattle.state_core.specs.ZoneState.{ZoneState, noted}
 use Rattle.state_core.proofs.Entries.{contains_remove_same, contains_remove_other}
-use Rattle.state_core.proofs.Facts.{named_in_range, not_none}
+use Rattle.state_core.proofs.Facts.{unpinned_here, named_in_range, not_none}
 use Rattle.state_core.proofs.Noted.{valid_noted}
 use Rattle.state_core.proofs.Quiet.{swept_ended}
 use Rattle.state_core.proofs.Places.{CanChangePlace, IsTold, with_place, where_is, ways_of, valid_told}
@@ -27,6 +27,7 @@ pub record CanUnmap (v : ZoneState) (address : Address) (page frame : ℕ) : Typ
   pub spare : length (out v.records) < v.room
   pub named : page_at v.records address ≡ Some page
   pub at : map.get v.placement page ≡ Some (At frame)
+  pub unpinned : maps v.records page ≡ 1 → pins v.records page ≡ 0
 
 module _ (v : ZoneState) (client : ℕ) (address : Address) (page frame : ℕ) (can : CanUnmap v address page frame) where
   -- the zone after the record of the unmap, with each page where it was
@@ -81,6 +82,7 @@ module _ (v : ZoneState) (client : ℕ) (address : Address) (page frame : ℕ) (
         ways = λ p serial. (λ way. way, λ way. way);
         handed = λ first. refl;
         marks = λ block. refl;
+        pinned = law.loans.pinned;
         swept = swept_ended v after (Unmap client address) law refl refl refl;
       })
 
@@ -88,14 +90,14 @@ module _ (v : ZoneState) (client : ℕ) (address : Address) (page frame : ℕ) (
   abbrev next : ZoneState
   next = with_place v page None
 
-  pub can_unmap : CanChangePlace v page (Some (At frame)) None
-  can_unmap = record { valid = can.valid; at = can.at; numbered = can.valid.pages.numbered page (not_none _ (At frame) can.at); takes = λ g e. cc; upward = λ serial source target e. cc }
+  pub can_unmap : maps v.records page ≡ 1 → CanChangePlace v page (Some (At frame)) None
+  can_unmap one = record { valid = can.valid; at = can.at; numbered = can.valid.pages.numbered page (not_none _ (At frame) can.at); here = unpinned_here v can.valid page (can.unpinned one); takes = λ g e. cc; upward = λ serial source target e. cc }
 
-  still_used : (q : ℕ) → q ≢ page → IsSome (map.get v.placement q) → IsSome (map.get next.placement q)
-  still_used q ne used = elim (where_is can_unmap q) [ inl here ↦ absurd (ne here.0) | inr there ↦ ap is_some there.1 ∙ used ]
+  still_used : maps v.records page ≡ 1 → (q : ℕ) → q ≢ page → IsSome (map.get v.placement q) → IsSome (map.get next.placement q)
+  still_used one q ne used = elim (where_is (can_unmap one) q) [ inl here ↦ absurd (ne here.0) | inr there ↦ ap is_some there.1 ∙ used ]
 
-  was_used : (q : ℕ) → IsSome (map.get next.placement q) → (q ≢ page) × IsSome (map.get v.placement q)
-  was_used q used = elim (where_is can_unmap q) [
+  was_used : maps v.records page ≡ 1 → (q : ℕ) → IsSome (map.get next.placement q) → (q ≢ page) × IsSome (map.get v.placement q)
+  was_used one q used = elim (where_is (can_unmap one) q) [
     | inl here ↦ absurd (both_ways _ (ap is_some here.2) used)
     | inr there ↦ (there.0, ap is_some (sym there.1) ∙ used)
   ]
@@ -116,9 +118,9 @@ module _ (v : ZoneState) (client : ℕ) (address : Address) (page frame : ℕ) (
         well_ended = law.journal.well_ended;
         spare = omega arith;
         room_left = omega arith;
-        named = λ a q is. (let before = law.agrees.named a q (named_before a q is) in (before.0, still_used q (none_left one a q is) before.1));
+        named = λ a q is. (let before = law.agrees.named a q (named_before a q is) in (before.0, still_used one q (none_left one a q is) before.1));
         in_use = λ q used.
-            let was = was_used q used in
+            let was = was_used one q used in
             let before = law.agrees.in_use q was.1 in
             let same = maps_others q was.0 in
             (omega (arith, before.0), omega (arith, before.1), before.2);
@@ -127,14 +129,15 @@ module _ (v : ZoneState) (client : ℕ) (address : Address) (page frame : ℕ) (
         ways = ap (λ o. length (out v.records) + ways_of o) can.at;
         handed = λ first. refl;
         marks = λ block. refl;
+        pinned = law.loans.pinned;
         stay = λ q e. elim (eqb_tells q page) [
           | inl same ↦ absurd (both_ways _ (contains_remove_same v.unmovable page q same.1) e)
-          | inr other ↦ still_used q other.1 (law.pages.unmovable q (sym (contains_remove_other v.unmovable page q other.1) ∙ e))
+          | inr other ↦ still_used one q other.1 (law.pages.unmovable q (sym (contains_remove_other v.unmovable page q other.1) ∙ e))
         ];
       }
 
   pub valid_gone : maps v.records page ≡ 1 → IsValidZone (without_page after page)
-  valid_gone one = valid_told can_unmap (Unmap client address) _ (unmap_told one) v.migrate v.free can.valid.fingers.ordered (swept_ended v (without_page after page) (Unmap client address) can.valid refl refl refl)
+  valid_gone one = valid_told (can_unmap one) (Unmap client address) _ (unmap_told one) v.migrate v.free can.valid.fingers.ordered (swept_ended v (without_page after page) (Unmap client address) can.valid refl refl refl)
 
   -- the page of the address has one address exactly where the address is its last one
   pub is_last_by : is_last v address ≡ nat_eq (maps v.records page) 1

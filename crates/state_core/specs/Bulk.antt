@@ -5,8 +5,8 @@ use Rattle.frame_core.specs.declared.place.Address.{Address}
 use Rattle.frame_core.specs.Moves.{out}
 use Rattle.state_core.specs.declared.error.ZoneError.{ZoneError}
 use Rattle.state_core.specs.declared.error.ZoneError.TheVariants.{Range, JournalFull}
-use Rattle.state_core.specs.ZoneState.{ZoneState, placement_at}
-use Rattle.state_core.specs.Access.{placement_refusal, value_at, loaded, stored}
+use Rattle.state_core.specs.ZoneState.{ZoneState}
+use Rattle.state_core.specs.Access.{words_refusal, value_at, loaded, stored}
 
 -- whether the journal has places for this many calls, besides those for the ends of the pages that are out
 abbrev pub has_room_for : ZoneState → ℕ → Bool
@@ -18,7 +18,7 @@ abbrev pub bulk_refusal : ZoneState → Address → ℕ → ℕ → Option ZoneE
 bulk_refusal z address from count =
     if nat_lt z.page_size (from + count) then Some Range
     else if not (has_room_for z count) then Some JournalFull
-    else placement_refusal (placement_at z address)
+    else words_refusal z address
 
 -- the last values of this many words, from one on, of the page that an address names
 abbrev pub values_at : ZoneState → Address → ℕ → ℕ → List ℕ

@@ -58,6 +58,7 @@ opened_sized words number size places = record {
   handed_out = map.empty;
   contents = map.empty;
   lent = set.empty;
+  lent_pages = set.empty;
   memory = None;
   placement = map.empty;
   migrate = 0;

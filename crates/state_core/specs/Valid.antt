@@ -81,6 +81,13 @@ pub record HasValidBlocks (frames page_size : ℕ) (handed_out : map.FinMap nat_
   pub claims : (frame : ℕ) → set.contains claimed frame ≡ true → frame < frames
   pub unclaimed : (first frame : ℕ) → covers (map.get handed_out first) first frame ≡ true → set.contains claimed frame ≡ false
 
+-- the pages whose words are away are valid, by the records and the placements of a zone that lies in this memory of its caller if in any
+pub record HasValidLoans (records : List Record) (placement : map.FinMap nat_cmp Placement) (away : set.FinSet nat_cmp) (memory : Option Ptr) : Type 0 where
+  -- the words of a page are lent only while it rests in a frame and has a pin, in a zone that lies in memory of its caller
+  pub rest : (page : ℕ) → set.contains away page ≡ true → (frame : ℕ) × (map.get placement page ≡ Some (At frame))
+  pub pinned : (page : ℕ) → set.contains away page ≡ true → 0 < pins records page
+  pub lendable : (page : ℕ) → set.contains away page ≡ true → IsSome memory
+
 -- the fingers of a zone are valid, and its latest round
 pub record HasValidFingers (z : ZoneState) : Type 0 where
   -- the fingers are in the zone, in order, and the latest round began when the journal had no more records than now
@@ -99,6 +106,7 @@ pub record IsValidZone (z : ZoneState) : Type 0 where
   pub agrees : AgreesWithJournal z.spaces z.vpages z.records z.placement z.handed_out z.marked
   pub pages : HasValidPages z.placement z.unmovable (frame_count z) (is_held z)
   pub blocks : HasValidBlocks (frame_count z) z.page_size z.handed_out z.contents z.lent z.claimed z.memory
+  pub loans : HasValidLoans z.records z.placement z.lent_pages z.memory
   pub fingers : HasValidFingers z
   -- each frame is free, or of a page, or held; a moving page has two frames
   pub sum : count_below (is_free z) (frame_count z) + count_below (λ page. is_some (map.get z.placement page)) (frame_count z) + length (out z.records) + count_below (is_held z) (frame_count z) ≡ frame_count z

@@ -15,20 +15,20 @@ use Rattle.state_core.specs.ZoneState.{ZoneState}
 
 -- the fields of a state, as pairs
 abbrev Fields : Type 0
-Fields = ℕ × (ℕ × (ℕ × (ℕ × (ℕ × (List Record × (ℕ × (set.FinSet nat_cmp × (set.FinSet nat_cmp × (Bool × (set.FinSet nat_cmp × (map.FinMap nat_cmp ℕ × (map.FinMap nat_cmp (List ℕ) × (set.FinSet nat_cmp × (Option Ptr × (map.FinMap nat_cmp Placement × (ℕ × (ℕ × Option RoundStart)))))))))))))))))
+Fields = ℕ × (ℕ × (ℕ × (ℕ × (ℕ × (List Record × (ℕ × (set.FinSet nat_cmp × (set.FinSet nat_cmp × (Bool × (set.FinSet nat_cmp × (map.FinMap nat_cmp ℕ × (map.FinMap nat_cmp (List ℕ) × (set.FinSet nat_cmp × (set.FinSet nat_cmp × (Option Ptr × (map.FinMap nat_cmp Placement × (ℕ × (ℕ × Option RoundStart))))))))))))))))))
 
 abbrev coded_fields : Coded Fields
 coded_fields =
     coded× coded_ℕ (coded× coded_ℕ (coded× coded_ℕ (coded× coded_ℕ (coded× coded_ℕ (coded× (coded_list record_row.the_row.coded) (coded× coded_ℕ
     (coded× (set.code {R = nat_cmp} coded_ℕ) (coded× (set.code {R = nat_cmp} coded_ℕ) (coded× coded_bool (coded× (set.code {R = nat_cmp} coded_ℕ)
-    (coded× (map.code {R = nat_cmp} coded_ℕ coded_ℕ) (coded× (map.code {R = nat_cmp} coded_ℕ (coded_list coded_ℕ)) (coded× (set.code {R = nat_cmp} coded_ℕ)
+    (coded× (map.code {R = nat_cmp} coded_ℕ coded_ℕ) (coded× (map.code {R = nat_cmp} coded_ℕ (coded_list coded_ℕ)) (coded× (set.code {R = nat_cmp} coded_ℕ) (coded× (set.code {R = nat_cmp} coded_ℕ)
     (coded× (coded_option coded_ptr) (coded× (map.code {R = nat_cmp} coded_ℕ placement_row.the_row.coded)
-    (coded× coded_ℕ (coded× coded_ℕ (coded_option round_row.the_row.coded))))))))))))))))))
+    (coded× coded_ℕ (coded× coded_ℕ (coded_option round_row.the_row.coded)))))))))))))))))))
 
 -- a state is coded as its fields are
 abbrev pub coded_zone : Coded ZoneState
 coded_zone = code_by Fields coded_fields
-    (λ z. (z.number, (z.blocks, (z.spaces, (z.vpages, (z.page_size, (z.records, (z.room, (z.unmovable, (z.marked, (z.apart, (z.claimed, (z.handed_out, (z.contents, (z.lent, (z.memory, (z.placement, (z.migrate, (z.free, z.round)))))))))))))))))))
+    (λ z. (z.number, (z.blocks, (z.spaces, (z.vpages, (z.page_size, (z.records, (z.room, (z.unmovable, (z.marked, (z.apart, (z.claimed, (z.handed_out, (z.contents, (z.lent, (z.lent_pages, (z.memory, (z.placement, (z.migrate, (z.free, z.round))))))))))))))))))))
     (λ p. record {
       number = p.0;
       blocks = p.1.0;
@@ -44,10 +44,11 @@ coded_zone = code_by Fields coded_fields
       handed_out = p.1.1.1.1.1.1.1.1.1.1.1.0;
       contents = p.1.1.1.1.1.1.1.1.1.1.1.1.0;
       lent = p.1.1.1.1.1.1.1.1.1.1.1.1.1.0;
-      memory = p.1.1.1.1.1.1.1.1.1.1.1.1.1.1.0;
-      placement = p.1.1.1.1.1.1.1.1.1.1.1.1.1.1.1.0;
-      migrate = p.1.1.1.1.1.1.1.1.1.1.1.1.1.1.1.1.0;
-      free = p.1.1.1.1.1.1.1.1.1.1.1.1.1.1.1.1.1.0;
-      round = p.1.1.1.1.1.1.1.1.1.1.1.1.1.1.1.1.1.1;
+      lent_pages = p.1.1.1.1.1.1.1.1.1.1.1.1.1.1.0;
+      memory = p.1.1.1.1.1.1.1.1.1.1.1.1.1.1.1.0;
+      placement = p.1.1.1.1.1.1.1.1.1.1.1.1.1.1.1.1.0;
+      migrate = p.1.1.1.1.1.1.1.1.1.1.1.1.1.1.1.1.1.0;
+      free = p.1.1.1.1.1.1.1.1.1.1.1.1.1.1.1.1.1.1.0;
+      round = p.1.1.1.1.1.1.1.1.1.1.1.1.1.1.1.1.1.1.1;
     })
     (λ _. refl)

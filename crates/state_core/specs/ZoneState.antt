@@ -46,6 +46,8 @@ pub record ZoneState : Type 0 where
   pub contents : map.FinMap nat_cmp (List ℕ)
   -- the first frames of the blocks whose words are lent; the words of such a block are those that it had
   pub lent : set.FinSet nat_cmp
+  -- the pages whose words are lent; the words of such a page are those that it had
+  pub lent_pages : set.FinSet nat_cmp
   -- where the words of frame 0 begin, if the zone lies in memory of its caller; only such a zone lends words
   pub memory : Option Ptr
   -- where each page in use is

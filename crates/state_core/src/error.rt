@@ -47,7 +47,7 @@ pub enum ZoneError {
     Marked,
     /// The pageblock is not marked.
     NotMarked,
-    /// The words of the block are lent.
+    /// The words of the block or page are lent.
     Lent,
     /// The zone lies in memory of its own.
     OwnMemory,
@@ -103,7 +103,7 @@ impl ZoneError {
             ZoneError::Out => "a page is moving",
             ZoneError::Marked => "the pageblock is marked already",
             ZoneError::NotMarked => "the pageblock is not marked",
-            ZoneError::Lent => "the words of the block are lent",
+            ZoneError::Lent => "the words are lent",
             ZoneError::OwnMemory => "the zone lies in memory of its own",
         }
     }

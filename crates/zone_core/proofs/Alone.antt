@@ -30,7 +30,7 @@ same_begun v z same = with_fingers v (round_begun z) same
 
 -- a zone whose round has just begun is the same
 begun_same : (z : ZoneState) → IsSame z (round_begun z)
-begun_same z = record { number = refl; blocks = refl; spaces = refl; vpages = refl; page_size = refl; placement = refl; unmovable = refl; marked = refl; apart = refl; claimed = refl; handed_out = refl; contents = refl; lent = refl; memory = refl; records = refl; length_is = refl; back = refl; out_is = refl; room = refl }
+begun_same z = record { number = refl; blocks = refl; spaces = refl; vpages = refl; page_size = refl; placement = refl; unmovable = refl; marked = refl; apart = refl; claimed = refl; handed_out = refl; contents = refl; lent = refl; lent_pages = refl; memory = refl; records = refl; length_is = refl; back = refl; out_is = refl; room = refl }
 
 module _ (start : ZoneState) where
   -- the round begins where no page of it was isolated, and its scanner goes on where one was

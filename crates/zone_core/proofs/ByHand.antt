@@ -126,6 +126,7 @@ same_outcome z w at_z at_w none_z none_w backs e =
       handed_out = ap (λ (r : Outcome). r.handed_out) e;
       contents = ap (λ (r : Outcome). r.contents) e;
       lent = ap (λ (r : Outcome). r.lent) e;
+      lent_pages = ap (λ (r : Outcome). r.lent_pages) e;
       memory = ap (λ (r : Outcome). r.memory) e;
       placement = map.same_map nat_cmp_total map.nat_cmp-IsAntisymmetric z.placement w.placement
           (λ q. same_place (map.get z.placement q) (map.get w.placement q) (at_z q (omega arith)) (at_w q (omega arith)) (ap (λ (r : Outcome). r.frame q) e));

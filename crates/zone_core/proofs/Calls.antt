@@ -16,7 +16,7 @@ use Rattle.state_core.specs.declared.error.ZoneError.TheVariants.{JournalFull, O
 use Rattle.state_core.specs.declared.information.Look.TheVariants as look
 use Rattle.state_core.specs.declared.placement.Placement.{Placement}
 use Rattle.state_core.specs.declared.placement.Placement.TheVariants.{At, Moving}
-use Rattle.state_core.specs.Access.{placement_refusal, access_refusal, value_at}
+use Rattle.state_core.specs.Access.{is_page_lent, placement_refusal, access_refusal, value_at}
 use Rattle.state_core.specs.Calls.{refusal_of, answer_of, after, record_of}
 use Rattle.state_core.specs.Contents.{contents_refusal, contents_from, contents_written}
 use Rattle.state_core.specs.HandingOut.{has_block, is_order, lowest_run, take_order_refusal, give_order_refusal, block_taken, block_given}
@@ -38,8 +38,11 @@ module _ (z w : ZoneState) (same : IsSame z w) where
 
   -- loads and stores
 
+  lent_agrees : (a : Address) → is_page_lent z a ≡ is_page_lent w a
+  lent_agrees a = λ i. set.contains (same.lent_pages i) (number_same z w same a i)
+
   access_agrees : (a : Address) → access_refusal z a ≡ access_refusal w a
-  access_agrees a = λ i. cond (not (room_same z w same i)) (Some JournalFull) (placement_refusal (place_same z w same a i))
+  access_agrees a = λ i. cond (not (room_same z w same i)) (Some JournalFull) (option_or (placement_refusal (place_same z w same a i)) (cond (lent_agrees a i) (Some Lent) None))
 
   value_agrees : (a : Address) (word : ℕ) → value_at z a word ≡ value_at w a word
   value_agrees a word = ap (λ (page : ℕ). last z.records page word) (number_same z w same a) ∙ last_same z w same (unwrap_or (page_at w.records a) 0) word
@@ -97,7 +100,7 @@ module _ (z w : ZoneState) (same : IsSame z w) where
   unpin_agrees : (a : Address) → unpin_refusal z a ≡ unpin_refusal w a
   unpin_agrees a = λ i.
       cond (not (room_same z w same i)) (Some JournalFull)
-      (cond (is_none (page_same z w same a i)) (Some Unmapped) (cond (nat_eq (pins_agrees a i) 0) (Some NotPinned) None))
+      (cond (is_none (page_same z w same a i)) (Some Unmapped) (cond (nat_eq (pins_agrees a i) 0) (Some NotPinned) (cond (nat_eq (pins_agrees a i) 1 && lent_agrees a i) (Some Lent) None)))
 
   -- unmaps
 

@@ -30,6 +30,7 @@ module _ (z w : ZoneState) (rest_z : IsAtRest z) (rest_w : IsAtRest w) (same : I
     handed_out = same.handed_out i;
     contents = same.contents i;
     lent = same.lent i;
+    lent_pages = same.lent_pages i;
     memory = same.memory i;
     frame = λ page. final_frame (map.get (same.placement i) page);
     migrate = 0;

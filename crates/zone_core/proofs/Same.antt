@@ -20,10 +20,10 @@ use Rattle.zone_core.proofs.Records.{page_at-without_ends, pins-without_ends, la
 module _ (z w : ZoneState) (same : IsSame z w) where
   -- all but the records, the fingers, and how the latest round began
   abbrev pub there : ZoneState
-  there = record z { number = w.number; blocks = w.blocks; spaces = w.spaces; vpages = w.vpages; page_size = w.page_size; room = w.room; unmovable = w.unmovable; marked = w.marked; apart = w.apart; claimed = w.claimed; handed_out = w.handed_out; contents = w.contents; lent = w.lent; memory = w.memory; placement = w.placement }
+  there = record z { number = w.number; blocks = w.blocks; spaces = w.spaces; vpages = w.vpages; page_size = w.page_size; room = w.room; unmovable = w.unmovable; marked = w.marked; apart = w.apart; claimed = w.claimed; handed_out = w.handed_out; contents = w.contents; lent = w.lent; lent_pages = w.lent_pages; memory = w.memory; placement = w.placement }
 
   pub line : z ≡ there
-  line = λ i. record z { number = same.number i; blocks = same.blocks i; spaces = same.spaces i; vpages = same.vpages i; page_size = same.page_size i; room = same.room i; unmovable = same.unmovable i; marked = same.marked i; apart = same.apart i; claimed = same.claimed i; handed_out = same.handed_out i; contents = same.contents i; lent = same.lent i; memory = same.memory i; placement = same.placement i }
+  line = λ i. record z { number = same.number i; blocks = same.blocks i; spaces = same.spaces i; vpages = same.vpages i; page_size = same.page_size i; room = same.room i; unmovable = same.unmovable i; marked = same.marked i; apart = same.apart i; claimed = same.claimed i; handed_out = same.handed_out i; contents = same.contents i; lent = same.lent i; lent_pages = same.lent_pages i; memory = same.memory i; placement = same.placement i }
 
   -- what the records say
   pub page_same : (a : Address) → page_at z.records a ≡ page_at w.records a
@@ -86,6 +86,7 @@ module _ (z w : ZoneState) (same : IsSame z w) where
     handed_out = same.handed_out;
     contents = same.contents;
     lent = same.lent;
+    lent_pages = same.lent_pages;
     memory = same.memory;
     records = records;
     length_is = ap suc same.length_is;
@@ -112,6 +113,7 @@ module _ (z w : ZoneState) (same : IsSame z w) where
       handed_out = handed_out;
       contents = contents;
       lent = same.lent;
+      lent_pages = same.lent_pages;
       memory = same.memory;
       records = same.records;
       length_is = same.length_is;

@@ -44,6 +44,7 @@ pub record Outcome : Type 0 where
   pub handed_out : map.FinMap nat_cmp ℕ
   pub contents : map.FinMap nat_cmp (List ℕ)
   pub lent : set.FinSet nat_cmp
+  pub lent_pages : set.FinSet nat_cmp
   pub memory : Option Ptr
   pub frame : ℕ → Option ℕ
   pub migrate : ℕ
@@ -68,6 +69,7 @@ outcome_of z = record {
   handed_out = z.handed_out;
   contents = z.contents;
   lent = z.lent;
+  lent_pages = z.lent_pages;
   memory = z.memory;
   frame = λ page. final_frame (map.get z.placement page);
   migrate = z.migrate;
@@ -92,6 +94,7 @@ pub record IsSame (z w : ZoneState) : Type 0 where
   pub handed_out : z.handed_out ≡ w.handed_out
   pub contents : z.contents ≡ w.contents
   pub lent : z.lent ≡ w.lent
+  pub lent_pages : z.lent_pages ≡ w.lent_pages
   pub memory : z.memory ≡ w.memory
   -- the same calls in the same order, and as many moves that ended either way
   pub records : without_ends z.records ≡ without_ends w.records

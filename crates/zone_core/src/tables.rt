@@ -35,7 +35,7 @@ impl<const W: usize, I: Ledger, M: Ledger, B: Ledger> Zone<W, I, M, B> {
     /// that it left has them.
     pub fn words(&self) -> &WordsOf<W>
         ensures words { WordsFit result.now.rows self.now }
-        ensures lent { LentFit result.now.lent self.now.handed_out self.now.lent }
+        ensures lent { LentFit result.now.lent self.now.handed_out self.now.lent self.now.placement self.now.lent_pages }
         ensures frames { length result.now.rows ≡ frame_count self.now }
         // `Words::load` answers the value that was stored last in this word of the page, or 0.
         ensures last { (page : ℕ) (placement : Placement) (word : ℕ) → map.get self.now.placement page ≡ Some placement

@@ -1,5 +1,5 @@
 -- A page that rests in a frame goes to a free one at once: the tables still stand for the zone.
-use Rattle.std.proofs.Common.{◌≡◌, ◌≢◌, ℕ, ◌+◌, ◌-◌, ◌<◌, ◌≤◌, ◌^◌, true, false, List, ◌∷◌, length, inl, inr, refl, sym, ap, subst, ◌∙◌, arith}
+use Rattle.std.proofs.Common.{◌≡◌, ◌≢◌, ℕ, ◌*◌, ◌+◌, ◌-◌, ◌<◌, ◌≤◌, ◌^◌, true, false, List, ◌∷◌, length, inl, inr, refl, sym, ap, subst, ◌∙◌, arith}
 use Rattle.std.specs.Prelude.{Option, Some, None, is_some, slice_get, slice_set, ◌&&◌}
 use Rattle.std.specs.Option.{option_and_then}
 use Rattle.std.specs.FinMap as map
@@ -45,13 +45,16 @@ use Rattle.zone_tables.specs.Tabulated.{tabulated}
 use Rattle.zone_tables.specs.Contents.{contents_at, memory_of}
 use Rattle.zone_tables.proofs.Facts.{held_by, is_sound}
 use Rattle.zone_tables.proofs.HeldWords.{contents_kept, held_contents}
-use Rattle.zone_tables.proofs.LentBlocks.{free_here, words_here}
+use Rattle.zone_tables.proofs.LentBlocks.{free_here, free_unlent, words_here}
+use Rattle.zone_tables.proofs.LentPages.{pages_put, rests_here}
 use Rattle.zone_tables.proofs.ListedAddresses.{names_of, none_listed, page_rests}
 use Rattle.zone_tables.proofs.MoveEnds.{kept_movable, moved_frames, moved_words, still_free}
 use Rattle.zone_tables.proofs.NotedPages.{placements_put, unmovable_kept}
 use Rattle.zone_tables.proofs.UnmovablePages.{movable_only, unmovable_moved}
-use Rattle.zone_tables.proofs.Placement.{FramesPlaced, GetsPlace, LeavesOthers, MovablePlaced, WordsPlaced, frames_fit, movable_fit, notes_fit, words_fit}
+use Rattle.zone_tables.proofs.Placement.{lent_fit, FramesPlaced, GetsPlace, LeavesOthers, MovablePlaced, WordsPlaced, frames_fit, movable_fit, notes_fit, words_fit}
 use Rattle.zone_tables.proofs.Relocation.{ReplacesInRange, WordsSettled, entries_settled}
+use Rattle.frame_core.specs.FrameSet.{has_frame}
+use Rattle.zone_tables.specs.LentPages.{pages_lent}
 use Rattle.zone_tables.proofs.SearchesAndCounts.{free_seen, get_placements}
 
 -- an entry that becomes another one, and then a third, becomes the third
@@ -82,7 +85,7 @@ module _ {W : ℕ} {z : Inside W} {v : ZoneState} (view : state_of z ≡ v) (inv
   target_row = omega (arith, is.within, sound.words.count)
 
   pub source_here : IsHere z.words m.source 1
-  source_here = words_here z v sound m.page (At m.source) is.here
+  source_here = words_here z v sound m.page (At m.source) is.here (can_settle v m sound.valid is).here
 
   pub target_here : IsHere z.words m.target 1
   target_here = free_here z v sound m.target (target_free v m sound.valid is)
@@ -253,6 +256,16 @@ module _ {W : ℕ} {z changed : Inside W} {v : ZoneState} {m : Move} {note : Pag
         each = λ a range. entries.each a range ∙ ap (λ (p : map.FinMap nat_cmp Placement). entry_for (option_and_then (map.get p) (page_at v.records a))) (sym forgotten);
       }
 
+  -- the words of the page aren't lent, and its new frame isn't
+  back : set.contains v.lent_pages m.page ≡ false
+  back = (can_settle v m known.sound.valid known.may_move).here
+
+  vacant : (frame : ℕ) → Some (At m.target) ≡ Some (At frame) → has_frame z.words.lent frame ≡ false
+  vacant frame at = let here : m.target ≡ frame = cc in ap (has_frame z.words.lent) (sym here) ∙ free_unlent z v known.sound m.target (target_free v m known.sound.valid known.may_move)
+
+  rested : (frame : ℕ) → map.get (state_of z).placement m.page ≡ Some (At frame) → has_frame z.words.lent frame ≡ false
+  rested frame at = known.sound.lent.of_page m.page frame (sym (ap (λ (u : ZoneState). map.get u.placement m.page) known.view) ∙ at) ∙ back
+
   pub leaving_sound : IsSound changed after
   leaving_sound =
       let sound = known.sound in
@@ -272,7 +285,7 @@ module _ {W : ℕ} {z changed : Inside W} {v : ZoneState} {m : Move} {note : Pag
             (unmovable_moved v after m.page z.frames.unmovable sound.unmovable refl (λ q ne. refl) (others_same v m) fixed fixed);
         entries = entries_fit;
         words = words_fit v after m.page old new gets z.words.rows changed.words.rows sound.words words_placed leaves;
-        lent = subst (λ (w : Words). LentFit w.lent v.handed_out v.lent) (sym known.words) sound.lent;
+        lent = subst (λ (w : Words). LentFit w.lent v.handed_out v.lent after.placement v.lent_pages) (sym known.words) (lent_fit v after m.page old new gets z.words.lent sound.lent back vacant);
         notes = subst (λ (ns : List PageNote). NotesFit ns after) (sym known.notes) (notes_fit v after m.page old new gets z.notes left_note note_within sound.notes (λ used. note_fits) leaves);
         moves = moves_fit;
       }
@@ -289,6 +302,11 @@ module _ {W : ℕ} {z changed : Inside W} {v : ZoneState} {m : Move} {note : Pag
   contents_same =
       (λ i. tabulated (contents_at W (known.words i).rows (known.rest_same i).cleared (known.rest_same i).handed_out) (length (known.rest_same i).handed_out))
       ∙ contents_kept z v known.sound known.view m.target (words_of z.words.rows m.source) (unheld_frame v m.target (target_free v m known.sound.valid known.may_move))
+
+  pages_new : (state_of changed).lent_pages ≡ (state_of z).lent_pages
+  pages_new =
+      (λ i. pages_lent (known.words i).lent (placement_new i) (512 * (known.rest_same i).size.blocks))
+      ∙ pages_put z.words.lent (state_of z).placement (512 * z.size.blocks) m.page (Some (At m.target)) (rests_here z.words.lent _ rested) (rests_here z.words.lent (Some (At m.target)) vacant)
 
   -- a state after the page went, with its new place alone
   abbrev gone : ZoneState → ZoneState
@@ -317,6 +335,7 @@ module _ {W : ℕ} {z changed : Inside W} {v : ZoneState} {m : Move} {note : Pag
         handed_out = tabulated (order_of (known.rest_same i).handed_out) (length (known.rest_same i).handed_out);
         contents = contents_same i;
         lent = gathered (is_lent_at (known.words i).lent (known.rest_same i).handed_out) (length (known.rest_same i).handed_out);
+        lent_pages = pages_new i;
         memory = memory_of (known.words i);
         placement = placement_new i;
         migrate = (known.rest_same i).fingers.migrate;

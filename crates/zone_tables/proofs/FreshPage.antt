@@ -1,5 +1,5 @@
 -- A fresh page in a free frame: the tables still stand for the zone.
-use Rattle.std.proofs.Common.{◌≡◌, ◌≢◌, ℕ, ◌/◌, ◌<◌, Bool, true, false, not, List, length, inl, inr, refl, sym, ap, ◌∙◌, arith}
+use Rattle.std.proofs.Common.{◌≡◌, ◌≢◌, ℕ, ◌*◌, ◌/◌, ◌<◌, Bool, true, false, not, List, length, inl, inr, refl, sym, ap, ◌∙◌, arith}
 use Rattle.std.specs.Prelude.{Option, Some, None, is_some, slice_get, slice_set, nat_eq, ◌&&◌, if◌then◌else◌}
 use Rattle.std.specs.Option.{option_and_then}
 use Rattle.std.specs.FinMap as map
@@ -42,8 +42,14 @@ use Rattle.state_core.proofs.Placed.{CanPlace, untrue, clash, placed_valid, at_p
 use Rattle.zone_tables.proofs.Entries.{entries_changed, placement_same}
 use Rattle.zone_tables.proofs.NotedPages.{unmovable_kept, placements_put, unmovable_put}
 use Rattle.zone_tables.proofs.UnmovablePages.{unmovable_come}
-use Rattle.zone_tables.proofs.Placement.{GetsPlace, LeavesOthers, frames_fit, movable_fit, words_fit, notes_fit}
+use Rattle.zone_tables.proofs.Placement.{lent_fit, GetsPlace, LeavesOthers, frames_fit, movable_fit, words_fit, notes_fit}
 use Rattle.zone_tables.proofs.Facts.{Becomes, becomes}
+use Rattle.frame_core.specs.FrameSet.{has_frame}
+use Rattle.zone_tables.specs.LentPages.{pages_lent, rests_lent}
+use Rattle.zone_tables.proofs.LentBlocks.{free_unlent}
+use Rattle.zone_tables.proofs.LentPages.{pages_put, rests_here}
+use Rattle.state_core.proofs.Mapping.{can_map}
+use Rattle.zone_tables.specs.Tabulated.{tabulated}
 use Rattle.scan_core.specs.Frames.{Frames}
 
 -- the note of the fresh page
@@ -186,6 +192,10 @@ module _ {W : ℕ} (z : Inside W) (v : ZoneState) (client : ℕ) (address : Addr
   abbrev notes_new : List PageNote
   notes_new = slice_set z.notes page (fresh_note unmovable frame)
 
+  -- the frame of the fresh page isn't lent, and it was in none before
+  vacant : (g : ℕ) → Some (At frame) ≡ Some (At g) → has_frame z.words.lent g ≡ false
+  vacant g at = let is : frame ≡ g = cc in ap (has_frame z.words.lent) (sym is) ∙ free_unlent z v known.sound frame known.can.free
+
   place_sound : IsSound (after_place z unmovable page frame tables history) (placed v client address unmovable page frame)
   place_sound =
       let sound = known.sound in
@@ -194,7 +204,7 @@ module _ {W : ℕ} (z : Inside W) (v : ZoneState) (client : ℕ) (address : Addr
         valid = placed_valid v client address unmovable page frame can;
         orders = sound.orders;
         cleared = sound.cleared;
-        lent = sound.lent;
+        lent = lent_fit v (placed v client address unmovable page frame) page None (Some (At frame)) (gets v client address unmovable page frame can) z.words.lent sound.lent (can_map v client address unmovable page frame can).here vacant;
         tables = known.frames_same ∙ sound.tables;
         size = known.size_same ∙ sound.size;
         marks = sound.marks;
@@ -223,9 +233,12 @@ module _ {W : ℕ} (z : Inside W) (v : ZoneState) (client : ℕ) (address : Addr
   place_view =
       let u = unmovable_new unmovable refl in
       let placed_there = placements_put z.notes page (fresh_note unmovable frame) note_within in
+      let before : rests_lent z.words.lent (map.get (state_of z).placement page) ≡ false = ap (rests_lent z.words.lent) (ap (λ (u : ZoneState). map.get u.placement page) known.view ∙ known.can.unused) in
+      let lent_there : pages_lent z.words.lent (tabulated (placement_of notes_new) (length notes_new)) (512 * z.size.blocks) ≡ (state_of z).lent_pages =
+      (λ i. pages_lent z.words.lent (placed_there i) (512 * z.size.blocks)) ∙ pages_put z.words.lent (state_of z).placement (512 * z.size.blocks) page (Some (At frame)) before (rests_here z.words.lent (Some (At frame)) vacant) in
       let c = contents_kept z v known.sound known.view frame (blank_words W) (unheld_frame v frame known.can.free) in
       let here : state_of (after_place z unmovable page frame tables history) ≡ placed (state_of z) client address unmovable page frame =
-      λ i. record (state_of z) { records = (known.history_is i).records; room = (known.history_is i).room; round = (known.history_is i).round; placement = placed_there i; unmovable = u i; contents = c i } in
+      λ i. record (state_of z) { records = (known.history_is i).records; room = (known.history_is i).room; round = (known.history_is i).round; placement = placed_there i; unmovable = u i; contents = c i; lent_pages = lent_there i } in
       here ∙ ap (λ (s : ZoneState). placed s client address unmovable page frame) known.view
 
   pub place_holds : {frames : Frames} {rows : Words} {notes : List PageNote} →

@@ -1,5 +1,5 @@
 -- The words of blocks that are handed out: which steps leave them, and what the others make of them.
-use Rattle.std.proofs.Common.{◌≡◌, ◌≢◌, ℕ, ◌+◌, ◌-◌, ◌^◌, ◌<◌, ◌≤◌, Bool, true, false, List, [], length, take, drop, get_or, ◌⊎◌, inl, inr, refl, sym, ap, subst, ◌∙◌, arith}
+use Rattle.std.proofs.Common.{◌≡◌, ◌≢◌, ℕ, ◌+◌, ◌-◌, ◌*◌, ◌^◌, ◌<◌, ◌≤◌, Bool, true, false, List, [], length, take, drop, get_or, ◌⊎◌, inl, inr, refl, sym, ap, subst, ◌∙◌, arith}
 use Rattle.std.specs.Prelude.{Option, Some, None, slice_get, slice_set, unwrap_or, if◌then◌else◌}
 use Rattle.std.specs.FinMap as map
 use Rattle.std.specs.FinSet as set
@@ -27,6 +27,7 @@ use Rattle.frame_core.specs.LentWords.{LentStays, Words}
 use Rattle.scan_core.specs.NumberSet.{gathered}
 use Rattle.zone_tables.specs.Fits.{LentFit}
 use Rattle.zone_tables.specs.HandedOut.{order_of, is_lent_at}
+use Rattle.zone_tables.specs.LentPages.{pages_lent}
 use Rattle.zone_tables.specs.Sound.{IsSound, state_of}
 use Rattle.zone_tables.specs.Tabulated.{tabulated}
 use Rattle.zone_tables.specs.declared.zone.ZoneTables.TheInside.{Inside}
@@ -176,7 +177,7 @@ module _ {W : ℕ} (z : Inside W) (v : ZoneState) (sound : IsSound z v) (view : 
       block_view =
           let table = tabulated_put (contents_at W z.words.rows z.cleared z.handed_out) (contents_at W rows flags z.handed_out) (length z.handed_out) first (Some words)
           (contents_past W z.words.rows z.cleared z.handed_out) (contents_past W rows flags z.handed_out) contents_here contents_there in
-          let here : state_of after_block ≡ record (state_of z) { contents = map.insert (state_of z).contents first words } = λ i. record (state_of z) { contents = table i; lent = gathered (is_lent_at (stays.1 i) z.handed_out) (length z.handed_out); memory = if stays.2 i then Some (stays.0 i) else None } in
+          let here : state_of after_block ≡ record (state_of z) { contents = map.insert (state_of z).contents first words } = λ i. record (state_of z) { contents = table i; lent = gathered (is_lent_at (stays.1 i) z.handed_out) (length z.handed_out); lent_pages = pages_lent (stays.1 i) (state_of z).placement (512 * z.size.blocks); memory = if stays.2 i then Some (stays.0 i) else None } in
           here ∙ ap (λ (s : ZoneState). record s { contents = map.insert s.contents first words }) view
 
       -- the frame with the words of a page is in no block
@@ -206,7 +207,7 @@ module _ {W : ℕ} (z : Inside W) (v : ZoneState) (sound : IsSound z v) (view : 
           sized = λ frame h. ap length (unwrap_or-slice_get rows frame []) ∙ sized frame [] (omega (arith, h, has.count, sound.words.count)) ∙ ap (λ (u : ZoneState). u.page_size) view;
           each = λ page placement word e h. ap (λ (ws : List ℕ). slice_get ws word) (words_kept has (words_frame placement) (page_off page placement e)) ∙ sound.words.each page placement word e h;
         };
-        lent = subst (λ (l : List Bool). LentFit l v.handed_out v.lent) (sym stays.1) sound.lent;
+        lent = subst (λ (l : List Bool). LentFit l v.handed_out v.lent v.placement v.lent_pages) (sym stays.1) sound.lent;
         notes = record { count = sound.notes.count; each = λ page note e used. (let fit = sound.notes.each page note e used in record { dirty = fit.dirty; pins = fit.pins; maps = fit.maps }) };
         moves = record { isolated = sound.moves.isolated; moved = sound.moves.moved; back = sound.moves.back };
         movable = record { count = sound.movable.count; each = sound.movable.each };

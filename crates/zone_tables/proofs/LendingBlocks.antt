@@ -19,6 +19,7 @@ use Rattle.scan_core.specs.Frames.{true_at}
 use Rattle.scan_core.specs.NumberSet.{gathered}
 use Rattle.state_core.specs.Contents.{contents_of}
 use Rattle.state_core.specs.Lending.{block_place, block_returned}
+use Rattle.state_core.specs.declared.placement.Placement.TheVariants.{At}
 use Rattle.state_core.specs.Valid.{IsValidZone}
 use Rattle.state_core.specs.ZoneState.{ZoneState, covers}
 use Rattle.state_core.proofs.Contents.{length_contents, valid_contents_written}
@@ -28,31 +29,34 @@ use Rattle.state_core.proofs.Lending.{valid_block_returned}
 use Rattle.zone_tables.specs.Contents.{contents_at, memory_of, words_held}
 use Rattle.zone_tables.specs.Fits.{LentFit, WordsFit}
 use Rattle.zone_tables.specs.HandedOut.{order_of, is_lent_at}
+use Rattle.zone_tables.specs.LentPages.{pages_lent}
 use Rattle.zone_tables.specs.Sound.{IsSound, state_of}
 use Rattle.zone_tables.specs.Tabulated.{tabulated}
 use Rattle.zone_tables.specs.declared.zone.ZoneTables.TheInside.{Inside}
 use Rattle.zone_tables.proofs.BlockWords.{put_whole}
 use Rattle.zone_tables.proofs.Facts.{Becomes, becomes}
+use Rattle.zone_tables.proofs.LentBlocks.{off_blocks}
+use Rattle.zone_tables.proofs.LentPages.{rests_same}
 use Rattle.zone_tables.proofs.HeldWords.{block_sound, block_view, blocks_apart, held_contents, off_block, order_at, order_is}
 use Rattle.zone_tables.proofs.SearchesAndCounts.{order_past}
-use Rattle.zone_tables.proofs.Tabulating.{gathered_put}
+use Rattle.zone_tables.proofs.Tabulating.{gathered_put, gathered_same}
 
--- the blocks whose words are away, where those of one of them go or come
+-- the numbers of what is away, where one of them goes or comes
 abbrev pub away_then : set.FinSet nat_cmp → ℕ → Bool → set.FinSet nat_cmp
-away_then lent first goes = if goes then set.insert lent first else set.remove lent first
+away_then away number goes = if goes then set.insert away number else set.remove away number
+
+pub away_here : (away : set.FinSet nat_cmp) (number : ℕ) (goes : Bool) → set.contains (away_then away number goes) number ≡ goes
+away_here away number true = contains_insert_same away number number refl
+away_here away number false = contains_remove_same away number number refl
+
+pub away_there : (away : set.FinSet nat_cmp) (number : ℕ) (goes : Bool) (q : ℕ) → q ≢ number → set.contains (away_then away number goes) q ≡ set.contains away q
+away_there away number true q ne = contains_insert_other away number q ne
+away_there away number false q ne = contains_remove_other away number q ne
 
 module _ {W : ℕ} (z : Inside W) (v : ZoneState) (sound : IsSound z v) (view : state_of z ≡ v) (first order : ℕ) (at : map.get v.handed_out first ≡ Some order) (given : Words) (rows : given.rows ≡ z.words.rows) (place : (given.at ≡ z.words.at) × (given.given ≡ z.words.given)) (goes : Bool) (now : HasNow z.words.lent given.lent first (2 ^ order) goes) where
   -- the fields after that
   abbrev after : Inside W
   after = record z { words = given }
-
-  this_block : (goes : Bool) → set.contains (away_then v.lent first goes) first ≡ goes
-  this_block true = contains_insert_same v.lent first first refl
-  this_block false = contains_remove_same v.lent first first refl
-
-  other_block : (goes : Bool) (q : ℕ) → q ≢ first → set.contains (away_then v.lent first goes) q ≡ set.contains v.lent q
-  other_block true q ne = contains_insert_other v.lent first q ne
-  other_block false q ne = contains_remove_other v.lent first q ne
 
   -- a frame of another block is lent if it was
   other_frame : (q o frame : ℕ) → map.get v.handed_out q ≡ Some o → q ≢ first → q ≤ frame → frame < q + 2 ^ o → has_frame given.lent frame ≡ has_frame z.words.lent frame
@@ -61,19 +65,24 @@ module _ {W : ℕ} (z : Inside W) (v : ZoneState) (sound : IsSound z v) (view : 
     | inr above ↦ now.others frame (inr (omega (arith, above, least)))
   ]
 
-  lent_fit : LentFit given.lent v.handed_out (away_then v.lent first goes)
+  -- the frame of a page is lent if it was
+  page_frame : (page frame : ℕ) → map.get v.placement page ≡ Some (At frame) → has_frame given.lent frame ≡ has_frame z.words.lent frame
+  page_frame page frame rests = now.others frame (off_block first order frame (off_blocks z v sound page frame rests first order at))
+
+  lent_fit : LentFit given.lent v.handed_out (away_then v.lent first goes) v.placement v.lent_pages
   lent_fit = record {
     of_block = λ q o held frame least most. elim (eqb_tells q first) [
       | inl same ↦
           (let two : Some order ≡ Some o = sym at ∙ ap (map.get v.handed_out) (sym same.1) ∙ held in
           let which : order ≡ o = cc in
           now.each frame (omega (arith, least, same.1)) (omega (arith, most, same.1, ap (λ (k : ℕ). 2 ^ k) which))
-          ∙ sym (ap (set.contains (away_then v.lent first goes)) same.1 ∙ this_block goes))
-      | inr other ↦ other_frame q o frame held other.1 least most ∙ sound.lent.of_block q o held frame least most ∙ sym (other_block goes q other.1)
+          ∙ sym (ap (set.contains (away_then v.lent first goes)) same.1 ∙ away_here v.lent first goes))
+      | inr other ↦ other_frame q o frame held other.1 least most ∙ sound.lent.of_block q o held frame least most ∙ sym (away_there v.lent first goes q other.1)
     ];
-    others = λ frame off. elim (cases_Bool (in_block first order frame)) [
+    of_page = λ page frame rests. page_frame page frame rests ∙ sound.lent.of_page page frame rests;
+    others = λ frame off none. elim (cases_Bool (in_block first order frame)) [
       | inl here ↦ absurd (both_ways _ (off first) (ap (λ (o : Option ℕ). covers o first frame) at ∙ here))
-      | inr there ↦ now.others frame (off_block first order frame there) ∙ sound.lent.others frame off
+      | inr there ↦ now.others frame (off_block first order frame there) ∙ sound.lent.others frame off none
     ];
   }
 
@@ -88,10 +97,13 @@ module _ {W : ℕ} (z : Inside W) (v : ZoneState) (sound : IsSound z v) (view : 
         by q ne None none = ap (λ (o : Option ℕ). is_some o && has_frame given.lent q) none ∙ sym (ap (λ (o : Option ℕ). is_some o && has_frame z.words.lent q) none)
         by q ne (Some o) held = ap (λ (lent : Bool). is_some (order_of z.handed_out q) && lent) (other_frame q o q (order_is z v sound view q o held) ne (omega arith) (omega (arith, pow_pos o)))
 
+  pages_same : pages_lent given.lent (state_of z).placement (512 * z.size.blocks) ≡ (state_of z).lent_pages
+  pages_same = gathered_same _ _ (512 * z.size.blocks) (λ page. rests_same z.words.lent given.lent (map.get (state_of z).placement page) (λ frame rests. page_frame page frame (sym (ap (λ (u : ZoneState). map.get u.placement page) view) ∙ rests)))
+
   lent_view : state_of after ≡ record v { lent = away_then v.lent first goes }
   lent_view =
       let contents : tabulated (contents_at W given.rows z.cleared z.handed_out) (length z.handed_out) ≡ held_contents z = ap (λ (rs : List (List ℕ)). tabulated (contents_at W rs z.cleared z.handed_out) (length z.handed_out)) rows in
-      let here : state_of after ≡ record (state_of z) { lent = away_then (state_of z).lent first goes } = λ i. record (state_of z) { contents = contents i; lent = lent_put i; memory = if place.1 i then Some (place.0 i) else None } in
+      let here : state_of after ≡ record (state_of z) { lent = away_then (state_of z).lent first goes } = λ i. record (state_of z) { contents = contents i; lent = lent_put i; lent_pages = pages_same i; memory = if place.1 i then Some (place.0 i) else None } in
       here ∙ ap (λ (s : ZoneState). record s { lent = away_then s.lent first goes }) view
 
   lent_sound : (goes ≡ true → true_at z.cleared first ≡ true) → IsValidZone (record v { lent = away_then v.lent first goes }) → IsSound after (record v { lent = away_then v.lent first goes })
@@ -101,8 +113,8 @@ module _ {W : ℕ} (z : Inside W) (v : ZoneState) (sound : IsSound z v) (view : 
     cleared = record {
       count = sound.cleared.count;
       lent = λ q gone. elim (eqb_tells q first) [
-        | inl same ↦ ap (true_at z.cleared) same.1 ∙ noted (sym (ap (set.contains (away_then v.lent first goes)) same.1 ∙ this_block goes) ∙ gone)
-        | inr other ↦ sound.cleared.lent q (sym (other_block goes q other.1) ∙ gone)
+        | inl same ↦ ap (true_at z.cleared) same.1 ∙ noted (sym (ap (set.contains (away_then v.lent first goes)) same.1 ∙ away_here v.lent first goes) ∙ gone)
+        | inr other ↦ sound.cleared.lent q (sym (away_there v.lent first goes q other.1) ∙ gone)
       ];
     };
     marks = sound.marks;

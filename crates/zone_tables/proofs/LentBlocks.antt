@@ -1,51 +1,85 @@
 -- Which frames of a zone are lent.
-use Rattle.std.proofs.Common.{◌≡◌, ℕ, ◌^◌, ◌<◌, Bool, true, false, length, inl, inr, refl, sym, ap, ◌∙◌, arith}
-use Rattle.std.specs.Prelude.{Option, Some, None, IsSome, is_some, slice_set, ◌&&◌}
+use Rattle.std.proofs.Common.{◌≡◌, ◌≢◌, ℕ, ◌*◌, ◌^◌, ◌<◌, Bool, true, false, length, inl, inr, refl, sym, ap, ◌∙◌, arith}
+use Rattle.std.specs.Prelude.{Option, Some, None, IsSome, is_some, nat_eq, slice_set, ◌&&◌}
 use Rattle.std.specs.FinMap as map
 use Rattle.std.specs.FinSet as set
 use Rattle.std.specs.Ordering.{nat_cmp}
-use Rattle.std.proofs.lemmas.Bool.{both_ways, cases_Bool, false_from_ne_true, or_left}
+use Rattle.std.proofs.lemmas.Bool.{both_ways, cases_Bool, eq-eqb, false_from_ne_true, or_left, or_right}
 use Rattle.std.proofs.lemmas.Bool.Decides.{eqb_tells}
 use Rattle.std.proofs.lemmas.List.{length-set}
 use Rattle.std.proofs.lemmas.Nat.{pow_pos}
-use Rattle.frame_core.proofs.Searches.{some_one}
+use Rattle.frame_core.proofs.Searches.{some_none, some_one}
+use Rattle.frame_core.specs.Below.{some_below}
 use Rattle.frame_core.specs.FrameSet.{has_frame}
 use Rattle.frame_core.specs.LentWords.{IsHere}
 use Rattle.scan_core.specs.NumberSet.{gathered}
 use Rattle.state_core.specs.HandingOut.{is_run, block_taken, block_given}
 use Rattle.state_core.specs.declared.placement.Placement.{Placement}
+use Rattle.state_core.specs.declared.placement.Placement.TheVariants.{At, Moving}
+use Rattle.state_core.specs.Lending.{LendsNone}
+use Rattle.state_core.specs.Pairs.{stands_in}
 use Rattle.state_core.specs.ZoneState.{ZoneState, covers, frame_count, is_free, is_held, is_handed_out, takes_up, words_frame}
 use Rattle.state_core.proofs.Claiming.{handed_by}
 use Rattle.state_core.proofs.Entries.{get_insert_same, get_insert_other, get_remove_same, get_remove_other}
-use Rattle.state_core.proofs.Facts.{takes_own}
+use Rattle.state_core.proofs.Facts.{not_none, takes_own}
 use Rattle.state_core.proofs.HandingOut as blocks
 use Rattle.state_core.proofs.HandingOut.{in_block, in_block_from}
-use Rattle.state_core.proofs.Places.{unheld_frame}
+use Rattle.state_core.proofs.Holding.{at_takes, stands_at}
+use Rattle.state_core.proofs.Places.{unheld_frame, untaken}
 use Rattle.zone_tables.specs.declared.zone.ZoneTables.TheInside.{Inside}
 use Rattle.zone_tables.specs.Fits.{LentFit}
 use Rattle.zone_tables.specs.HandedOut.{order_of, is_lent_at}
+use Rattle.zone_tables.specs.LentPages.{rests_lent}
 use Rattle.zone_tables.specs.Sound.{IsSound, state_of}
 use Rattle.zone_tables.proofs.BlockOrders.{order_there}
 use Rattle.zone_tables.proofs.Tabulating.{gathered_none, gathered_same}
 
 module _ {W : ℕ} (z : Inside W) (v : ZoneState) (sound : IsSound z v) where
-  -- a frame that isn't held is in no block, so that it isn't lent
-  unlent : (frame : ℕ) → is_held v frame ≡ false → has_frame z.words.lent frame ≡ false
-  unlent frame free = sound.lent.others frame (λ first. false_from_ne_true _ (λ covered. both_ways _ free (or_left (is_handed_out v frame) _ (handed_by v sound.valid first frame covered))))
+  -- a frame that isn't held is in no block, so that it isn't lent where no page rests in it
+  unlent : (frame : ℕ) → is_held v frame ≡ false → ((page : ℕ) → map.get v.placement page ≢ Some (At frame)) → has_frame z.words.lent frame ≡ false
+  unlent frame free none = sound.lent.others frame (λ first. false_from_ne_true _ (λ covered. both_ways _ free (or_left (is_handed_out v frame) _ (handed_by v sound.valid first frame covered)))) none
 
-  pub unheld_here : (frame : ℕ) → is_held v frame ≡ false → IsHere z.words frame 1
-  unheld_here frame free f least most = let same : f ≡ frame = omega (arith, least, most) in ap (has_frame z.words.lent) same ∙ unlent frame free
+  pub free_unlent : (frame : ℕ) → is_free v frame ≡ true → has_frame z.words.lent frame ≡ false
+  free_unlent frame free = unlent frame (unheld_frame v frame free) (λ page at. both_ways _ (untaken v sound.valid frame free page) (at_takes _ frame at))
+
+  -- neither frame of a moving page is lent
+  moving_unlent : (page serial source target frame : ℕ) → map.get v.placement page ≡ Some (Moving serial source target) → takes_up (Some (Moving serial source target)) frame ≡ true → has_frame z.words.lent frame ≡ false
+  moving_unlent page serial source target frame at taken =
+      let takes : takes_up (map.get v.placement page) frame ≡ true = ap (λ (o : Option Placement). takes_up o frame) at ∙ taken in
+      unlent frame (sound.valid.pages.clear page frame takes) (λ q rests.
+      (let same : q ≡ page = sound.valid.pages.apart q page frame (at_takes _ frame rests) takes in
+      let two : Some (Moving serial source target) ≡ Some (At frame) = sym at ∙ ap (map.get v.placement) (sym same) ∙ rests in
+      absurd (cc)))
+
+  -- nor is the frame that has the words of a page, where they aren't lent
+  words_unlent : (page : ℕ) (placement : Placement) → map.get v.placement page ≡ Some placement → set.contains v.lent_pages page ≡ false → has_frame z.words.lent (words_frame placement) ≡ false
+  words_unlent page (At frame) at back = sound.lent.of_page page frame at ∙ back
+  words_unlent page (Moving serial source target) at back = moving_unlent page serial source target source at (takes_own (Moving serial source target))
+
+  one_here : (frame : ℕ) → has_frame z.words.lent frame ≡ false → IsHere z.words frame 1
+  one_here frame back f least most = let same : f ≡ frame = omega (arith, least, most) in ap (has_frame z.words.lent) same ∙ back
 
   pub free_here : (frame : ℕ) → is_free v frame ≡ true → IsHere z.words frame 1
-  free_here frame free = unheld_here frame (unheld_frame v frame free)
+  free_here frame free = one_here frame (free_unlent frame free)
 
-  -- no block holds a frame of a page
-  pub page_here : (page frame : ℕ) → takes_up (map.get v.placement page) frame ≡ true → IsHere z.words frame 1
-  page_here page frame taken = unheld_here frame (sound.valid.pages.clear page frame taken)
+  pub source_unlent : (page serial source target : ℕ) → map.get v.placement page ≡ Some (Moving serial source target) → has_frame z.words.lent source ≡ false
+  source_unlent page serial source target at = moving_unlent page serial source target source at (takes_own (Moving serial source target))
 
-  -- so is the frame that has the words of a page
-  pub words_here : (page : ℕ) (placement : Placement) → map.get v.placement page ≡ Some placement → IsHere z.words (words_frame placement) 1
-  words_here page placement at = page_here page (words_frame placement) (ap (λ o. takes_up o (words_frame placement)) at ∙ takes_own placement)
+  pub target_unlent : (page serial source target : ℕ) → map.get v.placement page ≡ Some (Moving serial source target) → has_frame z.words.lent target ≡ false
+  target_unlent page serial source target at = moving_unlent page serial source target target at (or_right (nat_eq target source) _ (eq-eqb target target refl))
+
+  pub source_here : (page serial source target : ℕ) → map.get v.placement page ≡ Some (Moving serial source target) → IsHere z.words source 1
+  source_here page serial source target at = one_here source (source_unlent page serial source target at)
+
+  pub target_here : (page serial source target : ℕ) → map.get v.placement page ≡ Some (Moving serial source target) → IsHere z.words target 1
+  target_here page serial source target at = one_here target (target_unlent page serial source target at)
+
+  pub words_here : (page : ℕ) (placement : Placement) → map.get v.placement page ≡ Some placement → set.contains v.lent_pages page ≡ false → IsHere z.words (words_frame placement) 1
+  words_here page placement at back = one_here (words_frame placement) (words_unlent page placement at back)
+
+  -- a frame in which a page rests is in no block
+  pub off_blocks : (page frame : ℕ) → map.get v.placement page ≡ Some (At frame) → (first order : ℕ) → map.get v.handed_out first ≡ Some order → in_block first order frame ≡ false
+  off_blocks page frame at first order held = false_from_ne_true _ (λ here. both_ways _ (sound.valid.pages.clear page frame (at_takes _ frame at)) (blocks.held_of v sound.valid first order frame held here))
 
   -- the first frame of a block tells whether it is lent
   pub first_tells : (first : ℕ) → IsSome (map.get v.handed_out first) → has_frame z.words.lent first ≡ set.contains v.lent first
@@ -57,36 +91,50 @@ module _ {W : ℕ} (z : Inside W) (v : ZoneState) (sound : IsSound z v) where
   pub block_here : (first order : ℕ) → map.get v.handed_out first ≡ Some order → set.contains v.lent first ≡ false → IsHere z.words first (2 ^ order)
   block_here first order at back frame least most = sound.lent.of_block first order at frame least most ∙ back
 
-  -- where no block is lent, no frame is
-  pub none_lent : v.lent ≡ set.empty → (frame : ℕ) → has_frame z.words.lent frame ≡ false
+  -- where no words are lent, no frame is
+  pub none_lent : LendsNone v → (frame : ℕ) → has_frame z.words.lent frame ≡ false
   none_lent none frame = elim (cases_Bool (is_handed_out v frame)) [
     | inl held ↦ (let at = some_one (λ first. covers (map.get v.handed_out first) first frame) (frame_count v) held in by at.0 (map.get v.handed_out at.0) refl at.2)
-    | inr free ↦ sound.lent.others frame (λ first. false_from_ne_true _ (λ covered. both_ways _ free (handed_by v sound.valid first frame covered)))
+    | inr free ↦ elim (cases_Bool (some_below (λ page. stands_in (map.get v.placement page) frame) (frame_count v))) [
+      | inl rests ↦
+          (let page = some_one (λ page. stands_in (map.get v.placement page) frame) (frame_count v) rests in
+          sound.lent.of_page page.0 frame (stands_at _ frame page.2) ∙ ap (λ (lent : set.FinSet nat_cmp). set.contains lent page.0) none.1 ∙ set.contains-empty nat_cmp page.0)
+      | inr empty ↦ sound.lent.others frame (λ first. false_from_ne_true _ (λ covered. both_ways _ free (handed_by v sound.valid first frame covered)))
+          (λ page at. both_ways _ (some_none (λ q. stands_in (map.get v.placement q) frame) (frame_count v) empty page (sound.valid.pages.numbered page (not_none _ _ at)))
+          (ap (λ (o : Option Placement). stands_in o frame) at ∙ eq-eqb frame frame refl))
+    ]
   ] where
     by : (first : ℕ) (o : Option ℕ) → map.get v.handed_out first ≡ o → covers (map.get v.handed_out first) first frame ≡ true → has_frame z.words.lent frame ≡ false
     by first None at covered = absurd (both_ways _ (ap (λ (o : Option ℕ). covers o first frame) at) covered)
     by first (Some order) at covered =
         (let parts = blocks.in_block_parts first order frame (sym (ap (λ (o : Option ℕ). covers o first frame) at) ∙ covered) in
-        sound.lent.of_block first order at frame parts.0 parts.1 ∙ ap (λ (lent : set.FinSet nat_cmp). set.contains lent first) none ∙ set.contains-empty nat_cmp first)
+        sound.lent.of_block first order at frame parts.0 parts.1 ∙ ap (λ (lent : set.FinSet nat_cmp). set.contains lent first) none.0 ∙ set.contains-empty nat_cmp first)
 
--- where no frame is lent, no block is
-pub no_block_lent : {W : ℕ} (z : Inside W) (v : ZoneState) → state_of z ≡ v → ((frame : ℕ) → has_frame z.words.lent frame ≡ false) → v.lent ≡ set.empty
-no_block_lent z v view none =
-    ap (λ (u : ZoneState). u.lent) (sym view) ∙ gathered_none (is_lent_at z.words.lent z.handed_out) (length z.handed_out) (λ q. both (is_some (order_of z.handed_out q)) (none q))
+-- where no frame is lent, no words are
+pub lends_none : {W : ℕ} (z : Inside W) (v : ZoneState) → state_of z ≡ v → ((frame : ℕ) → has_frame z.words.lent frame ≡ false) → LendsNone v
+lends_none z v view none = (
+  ap (λ (u : ZoneState). u.lent) (sym view) ∙ gathered_none (is_lent_at z.words.lent z.handed_out) (length z.handed_out) (λ q. both (is_some (order_of z.handed_out q)) (none q)),
+  ap (λ (u : ZoneState). u.lent_pages) (sym view) ∙ gathered_none (λ page. rests_lent z.words.lent (map.get (state_of z).placement page)) (512 * z.size.blocks) (λ page. rests (map.get (state_of z).placement page)),
+)
   where
     both : (b : Bool) {c : Bool} → c ≡ false → (b && c) ≡ false
     both true is = is
     both false is = refl
 
+    rests : (o : Option Placement) → rests_lent z.words.lent o ≡ false
+    rests None = refl
+    rests (Some (At frame)) = none frame
+    rests (Some (Moving serial source target)) = refl
+
 -- a free block is handed out: none of it is lent
 module _ {W : ℕ} (z : Inside W) (v : ZoneState) (sound : IsSound z v) (view : state_of z ≡ v) (first order : ℕ) (run : is_run v order first ≡ true) where
   block_unlent : (frame : ℕ) → in_block first order frame ≡ true → has_frame z.words.lent frame ≡ false
-  block_unlent frame here = unlent z v sound frame (unheld_frame v frame (blocks.block_free v first order run frame here))
+  block_unlent frame here = free_unlent z v sound frame (blocks.block_free v first order run frame here)
 
   pub first_unlent : set.contains v.lent first ≡ false
   first_unlent = false_from_ne_true _ (λ gone. both_ways _ (ap is_some (blocks.not_handed_out v first order run)) (sound.valid.blocks.lent first gone))
 
-  pub taken_fit : LentFit z.words.lent (block_taken v first order).handed_out v.lent
+  pub taken_fit : LentFit z.words.lent (block_taken v first order).handed_out v.lent v.placement v.lent_pages
   taken_fit = record {
     of_block = λ f o at frame least most. elim (eqb_tells f first) [
       | inl same ↦
@@ -96,6 +144,7 @@ module _ {W : ℕ} (z : Inside W) (v : ZoneState) (sound : IsSound z v) (view : 
           ∙ sym (ap (set.contains v.lent) same.1 ∙ first_unlent))
       | inr other ↦ sound.lent.of_block f o (sym (get_insert_other v.handed_out first f order other.1) ∙ at) frame least most
     ];
+    of_page = sound.lent.of_page;
     others = λ frame off. sound.lent.others frame (λ f. elim (eqb_tells f first) [
       | inl same ↦ ap (λ (o : Option ℕ). covers o f frame) (ap (map.get v.handed_out) same.1 ∙ blocks.not_handed_out v first order run)
       | inr other ↦ ap (λ (o : Option ℕ). covers o f frame) (sym (get_insert_other v.handed_out first f order other.1)) ∙ off f
@@ -118,18 +167,19 @@ module _ {W : ℕ} (z : Inside W) (v : ZoneState) (sound : IsSound z v) (view : 
 
 -- a block whose words are here is taken back
 module _ {W : ℕ} (z : Inside W) (v : ZoneState) (sound : IsSound z v) (view : state_of z ≡ v) (first order : ℕ) (at : map.get v.handed_out first ≡ Some order) (back : set.contains v.lent first ≡ false) where
-  pub given_fit : LentFit z.words.lent (block_given v first order).handed_out v.lent
+  pub given_fit : LentFit z.words.lent (block_given v first order).handed_out v.lent v.placement v.lent_pages
   given_fit = record {
     of_block = λ f o held frame least most. elim (eqb_tells f first) [
       | inl same ↦ (let bad : None ≡ Some o = sym (get_remove_same v.handed_out first f same.1) ∙ held in absurd (cc))
       | inr other ↦ sound.lent.of_block f o (sym (get_remove_other v.handed_out first f other.1) ∙ held) frame least most
     ];
-    others = λ frame off. elim (cases_Bool (in_block first order frame)) [
+    of_page = sound.lent.of_page;
+    others = λ frame off none. elim (cases_Bool (in_block first order frame)) [
       | inl here ↦ (let parts = blocks.in_block_parts first order frame here in sound.lent.of_block first order at frame parts.0 parts.1 ∙ back)
       | inr there ↦ sound.lent.others frame (λ f. elim (eqb_tells f first) [
         | inl same ↦ (λ i. covers (map.get v.handed_out (same.1 i)) (same.1 i) frame) ∙ ap (λ (o : Option ℕ). covers o first frame) at ∙ there
         | inr other ↦ ap (λ (o : Option ℕ). covers o f frame) (sym (get_remove_other v.handed_out first f other.1)) ∙ off f
-      ])
+      ]) none
     ];
   }
 

@@ -11,7 +11,9 @@ pub mod HeldWords
 pub mod InUse
 pub mod Isolation
 pub mod LendingBlocks
+pub mod LendingPages
 pub mod LentBlocks
+pub mod LentPages
 pub mod ListedAddresses
 pub mod LoadsAndStores
 pub mod Marks

@@ -1,5 +1,5 @@
 -- A load and a store leave a zone sound.
-use Rattle.std.proofs.Common.{◌≡◌, ◌≢◌, ℕ, ◌<◌, true, false, List, [], ◌∷◌, length, inl, inr, refl, sym, ap, subst, ◌∙◌, arith}
+use Rattle.std.proofs.Common.{◌≡◌, ◌≢◌, ℕ, ◌*◌, ◌<◌, true, false, List, [], ◌∷◌, length, inl, inr, refl, sym, ap, subst, ◌∙◌, arith}
 use Rattle.std.specs.Prelude.{Option, Some, None, IsSome, is_some, slice_get, slice_set, unwrap_or, nat_eq, ◌&&◌, ◌||◌, if◌then◌else◌}
 use Rattle.std.specs.FinMap as map
 use Rattle.std.specs.Option.{option_and_then}
@@ -22,18 +22,20 @@ use Rattle.zone_tables.specs.declared.zone.ZoneTables.TheInside.{Inside}
 use Rattle.state_core.specs.declared.placement.Placement.{Placement}
 use Rattle.state_core.specs.declared.placement.Placement.TheVariants.{At, Moving}
 use Rattle.state_core.specs.Valid.{IsValidZone}
-use Rattle.state_core.specs.Access.{value_at, loaded, stored}
+use Rattle.state_core.specs.Access.{is_page_lent, value_at, loaded, stored}
 use Rattle.zone_tables.specs.Fits.{entry_for, WordsFit, NoteFits, NotesFit}
 use Rattle.state_core.specs.ZoneState.{words_frame, ZoneState, placement_at, frame_count}
 use Rattle.zone_tables.specs.Sound.{IsSound, state_of}
+use Rattle.zone_tables.specs.LentPages.{pages_lent}
 use Rattle.zone_tables.specs.Notes.{says_unmovable}
 use Rattle.zone_tables.proofs.HeldWords.{contents_kept}
-use Rattle.zone_tables.proofs.LentBlocks.{page_here}
+use Rattle.zone_tables.proofs.LentBlocks.{words_here}
 use Rattle.zone_tables.proofs.NotedPages.{placements_kept, unmovable_kept}
 use Rattle.state_core.proofs.Facts.{taken, skipped, page_named, frame_within, frames_differ, not_none}
 use Rattle.zone_tables.proofs.Facts.{noted_view, is_sound, Becomes, becomes}
 use Rattle.state_core.proofs.Holding.{at_takes, holder_at}
 use Rattle.state_core.proofs.Accessed.{valid_stored, valid_loaded}
+use Rattle.std.specs.FinSet as set
 use Rattle.state_core.specs.Pairs.{holder}
 
 -- what the entry of an address says of the placement of its page
@@ -155,7 +157,6 @@ pub record Resident {W : ℕ} (z : Inside W) (v : ZoneState) (address : Address)
   pub held : holder v frame ≡ Some page
   pub within : frame < frame_count v
   pub row_within : frame < length z.words.rows
-  pub here : IsHere z.words frame 1
 
 module _ {W : ℕ} {z : Inside W} {v : ZoneState} (view : state_of z ≡ v) (invariant : IsSound z (state_of z)) {address : Address} {frame : ℕ} (at : placement_at v address ≡ Some (At frame)) where
   pub resident : (page : ℕ) × Resident z v address frame page
@@ -172,7 +173,6 @@ module _ {W : ℕ} {z : Inside W} {v : ZoneState} (view : state_of z ≡ v) (inv
           held = holder_at v sound.valid page.0 frame page.2;
           within = within;
           row_within = omega (arith, within, sound.words.count);
-          here = page_here z v sound page.0 frame (at_takes (map.get v.placement page.0) frame page.2);
         },
       )
 
@@ -182,6 +182,12 @@ module _ {W : ℕ} {z : Inside W} {v : ZoneState} (view : state_of z ≡ v) (inv
       let two : Some resident.0 ≡ Some page = sym resident.1.held ∙ found in
       let same : resident.0 ≡ page = cc in
       subst (Resident z v address frame) same resident.1
+
+-- its words are here where they aren't lent
+pub resident_here : {W : ℕ} {z : Inside W} {v : ZoneState} → state_of z ≡ v → IsSound z (state_of z) → (address : Address) {frame : ℕ} → placement_at v address ≡ Some (At frame) → is_page_lent v address ≡ false → IsHere z.words frame 1
+resident_here {z = z} {v = v} view invariant address {frame} at back =
+    let page = page_named v address (At frame) at in
+    words_here z v (is_sound view invariant) page.0 (At frame) page.2 (sym (ap (λ (o : Option ℕ). set.contains v.lent_pages (unwrap_or o 0)) page.1) ∙ back)
 
 -- what is known when a word is written
 pub record Storing {W : ℕ} (z : Inside W) (v : ZoneState) (client : ℕ) (address : Address) (page frame word value : ℕ) (note : PageNote) (history : History) : Type 0 where
@@ -206,7 +212,7 @@ store_view z v client address page frame word value note history known =
     let u = unmovable_kept z.notes page dirty_note within (sym (ap says_unmovable known.note_is)) in
     let free = known.sound.valid.pages.clear page frame (at_takes (map.get v.placement page) frame known.at) in
     let c = contents_kept z v known.sound known.view frame (slice_set (words_of z.words.rows frame) word value) free in
-    let here : state_of (after_store z page frame word value note history) ≡ state_of (record z { history = history }) = λ i. record (state_of (record z { history = history })) { placement = p i; unmovable = u i; contents = c i } in
+    let here : state_of (after_store z page frame word value note history) ≡ state_of (record z { history = history }) = λ i. record (state_of (record z { history = history })) { placement = p i; unmovable = u i; contents = c i; lent_pages = pages_lent z.words.lent (p i) (512 * z.size.blocks) } in
     here ∙ noted_view z v history (Store client address word value) known.view known.history_is
 
 pub store_sound : {W : ℕ} (z : Inside W) (v : ZoneState) (client : ℕ) (address : Address) (page frame word value : ℕ) (note : PageNote) (history : History) → Storing z v client address page frame word value note history → IsSound (after_store z page frame word value note history) (stored v client address word value)

@@ -1,5 +1,5 @@
 -- The note of a page in use changes, and the page stays where it is: the tables still stand for the zone.
-use Rattle.std.proofs.Common.{◌≡◌, ◌≢◌, ℕ, ◌<◌, List, ◌∷◌, length, refl, sym, ap, subst, ◌∙◌}
+use Rattle.std.proofs.Common.{◌≡◌, ◌≢◌, ℕ, ◌*◌, ◌<◌, List, ◌∷◌, length, refl, sym, ap, subst, ◌∙◌}
 use Rattle.std.specs.Prelude.{Some, is_some, slice_get, slice_set, ◌&&◌}
 use Rattle.std.specs.Option.{option_and_then}
 use Rattle.std.specs.FinMap as map
@@ -15,6 +15,7 @@ use Rattle.zone_tables.specs.declared.note.PageNote.{PageNote}
 use Rattle.zone_tables.specs.declared.zone.ZoneTables.TheInside.{Inside}
 use Rattle.zone_tables.specs.Fits.{FramesFit, EntriesFit, NoteFits, MovesFit, MovableFit, UnmovableFit}
 use Rattle.zone_tables.specs.History.{History, told}
+use Rattle.zone_tables.specs.LentPages.{pages_lent}
 use Rattle.zone_tables.specs.Notes.{says_unmovable}
 use Rattle.zone_tables.specs.Sound.{state_of, IsSound}
 use Rattle.zone_tables.proofs.Facts.{noted_view, Becomes, becomes}
@@ -98,7 +99,7 @@ module _ {W : ℕ} {z : Inside W} {v : ZoneState} {page : ℕ} {entry : Record} 
   noting_view =
       let p = placements_kept z.notes page changed within (known.placed ∙ sym (ap (option_and_then (λ (n : PageNote). n.placement)) known.note_is)) in
       let u = unmovable_kept z.notes page changed within ((λ i. is_some (known.placed i) && known.unmovable i) ∙ sym (ap says_unmovable known.note_is)) in
-      let here : state_of (after_noting z page changed frames tables history) ≡ state_of (record z { history = history }) = λ i. record (state_of (record z { history = history })) { placement = p i; unmovable = u i } in
+      let here : state_of (after_noting z page changed frames tables history) ≡ state_of (record z { history = history }) = λ i. record (state_of (record z { history = history })) { placement = p i; unmovable = u i; lent_pages = pages_lent z.words.lent (p i) (512 * z.size.blocks) } in
       here ∙ noted_view z v history entry known.view known.history_is
 
   pub noting_holds : {notes : List PageNote} → notes ≡ slice_set z.notes page changed → Becomes (record z { frames = frames; tables = tables; notes = notes; history = history }) (noted v entry)

@@ -39,6 +39,8 @@ use Rattle.scan_core.specs.NumberSet.{gathered}
 use Rattle.zone_tables.specs.Tabulated.{tabulated}
 use Rattle.zone_tables.proofs.Tabulating.{tabulated_none, gathered_none}
 use Rattle.state_core.proofs.Opened.{unheld, opened_valid, opened_in_valid}
+use Rattle.zone_tables.specs.LentPages.{pages_lent}
+use Rattle.zone_tables.proofs.LentPages.{rests_here}
 use Rattle.state_core.proofs.Placed.{clash}
 
 -- the fields of a zone that was just opened
@@ -84,6 +86,8 @@ opened_view {W} z number size places fresh =
     gathered_none (is_lent_at z.words.lent z.handed_out) (length z.handed_out) (λ first. ap (λ (os : List (Option ℕ)). is_some (order_of os first) && has_frame z.words.lent first) fresh.handed_out ∙ ap (λ (o : Option ℕ). is_some o && has_frame z.words.lent first) (no_order (512 * size.blocks) first)) in
     let p : tabulated (placement_of z.notes) (length z.notes) ≡ map.empty =
     tabulated_none (placement_of z.notes) (length z.notes) (λ page. ap (λ (ns : List PageNote). placement_of ns page) fresh.notes ∙ no_placement (512 * size.blocks) page) in
+    let l_pages : pages_lent z.words.lent (tabulated (placement_of z.notes) (length z.notes)) (512 * z.size.blocks) ≡ set.empty =
+    gathered_none _ (512 * z.size.blocks) (λ page. rests_here z.words.lent _ (λ frame at. fresh.here frame)) in
     λ i. record {
       number = fresh.number_is i;
       blocks = (fresh.size_is i).blocks;
@@ -99,6 +103,7 @@ opened_view {W} z number size places fresh =
       handed_out = h i;
       contents = c i;
       lent = l i;
+      lent_pages = l_pages i;
       memory = memory_of z.words;
       placement = p i;
       migrate = (fresh.fingers i).migrate;
@@ -147,7 +152,7 @@ opened_sound {W} z number size places fresh = record {
     sized = λ frame h. ap length (unwrap_or-slice_get z.words.rows frame []) ∙ fresh.sized frame [] (omega (arith, h, fresh.count));
     each = λ page placement word e h. (let bad : None ≡ Some placement = sym (map.get-empty nat_cmp page) ∙ e in cc);
   };
-  lent = record { of_block = λ first order e. (let bad : None ≡ Some order = sym (map.get-empty nat_cmp first) ∙ e in cc); others = λ frame off. fresh.here frame };
+  lent = record { of_block = λ first order e. (let bad : None ≡ Some order = sym (map.get-empty nat_cmp first) ∙ e in cc); of_page = λ page frame at. (let bad : None ≡ Some (At frame) = sym (map.get-empty nat_cmp page) ∙ at in cc); others = λ frame off none. fresh.here frame };
   notes = record {
     count = ap length fresh.notes ∙ length-replicate (512 * size.blocks) unused_note;
     each = λ page note e used. absurd (clash note.placement (sym (ap (option_and_then (λ (n : PageNote). n.placement)) e) ∙ ap (λ (ns : List PageNote). placement_of ns page) fresh.notes ∙ no_placement (512 * size.blocks) page) used);

@@ -1,5 +1,5 @@
 -- One pin more or less on a page: the tables still stand for the zone.
-use Rattle.std.proofs.Common.{◌≡◌, ◌≢◌, ℕ, ◌+◌, ◌-◌, ◌<◌, Bool, false, ◌∷◌, inl, inr, not, length, refl, sym, ap, subst, ◌∙◌, arith, nat_eq}
+use Rattle.std.proofs.Common.{◌≡◌, ◌≢◌, ℕ, ◌+◌, ◌-◌, ◌<◌, Bool, true, false, ◌∷◌, inl, inr, not, length, refl, sym, ap, subst, ◌∙◌, arith, nat_eq}
 use Rattle.std.specs.Prelude.{Option, Some, IsSome, slice_get, ◌&&◌}
 use Rattle.std.proofs.lemmas.Bool.Decides.{eqb_tells}
 use Rattle.std.specs.FinMap as map
@@ -72,8 +72,8 @@ module _ {W : ℕ} (z : Inside W) (v : ZoneState) (sound : IsSound z v) (view : 
         (omega (arith, (note_seen view sound used note_is).fits.pins, pins_one_more v client address page named))
         (frames_are ∙ ap (λ can. record z.frames { movable = movable_at z.frames.movable note.placement can }) (sym (pinned_stays note)))
 
-    pub unpinning : frames ≡ record z.frames { movable = movable_at z.frames.movable note.placement (can_move_by (record note { pins = note.pins - 1 })) } → history ≡ told z.history (Unpin client address) → Noting z v page (Unpin client address) note (record note { pins = note.pins - 1 }) frames z.tables history
-    unpinning = noting_pins (Unpin client address) (note.pins - 1) frames history (valid_unpinned v client address page named sound.valid spare)
+    pub unpinning : (set.contains v.lent_pages page ≡ true → 1 < pins v.records page) → frames ≡ record z.frames { movable = movable_at z.frames.movable note.placement (can_move_by (record note { pins = note.pins - 1 })) } → history ≡ told z.history (Unpin client address) → Noting z v page (Unpin client address) note (record note { pins = note.pins - 1 }) frames z.tables history
+    unpinning keeps = noting_pins (Unpin client address) (note.pins - 1) frames history (valid_unpinned v client address page named sound.valid spare keeps)
         (record { last = λ q w. refl; dirty = λ q. refl; pins = unpinned_others v client address page named; maps = λ q ne. refl }) refl
         (record { isolated = sound.moves.isolated; moved = sound.moves.moved; back = sound.moves.back }) (record { each = sound.entries.each })
         (ap (λ n. n - 1) (note_seen view sound used note_is).fits.pins ∙ sym (pins_one_less v client address page named))

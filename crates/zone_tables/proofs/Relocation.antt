@@ -1,5 +1,5 @@
 -- A page in use gets another place: the tables still stand for the zone.
-use Rattle.std.proofs.Common.{◌≡◌, ◌≢◌, ℕ, ◌<◌, ◌≤◌, Bool, true, false, not, List, ◌∷◌, length, inl, inr, refl, sym, ap, subst, ◌∙◌}
+use Rattle.std.proofs.Common.{◌≡◌, ◌≢◌, ℕ, ◌*◌, ◌<◌, ◌≤◌, Bool, true, false, not, List, ◌∷◌, length, inl, inr, refl, sym, ap, subst, ◌∙◌}
 use Rattle.std.specs.Prelude.{Option, Some, None, is_some, slice_get, slice_set, nat_eq, ◌&&◌, ◌||◌}
 use Rattle.std.specs.Option.{option_and_then}
 use Rattle.std.specs.FinMap as map
@@ -39,7 +39,10 @@ use Rattle.state_core.proofs.Facts.{takes_own}
 use Rattle.state_core.proofs.Placed.{clash}
 use Rattle.zone_tables.proofs.NotedPages.{unmovable_kept, placements_put}
 use Rattle.zone_tables.proofs.UnmovablePages.{unmovable_moved}
-use Rattle.zone_tables.proofs.Placement.{GetsPlace, LeavesOthers, FramesPlaced, MovablePlaced, WordsPlaced, frames_fit, movable_fit, words_fit, notes_fit}
+use Rattle.zone_tables.proofs.Placement.{lent_fit, GetsPlace, LeavesOthers, FramesPlaced, MovablePlaced, WordsPlaced, frames_fit, movable_fit, words_fit, notes_fit}
+use Rattle.frame_core.specs.FrameSet.{has_frame}
+use Rattle.zone_tables.specs.LentPages.{pages_lent}
+use Rattle.zone_tables.proofs.LentPages.{pages_put, rests_here}
 use Rattle.state_core.proofs.Settled.{CanSettle, IsRecorded, IsStill, at_page, at_other, not_old, valid_settled}
 
 -- how the states of frames change with the place of a page in use, and what is noted of whether it may be taken
@@ -133,6 +136,8 @@ pub record Settling {W : ℕ} (z changed : Inside W) (v : ZoneState) (page : ℕ
   pub size_same : changed.tables.entries.size ≡ z.tables.entries.size
   pub rest_same : record changed { frames = z.frames; tables = z.tables; words = z.words; notes = z.notes; moves = z.moves; fingers = z.fingers; history = z.history } ≡ z
   pub lent_same : changed.words.lent ≡ z.words.lent
+  -- the frame that the page rests in isn't lent
+  pub vacant : (frame : ℕ) → Some new ≡ Some (At frame) → has_frame z.words.lent frame ≡ false
   pub memory_same : memory_of changed.words ≡ memory_of z.words
   pub contents_same : held_contents changed ≡ held_contents z
 
@@ -205,7 +210,7 @@ module _ {W : ℕ} {z changed : Inside W} {v : ZoneState} {page : ℕ} {old new 
             (unmovable_moved v after page z.frames.unmovable sound.unmovable refl (λ q ne. refl) (at_other v page old new known.can entry) known.fixed known.fixed);
         entries = record { each = entries.each };
         words = words_fit v after page (Some old) (Some new) gets z.words.rows changed.words.rows sound.words words_changed leaves;
-        lent = subst (λ (l : List Bool). LentFit l v.handed_out v.lent) (sym known.lent_same) sound.lent;
+        lent = subst (λ (l : List Bool). LentFit l v.handed_out v.lent after.placement v.lent_pages) (sym known.lent_same) (lent_fit v after page (Some old) (Some new) gets z.words.lent sound.lent known.can.here known.vacant);
         notes = subst (λ (ns : List PageNote). NotesFit ns after) (sym known.notes)
             (notes_fit v after page (Some old) (Some new) gets z.notes settled_note (slice_get_within z.notes page note known.note_is) sound.notes (λ used. note_fits) leaves);
         moves = known.moves;
@@ -221,6 +226,15 @@ module _ {W : ℕ} {z changed : Inside W} {v : ZoneState} {page : ℕ} {old new 
   unmovable_new =
       ap (λ (ns : List PageNote). gathered (is_unmovable_of ns) (length ns)) known.notes
       ∙ unmovable_kept z.notes page settled_note note_within (sym (ap says_unmovable known.note_is ∙ ap (λ (o : Option Placement). is_some o && note.unmovable) note_placed))
+
+  -- the same pages are lent: this one isn't, before and after
+  rested : (frame : ℕ) → map.get (state_of z).placement page ≡ Some (At frame) → has_frame z.words.lent frame ≡ false
+  rested frame at = known.sound.lent.of_page page frame (sym (ap (λ (u : ZoneState). map.get u.placement page) known.view) ∙ at) ∙ known.can.here
+
+  pages_new : (state_of changed).lent_pages ≡ (state_of z).lent_pages
+  pages_new =
+      (λ i. pages_lent (known.lent_same i) (placement_new i) (512 * (known.rest_same i).size.blocks))
+      ∙ pages_put z.words.lent (state_of z).placement (512 * z.size.blocks) page (Some new) (rests_here z.words.lent _ rested) (rests_here z.words.lent (Some new) known.vacant)
 
   pub settle_view : state_of changed ≡ after
   settle_view =
@@ -240,6 +254,7 @@ module _ {W : ℕ} {z changed : Inside W} {v : ZoneState} {page : ℕ} {old new 
         handed_out = tabulated (order_of (known.rest_same i).handed_out) (length (known.rest_same i).handed_out);
         contents = known.contents_same i;
         lent = gathered (is_lent_at (known.lent_same i) (known.rest_same i).handed_out) (length (known.rest_same i).handed_out);
+        lent_pages = pages_new i;
         memory = known.memory_same i;
         placement = placement_new i;
         migrate = (known.fingers_are i).migrate;

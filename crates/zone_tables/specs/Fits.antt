@@ -1,5 +1,5 @@
 -- How the tables of a zone stand for its state.
-use Rattle.std.specs.Prelude.{◌≡◌, ℕ, ◌^◌, ◌<◌, Bool, true, false, List, length, nat_eq, if◌then◌else◌, slice_get, Option, Some, None, IsSome}
+use Rattle.std.specs.Prelude.{◌≡◌, ◌≢◌, ℕ, ◌^◌, ◌<◌, Bool, true, false, List, length, nat_eq, if◌then◌else◌, slice_get, Option, Some, None, IsSome}
 use Rattle.std.specs.FinMap as map
 use Rattle.std.specs.FinSet as set
 use Rattle.frame_core.specs.Below.{count_below}
@@ -59,10 +59,11 @@ pub record WordsFit (rows : List (List ℕ)) (v : ZoneState) : Type 0 where
   pub sized : (frame : ℕ) → frame < frame_count v → length (words_of rows frame) ≡ v.page_size
   pub each : (page : ℕ) (placement : Placement) (word : ℕ) → map.get v.placement page ≡ Some placement → word < v.page_size → slice_get (words_of rows (words_frame placement)) word ≡ Some (last v.records page word)
 
--- the frames of a block are lent where its words are away, and no other frame is lent
-pub record LentFit (lent : List Bool) (handed_out : map.FinMap nat_cmp ℕ) (away : set.FinSet nat_cmp) : Type 0 where
+-- the frames of a block are lent where its words are away, and so is the frame in which a page rests; no other frame is lent
+pub record LentFit (lent : List Bool) (handed_out : map.FinMap nat_cmp ℕ) (away : set.FinSet nat_cmp) (placement : map.FinMap nat_cmp Placement) (away_pages : set.FinSet nat_cmp) : Type 0 where
   pub of_block : (first order : ℕ) → map.get handed_out first ≡ Some order → HasEach lent first (2 ^ order) (set.contains away first)
-  pub others : (frame : ℕ) → ((first : ℕ) → covers (map.get handed_out first) first frame ≡ false) → has_frame lent frame ≡ false
+  pub of_page : (page frame : ℕ) → map.get placement page ≡ Some (At frame) → has_frame lent frame ≡ set.contains away_pages page
+  pub others : (frame : ℕ) → ((first : ℕ) → covers (map.get handed_out first) first frame ≡ false) → ((page : ℕ) → map.get placement page ≢ Some (At frame)) → has_frame lent frame ≡ false
 
 -- each frame has its place in the list of cleared blocks, and a block whose words are away was cleared
 pub record ClearedFit (cleared : List Bool) (frames : ℕ) (away : set.FinSet nat_cmp) : Type 0 where

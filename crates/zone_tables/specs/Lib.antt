@@ -7,6 +7,7 @@ pub mod History
 pub mod HistoryInside
 pub mod KeptNote
 pub mod KeptOrder
+pub mod LentPages
 pub mod Moves
 pub mod MovingPages
 pub mod Notes

@@ -1,11 +1,12 @@
 -- What contracts see of the fields of a zone, and what is true of them.
-use Rattle.std.specs.Prelude.{◌≡◌, ℕ, ◌≤◌, length}
+use Rattle.std.specs.Prelude.{◌≡◌, ℕ, ◌*◌, ◌≤◌, length}
 use Rattle.zone_tables.specs.declared.zone.ZoneTables.TheInside.{Inside}
 use Rattle.state_core.specs.ZoneState.{ZoneState, frame_count}
 use Rattle.state_core.specs.Valid.{IsValidZone}
 use Rattle.zone_tables.specs.Contents.{contents_at, memory_of}
 use Rattle.zone_tables.specs.Fits.{table_size, FramesFit, EntriesFit, WordsFit, LentFit, ClearedFit, NotesFit, MovesFit, MovableFit, UnmovableFit}
 use Rattle.zone_tables.specs.HandedOut.{order_of, is_lent_at}
+use Rattle.zone_tables.specs.LentPages.{pages_lent}
 use Rattle.zone_tables.specs.Notes.{placement_of, is_unmovable_of}
 use Rattle.scan_core.specs.Frames.{true_at}
 use Rattle.scan_core.specs.NumberSet.{gathered}
@@ -28,6 +29,7 @@ state_of {W} z = record {
   handed_out = tabulated (order_of z.handed_out) (length z.handed_out);
   contents = tabulated (contents_at W z.words.rows z.cleared z.handed_out) (length z.handed_out);
   lent = gathered (is_lent_at z.words.lent z.handed_out) (length z.handed_out);
+  lent_pages = pages_lent z.words.lent (tabulated (placement_of z.notes) (length z.notes)) (512 * z.size.blocks);
   memory = memory_of z.words;
   placement = tabulated (placement_of z.notes) (length z.notes);
   migrate = z.fingers.migrate;
@@ -49,6 +51,6 @@ pub record IsSound {W : ℕ} (z : Inside W) (v : ZoneState) : Type 0 where
   pub size : z.tables.entries.size ≡ table_size v
   pub entries : EntriesFit z.tables.entries v
   pub words : WordsFit z.words.rows v
-  pub lent : LentFit z.words.lent v.handed_out v.lent
+  pub lent : LentFit z.words.lent v.handed_out v.lent v.placement v.lent_pages
   pub notes : NotesFit z.notes v
   pub moves : MovesFit z.moves v.records

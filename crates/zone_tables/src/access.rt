@@ -1,9 +1,10 @@
 //! Reading and writing the words of pages.
 
-ghost use Rattle.std.specs.Prelude.{◌≡◌, Some, IsSome, IsTrue, IfOk};
+ghost use Rattle.std.specs.Prelude.{◌≡◌, Some, false, IsSome, IsTrue, IfOk, OnOk};
 ghost use Rattle.frame_core.specs.History.{page_at};
 ghost use Rattle.state_core.specs.Valid.{IsValidZone};
-ghost use Rattle.state_core.specs.Access.{placement_refusal, value_at, loaded, stored};
+ghost use Rattle.state_core.specs.Access.{is_page_lent, placement_refusal, words_refusal, value_at, loaded, stored};
+ghost use Rattle.state_core.specs.Bulk.{has_room_for};
 ghost use Rattle.state_core.specs.Isolating.{has_room_for_two};
 ghost use Rattle.std.specs.Result.{result_err};
 ghost use Rattle.state_core.specs.ZoneState.{has_room, placement_at};
@@ -20,6 +21,13 @@ impl<const W: usize> ZoneTables<W> {
         ensures { result ≡ has_room self.now }
     {
         self.moves.out() < self.history.room()
+    }
+
+    /// Whether the journal has room for so many calls.
+    pub fn has_room_for(&self, count: usize) -> bool
+        ensures { result ≡ has_room_for self.now count }
+    {
+        count as u64 <= self.history.room() - self.moves.out()
     }
 
     /// Whether the journal has room for an isolation and for its end.
@@ -43,6 +51,20 @@ impl<const W: usize> ZoneTables<W> {
         }
     }
 
+    /// The frame of the page that an address names, where its words can be read and written. It is refused as `frame_of` refuses it, or as
+    /// Lent.
+    pub fn frame_here(&self, address: &Address) -> Result<FrameNo, ZoneError>
+        ensures refused { result_err result ≡ words_refusal self.now address.now }
+        ensures frame { IfOk result (λ frame. placement_at self.now address.now ≡ Some (At frame)) }
+        ensures here { OnOk result (is_page_lent self.now address.now ≡ false) }
+    {
+        let frame = self.frame_of(address)?;
+        if self.is_lent_in(frame) {
+            return Err(ZoneError::Lent);
+        }
+        Ok(frame)
+    }
+
     /// Reads a word of the page that an address names.
     pub fn read(
         &mut self,
@@ -53,6 +75,7 @@ impl<const W: usize> ZoneTables<W> {
     ) -> u64
         requires room { IsTrue (has_room self.old) }
         requires frame { placement_at self.old address ≡ Some (At frame) }
+        requires here { is_page_lent self.old address ≡ false }
         ensures value { result ≡ value_at self.old address word.entry }
         ensures step { self.new ≡ loaded self.old client address word.entry }
         ensures valid { IsValidZone self.new }
@@ -78,6 +101,7 @@ impl<const W: usize> ZoneTables<W> {
     )
         requires room { IsTrue (has_room self.old) }
         requires frame { placement_at self.old address ≡ Some (At frame) }
+        requires here { is_page_lent self.old address ≡ false }
         ensures step { self.new ≡ stored self.old client address word.entry value }
         ensures valid { IsValidZone self.new }
     {

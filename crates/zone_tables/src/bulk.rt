@@ -1,7 +1,8 @@
 //! Reading and writing several words of a page in one call.
 
-ghost use Rattle.std.specs.Prelude.{◌≡◌, ◌+◌, ◌≤◌, length, Some, IsTrue, IfOk, OnOk};
+ghost use Rattle.std.specs.Prelude.{◌≡◌, ◌+◌, ◌≤◌, length, false, Some, IsTrue, IfOk, OnOk};
 ghost use Rattle.std.specs.Result.{result_err};
+ghost use Rattle.state_core.specs.Access.{is_page_lent};
 ghost use Rattle.state_core.specs.Bulk.{bulk_refusal, has_room_for, values_at, loaded_all, stored_all};
 ghost use Rattle.state_core.specs.Valid.{IsValidZone};
 ghost use Rattle.state_core.specs.ZoneState.{placement_at};
@@ -13,7 +14,7 @@ use state_core::ZoneError;
 
 impl<const W: usize> ZoneTables<W> {
     /// The frame of the page that an address names, where this many words, from one on, can be read or written: they are in
-    /// the page, the journal has a place for each, and the page isn't moving.
+    /// the page, the journal has a place for each, the page isn't moving, and its words aren't lent.
     pub fn bulk_frame(
         &self,
         address: &Address,
@@ -24,15 +25,15 @@ impl<const W: usize> ZoneTables<W> {
         ensures within { OnOk result (from.entry + count ≤ W) }
         ensures room { OnOk result (IsTrue (has_room_for self.now count)) }
         ensures frame { IfOk result (λ frame. placement_at self.now address.now ≡ Some (At frame)) }
+        ensures here { OnOk result (is_page_lent self.now address.now ≡ false) }
     {
-        let places = self.history.room() - self.moves.out();
-        if count > W - from.get() as usize {
+        if count > self.words.page_words() - from.get() as usize {
             return Err(ZoneError::Range);
         }
-        if count as u64 > places {
+        if !self.has_room_for(count) {
             return Err(ZoneError::JournalFull);
         }
-        self.frame_of(address)
+        self.frame_here(address)
     }
 
     /// Reads words of the page that an address names, from one on, as many as there is room for.
@@ -47,6 +48,7 @@ impl<const W: usize> ZoneTables<W> {
         requires within { from + length values.old ≤ W }
         requires room { IsTrue (has_room_for self.old (length values.old)) }
         requires frame { placement_at self.old address ≡ Some (At frame) }
+        requires here { is_page_lent self.old address ≡ false }
         ensures values { values.new ≡ values_at self.old address from.entry (length values.old) }
         ensures step { self.new ≡ loaded_all self.old client address from.entry (length values.old) }
         ensures valid { IsValidZone self.new }
@@ -72,6 +74,7 @@ impl<const W: usize> ZoneTables<W> {
         requires within { from + length values.now ≤ W }
         requires room { IsTrue (has_room_for self.old (length values.now)) }
         requires frame { placement_at self.old address ≡ Some (At frame) }
+        requires here { is_page_lent self.old address ≡ false }
         ensures step { self.new ≡ stored_all self.old client address from.entry values.now }
         ensures valid { IsValidZone self.new }
     {

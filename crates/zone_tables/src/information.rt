@@ -90,7 +90,7 @@ impl<const W: usize> ZoneTables<W> {
     /// that it left has them.
     pub fn words(&self) -> &WordsOf<W>
         ensures words { WordsFit result.now.rows self.now }
-        ensures lent { LentFit result.now.lent self.now.handed_out self.now.lent }
+        ensures lent { LentFit result.now.lent self.now.handed_out self.now.lent self.now.placement self.now.lent_pages }
         ensures frames { length result.now.rows ≡ frame_count self.now }
     {
         &self.words

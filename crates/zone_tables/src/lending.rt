@@ -7,7 +7,7 @@ ghost use Rattle.std.specs.Option.{option_map};
 ghost use Rattle.std.specs.Result.{result_err};
 ghost use Rattle.state_core.specs.Contents.{contents_of};
 ghost use Rattle.state_core.specs.HandingOut.{is_order};
-ghost use Rattle.state_core.specs.Lending.{lend_refusal, return_refusal, block_place, block_lent, block_returned};
+ghost use Rattle.state_core.specs.Lending.{LendsNone, lend_refusal, return_refusal, block_place, block_lent, block_returned};
 ghost use Rattle.state_core.specs.Valid.{IsValidZone};
 
 use crate::zone::ZoneTables;
@@ -24,9 +24,9 @@ impl<const W: usize> ZoneTables<W> {
         self.words.is_lent(first)
     }
 
-    /// Whether the words of no block are lent. It looks at each frame.
+    /// Whether no words are lent. It looks at each frame.
     pub fn lends_none(&self) -> bool
-        ensures { IsTrue result ↔ (self.now.lent ≡ set.empty) }
+        ensures { IsTrue result ↔ LendsNone self.now }
     {
         self.words.lends_none()
     }
@@ -50,7 +50,8 @@ impl<const W: usize> ZoneTables<W> {
         Ok(self.words.lend_block(first, order.frames()))
     }
 
-    /// Takes the words of a block back that were lent, by their row. The block has the words of the row then.
+    /// Takes the words of a block back that were lent, by their row, which has to begin where the block does and to have as many words.
+    /// The block has the words of the row then.
     ///
     /// Refused as NotHuge where no block of this order is handed out from this frame on. Then the row is answered as it was.
     pub fn take_block_back(

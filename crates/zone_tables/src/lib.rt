@@ -20,6 +20,7 @@ mod isolating;
 mod kept_note;
 mod kept_order;
 mod lending;
+mod lending_pages;
 mod looking;
 mod mapping;
 mod marking;

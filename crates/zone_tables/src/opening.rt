@@ -8,6 +8,7 @@ ghost use Rattle.table_core.specs.Tables.{IsBlank};
 ghost use Rattle.zone_tables.specs.Contents.{memory_of};
 ghost use Rattle.zone_tables.specs.Fresh.{AreFresh};
 ghost use Rattle.state_core.specs.Valid.{IsValidZone};
+ghost use Rattle.state_core.specs.Lending.{LendsNone};
 ghost use Rattle.state_core.specs.Opening.{HasPlaces, IsZoneSize, opened_in, opened_sized, places_of};
 
 use crate::cleared::Cleared;
@@ -73,7 +74,7 @@ impl<const W: usize> ZoneTables<W> {
 
     /// Ends the zone, no words of which may be lent. Memory that its caller gave comes back, and other memory is given back to the system.
     pub fn end(self) -> Option<Row>
-        requires { self.lent ≡ set.empty }
+        requires { LendsNone self }
         ensures at { option_map (λ row. row.at) result ≡ self.entry.memory }
         ensures count { IfSome result (λ row. length row.words ≡ 512 * self.entry.blocks * self.entry.page_size) }
     {

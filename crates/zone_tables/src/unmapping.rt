@@ -1,11 +1,11 @@
 //! Taking an address from a page. With its last address the page goes out of use.
 
-ghost use Rattle.std.specs.Prelude.{◌≡◌, ◌≢◌, ℕ, Some, IsTrue};
+ghost use Rattle.std.specs.Prelude.{◌≡◌, ◌≢◌, ℕ, Some, None, IsTrue};
 ghost use Rattle.std.specs.FinMap as map;
-ghost use Rattle.frame_core.specs.History.{page_at, maps};
+ghost use Rattle.frame_core.specs.History.{page_at, maps, pins};
 ghost use Rattle.frame_core.specs.declared.record.Record.TheVariants.{Unmap};
 ghost use Rattle.state_core.specs.Valid.{IsValidZone};
-ghost use Rattle.state_core.specs.Unmapping.{unmapped, without_page};
+ghost use Rattle.state_core.specs.Unmapping.{last_refusal, unmapped, without_page};
 ghost use Rattle.state_core.specs.ZoneState.{has_room, placement_at, noted};
 ghost use Rattle.state_core.specs.declared.placement.Placement.TheVariants.{At};
 
@@ -19,6 +19,7 @@ impl<const W: usize> ZoneTables<W> {
         requires room { IsTrue (has_room self.old) }
         requires named { page_at self.old.records address ≡ Some page }
         requires frame { placement_at self.old address ≡ Some (At frame) }
+        requires unpinned { last_refusal self.old address ≡ None }
         ensures step { self.new ≡ unmapped self.old client address }
         ensures valid { IsValidZone self.new }
     {
@@ -51,6 +52,7 @@ impl<const W: usize> ZoneTables<W> {
         requires named { page_at self.old.records address ≡ Some page }
         requires here { map.get self.old.placement page ≡ Some (At frame) }
         requires last { maps self.old.records page ≡ 1 }
+        requires unpinned { pins self.old.records page ≡ 0 }
         ensures step { self.new ≡ without_page (noted self.old (Unmap client address)) page }
         ensures valid { IsValidZone self.new }
     {

@@ -4,14 +4,17 @@ ghost use Rattle.std.specs.Prelude.{◌≡◌, ◌<◌, ◌≤◌, ◌*◌, Some
 ghost use Rattle.std.specs.FinSet as set;
 ghost use Rattle.std.specs.Option.{option_map};
 ghost use Rattle.std.specs.Result.{result_err};
-ghost use Rattle.compactd_c.specs.Asked.{ranged};
+ghost use Rattle.compactd_c.specs.Asked.{address_of, ranged};
 ghost use Rattle.compactd_c.specs.Kinds.{IsPageSize};
-ghost use Rattle.compactd_c.specs.Memory.{back_refusal, block_refusal, end_refusal};
+ghost use Rattle.compactd_c.specs.Memory.{back_refusal, block_refusal, end_refusal, page_back_refusal, page_words_refusal};
+ghost use Rattle.state_core.specs.Bulk.{values_at};
 ghost use Rattle.state_core.specs.Contents.{contents_of};
-ghost use Rattle.state_core.specs.Lending.{block_lent, block_place, block_returned};
+ghost use Rattle.state_core.specs.Lending.{block_lent, block_place, block_returned, page_lent, page_place, page_returned, LendsNone};
 ghost use Rattle.state_core.specs.Opening.{IsAllowed, opened_in, places_of};
 
 use super::{Kind, Zone, block, lowest};
+use crate::asked::address;
+use frame_core::ClientNo;
 use row_core::Row;
 use state_core::{ZoneError, ZoneSize};
 use std::alloc::Global;
@@ -51,7 +54,7 @@ impl Zone {
 
     /// Ends the zone, no words of which may be lent, and gives back the memory of its caller, if it lies in such memory.
     pub(crate) fn end(self) -> Option<Row>
-        requires { self.lent ≡ set.empty }
+        requires { LendsNone self }
         ensures at { option_map (λ row. row.at) result ≡ self.memory }
         ensures count { IfSome result (λ row. length row.words ≡ 512 * self.blocks * self.page_size) }
         ensures some { 0 < self.blocks * self.page_size }
@@ -92,6 +95,42 @@ impl Zone {
             return Err((ZoneError::Range, row));
         }
         of_zone!(&mut self.kind, zone => zone.take_block_back(first, order, row))
+    }
+
+    /// Lends the words of the page that an address names, which is pinned.
+    pub(crate) fn lend_page(&mut self, space: u32, vpage: u32) -> Result<Row, ZoneError>
+        ensures refused { result_err result ≡ page_words_refusal space vpage self.old }
+        ensures err { OnErr result (self.new ≡ self.old) }
+        ensures words { IfOk result (λ row. row.words ≡ values_at self.old (address_of space vpage) 0 self.old.page_size) }
+        ensures some { IfOk result (λ row. 0 < length row.words) }
+        ensures place { IfOk result (λ row. Some row.at ≡ page_place self.old (address_of space vpage)) }
+        ensures ok { OnOk result (self.new ≡ page_lent self.old (address_of space vpage)) }
+    {
+        let address = address(space, vpage).ok_or(ZoneError::Range)?;
+        of_zone!(&mut self.kind, zone => zone.lend_page(address))
+    }
+
+    /// Takes the words of a page back, which were lent. Where they aren't taken, they are answered.
+    pub(crate) fn return_page(
+        &mut self,
+        client: u32,
+        space: u32,
+        vpage: u32,
+        row: Row,
+    ) -> Result<(), (ZoneError, Row)>
+        requires { Some row.at ≡ page_place self.old (address_of space vpage) }
+        ensures refused { option_map (λ back. back.0) (result_err result) ≡ page_back_refusal client space vpage (Some row) self.old }
+        ensures row { IfErr result (λ back. back.1 ≡ row) }
+        ensures err { OnErr result (self.new ≡ self.old) }
+        ensures ok { OnOk result (self.new ≡ page_returned self.old client (address_of space vpage) row.words) }
+    {
+        let (Some(client), Some(address)) = (ClientNo::new(client), address(space, vpage)) else {
+            return Err((ZoneError::Range, row));
+        };
+        if row.len() != self.page_words() {
+            return Err((ZoneError::Range, row));
+        }
+        of_zone!(&mut self.kind, zone => zone.take_page_back(client, address, row))
     }
 
     fn page_words(&self) -> usize

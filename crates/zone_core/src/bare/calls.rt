@@ -117,7 +117,7 @@ impl<const W: usize> BareZone<W> {
 
     /// Reads a word of the page that an address names: the value that was stored there last, or 0.
     ///
-    /// Refused as JournalFull, Unmapped or Moving.
+    /// Refused as JournalFull, Unmapped, Moving or Lent.
     #[inline(always)]
     pub fn load(
         &mut self,
@@ -132,13 +132,13 @@ impl<const W: usize> BareZone<W> {
         if !self.tables.has_room() {
             return Err(ZoneError::JournalFull);
         }
-        let read_from = self.tables.frame_of(&address)?;
+        let read_from = self.tables.frame_here(&address)?;
         Ok(self.tables.read(client, address, read_from, word))
     }
 
     /// Writes a word of the page that an address names.
     ///
-    /// Refused as JournalFull, Unmapped or Moving.
+    /// Refused as JournalFull, Unmapped, Moving or Lent.
     #[inline(always)]
     pub fn store(
         &mut self,
@@ -153,7 +153,7 @@ impl<const W: usize> BareZone<W> {
         if !self.tables.has_room() {
             return Err(ZoneError::JournalFull);
         }
-        let frame = self.tables.frame_of(&address)?;
+        let frame = self.tables.frame_here(&address)?;
         self.tables.write(client, address, frame, word, value);
         Ok(())
     }
@@ -232,7 +232,7 @@ impl<const W: usize> BareZone<W> {
 
     /// Takes a pin off the page that an address names, also while the page is moving.
     ///
-    /// Refused as JournalFull, Unmapped or NotPinned.
+    /// Refused as JournalFull, Unmapped or NotPinned, or as Lent where it is the only pin of a page whose words are lent.
     #[inline(always)]
     pub fn unpin(&mut self, client: ClientNo, address: Address) -> Result<(), ZoneError>
         ensures made { IsMade {W = W} (call.Unpin address) client self.old self.new result }
@@ -246,6 +246,9 @@ impl<const W: usize> BareZone<W> {
         let uses = self.tables.uses_at(&address);
         if uses.pins == 0 {
             return Err(ZoneError::NotPinned);
+        }
+        if uses.pins == 1 && self.tables.is_page_lent(&address) {
+            return Err(ZoneError::Lent);
         }
         self.tables.unpin(client, address, uses.page);
         Ok(())

@@ -1,18 +1,20 @@
-//! A zone in memory of its caller: the words of its blocks are lent as rows.
+//! A zone in memory of its caller: the words of its blocks and of pinned pages are lent as rows.
 
 ghost use Rattle.std.specs.Prelude.{◌≡◌, ◌<◌, ◌≤◌, ◌*◌, ◌^◌, ◌↔◌, Some, true, is_none, length, replicate, IsTrue, IfErr, IfOk, IfSome, OnErr, OnOk};
 ghost use Rattle.std.specs.FinSet as set;
 ghost use Rattle.std.specs.Option.{option_map};
 ghost use Rattle.std.specs.Result.{result_err};
+ghost use Rattle.state_core.specs.Access.{is_page_lent};
+ghost use Rattle.state_core.specs.Bulk.{values_at};
 ghost use Rattle.state_core.specs.Contents.{contents_of};
-ghost use Rattle.state_core.specs.Lending.{lend_refusal, return_refusal, block_place, block_lent, block_returned};
+ghost use Rattle.state_core.specs.Lending.{LendsNone, lend_refusal, return_refusal, block_place, block_lent, block_returned, page_place, lend_page_refusal, page_return_refusal, page_lent, page_returned};
 ghost use Rattle.state_core.specs.Opening.{IsAllowed, opened_in, places_of};
 ghost use Rattle.state_core.specs.Pairs.{HaveMet};
 ghost use Rattle.state_core.specs.Valid.{IsValidZone};
 ghost use Rattle.zone_core.specs.ZoneIdentity.{HasIdentity};
 
 use crate::bare::{BareZone, is_allowed};
-use frame_core::{FrameNo, Order, ZoneNo};
+use frame_core::{Address, ClientNo, FrameNo, Order, ZoneNo};
 use row_core::Row;
 use state_core::{ZoneError, ZoneSize};
 use std::alloc::Global;
@@ -74,9 +76,9 @@ impl<const W: usize> BareZone<W> {
         }
     }
 
-    /// Whether the words of no block are lent. It looks at each frame.
+    /// Whether no words are lent. It looks at each frame.
     pub fn lends_none(&self) -> bool
-        ensures { IsTrue result ↔ (self.now.lent ≡ set.empty) }
+        ensures { IsTrue result ↔ LendsNone self.now }
     {
         self.tables.lends_none()
     }
@@ -108,7 +110,8 @@ impl<const W: usize> BareZone<W> {
         Ok(row)
     }
 
-    /// Takes the words of a block back that were lent, by their row. The block has the words of the row then.
+    /// Takes the words of a block back that were lent, by their row, which has to begin where the block does and to have as many words.
+    /// The block has the words of the row then.
     ///
     /// Refused as NotHuge where no block of this order is handed out from this frame on. Then the row is answered as it was.
     pub fn take_block_back(
@@ -132,9 +135,55 @@ impl<const W: usize> BareZone<W> {
         Ok(())
     }
 
+    /// Lends the words of a page that is pinned, as a row. Nothing is copied. Until they come back, no call reads or writes them, and the
+    /// page keeps a pin, so that it stays in its frame. Where the row is dropped, that stays so.
+    ///
+    /// Refused as Unmapped, Moving, NotPinned, Lent or OwnMemory.
+    pub fn lend_page(&mut self, address: Address) -> Result<Row, ZoneError>
+        ensures refused { result_err result ≡ lend_page_refusal self.old address }
+        ensures err { OnErr result (self.new ≡ self.old) }
+        ensures words { IfOk result (λ row. row.words ≡ values_at self.old address 0 self.old.page_size) }
+        ensures count { IfOk result (λ row. length row.words ≡ self.old.page_size) }
+        ensures size { self.old.page_size ≡ W }
+        ensures place { IfOk result (λ row. Some row.at ≡ page_place self.old address) }
+        ensures ok { OnOk result (self.new ≡ page_lent self.old address) }
+        ensures met { OnOk result (HaveMet self.old → HaveMet self.new) }
+        ensures identity { HasIdentity self.old.number self.old.blocks self.new }
+        ensures valid { IsValidZone self.new }
+    {
+        let row = self.tables.lend_page(address)?;
+        Ok(row)
+    }
+
+    /// Takes the words of a page back that were lent, by their row, which has to begin where the page does and to have as many words.
+    /// The page has the words of the row then, which the history tells as a write of all its words by the client who gives them back.
+    ///
+    /// Refused as JournalFull where the journal has no place for a store of each word, or as Unmapped or Moving. Then the row is
+    /// answered as it was.
+    pub fn take_page_back(
+        &mut self,
+        client: ClientNo,
+        address: Address,
+        row: Row,
+    ) -> Result<(), (ZoneError, Row)>
+        requires place { Some row.at ≡ page_place self.old address }
+        requires count { length row.words ≡ self.old.page_size }
+        ensures refused { option_map (λ back. back.0) (result_err result) ≡ page_return_refusal self.old address }
+        ensures row { IfErr result (λ back. back.1 ≡ row) }
+        ensures err { OnErr result (self.new ≡ self.old) }
+        ensures was_lent { OnOk result (0 < self.old.page_size → is_page_lent self.old address ≡ true) }
+        ensures ok { OnOk result (self.new ≡ page_returned self.old client address row.words) }
+        ensures met { OnOk result (HaveMet self.old → HaveMet self.new) }
+        ensures identity { HasIdentity self.old.number self.old.blocks self.new }
+        ensures valid { IsValidZone self.new }
+    {
+        self.tables.take_page_back(client, address, row)?;
+        Ok(())
+    }
+
     /// Ends the zone, no words of which may be lent. Memory that its caller gave comes back, and other memory is given back to the system.
     pub fn end(self) -> Option<Row>
-        requires { self.lent ≡ set.empty }
+        requires { LendsNone self }
         ensures at { option_map (λ row. row.at) result ≡ self.entry.memory }
         ensures count { IfSome result (λ row. length row.words ≡ 512 * self.entry.blocks * self.entry.page_size) }
         ensures size { (self.entry.page_size ≡ W) × (0 < self.entry.blocks) }

@@ -21,7 +21,7 @@ impl<const W: usize> BareZone<W> {
     /// other.
     ///
     /// Refused as Range where the words go past the page, as JournalFull where the journal has no place for each of them,
-    /// or as Unmapped or Moving.
+    /// or as Unmapped, Moving or Lent.
     pub fn read(
         &mut self,
         client: ClientNo,
@@ -46,7 +46,7 @@ impl<const W: usize> BareZone<W> {
     /// Writes words of the page that an address names, from one on: as stores of these values do, one after the other.
     ///
     /// Refused as Range where the words go past the page, as JournalFull where the journal has no place for each of them,
-    /// or as Unmapped or Moving.
+    /// or as Unmapped, Moving or Lent.
     pub fn write(
         &mut self,
         client: ClientNo,

@@ -1,9 +1,9 @@
-//! A zone in memory of its caller: the words of its blocks are lent, written through their row, and come back.
+//! A zone in memory of its caller: the words of its blocks and pages are lent, written through their row, and come back.
 
 ghost use Rattle.std.specs.Prelude.{◌≡◌};
 
-use super::order;
-use frame_core::{FrameNo, Order, ZoneNo};
+use super::{address, client, order, word};
+use frame_core::{Address, ClientNo, FrameNo, Order, ZoneNo};
 use row_core::{Ground, Row};
 use std::process::Abort;
 use zone_core::{BareZone, ZoneError, ZoneSize};
@@ -61,10 +61,52 @@ fn lend_one(rt: &impl Abort, zone: &mut BareZone<8>) {
     assert!(rt; zone.give_order(first, order).is_ok());
 }
 
+/// While the words of a page are lent, no call reads or writes them, and the page keeps its only pin and its address.
+fn assert_page_lent(rt: &impl Abort, zone: &mut BareZone<8>, client: ClientNo, address: &Address)
+    ensures { zone.new ≡ zone.old }
+{
+    assert!(rt; !zone.lends_none());
+    let from = word(rt, 0);
+    let mut words = [0; 2];
+    let refused = Err(ZoneError::Lent);
+    assert!(rt; zone.load(client, *address, from).err() == Some(ZoneError::Lent));
+    assert!(rt; zone.store(client, *address, from, 1) == refused);
+    assert!(rt; zone.read(client, *address, from, &mut words) == refused);
+    assert!(rt; zone.write(client, *address, from, &words) == refused);
+    assert!(rt; zone.unpin(client, *address) == refused);
+    assert!(rt; zone.unmap(client, *address) == Err(ZoneError::Pinned));
+    assert!(rt; zone.lend_page(*address).err() == Some(ZoneError::Lent));
+}
+
+/// A page with a pin is lent and comes back with what was left in it.
+fn lend_page(rt: &impl Abort, zone: &mut BareZone<8>, client: ClientNo, address: &Address) {
+    let stored = [1, 2, 3, 4, 5, 6, 7, 8];
+    assert!(rt; zone.map(client, *address, false).is_ok());
+    assert!(rt; zone.write(client, *address, word(rt, 0), &stored).is_ok());
+    assert!(rt; zone.lend_page(*address).err() == Some(ZoneError::NotPinned));
+    assert!(rt; zone.pin(client, *address).is_ok());
+    let mut row = zone.lend_page(*address).expect(rt, "its words");
+    assert!(rt; row.words() == stored.as_slice());
+    assert_page_lent(rt, zone, client, address);
+    row.words_mut().fill(9);
+    assert!(rt; zone.take_page_back(client, *address, row).is_ok());
+    assert!(rt; zone.lends_none());
+    assert!(rt; zone.load(client, *address, word(rt, 3)) == Ok(9));
+    assert!(rt; zone.unpin(client, *address).is_ok());
+}
+
 #[test]
 fn a_zone_lends_the_words_of_a_block(rt: HostRuntime) {
     match open_in(&rt, 1, memory(&rt, WORDS)) {
         Ok(mut zone) => lend_one(&rt, &mut zone),
+        Err(_) => panic!(&rt; "no zone"),
+    }
+}
+
+#[test]
+fn a_zone_lends_the_words_of_a_page(rt: HostRuntime) {
+    match open_in(&rt, 1, memory(&rt, WORDS)) {
+        Ok(mut zone) => lend_page(&rt, &mut zone, client(&rt), &address(&rt, (0, 9))),
         Err(_) => panic!(&rt; "no zone"),
     }
 }

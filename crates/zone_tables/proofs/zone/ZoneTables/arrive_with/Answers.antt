@@ -2,6 +2,7 @@ use Rattle.std.proofs.Common.{◌≡◌, ◌∙◌, ◌+◌, ◌∷◌, ℕ, Lis
 use Rattle.std.specs.Prelude.{IfSome, is_some, length, slice_set}
 use Rattle.frame_core.specs.declared.state.FrameState.TheVariants.{Free, Holds}
 use Rattle.frame_core.specs.declared.record.Record.TheVariants.{Moved}
+use Rattle.frame_core.specs.FrameSet.{has_frame}
 use Rattle.frame_core.specs.Words.{words_of}
 use Rattle.scan_core.specs.Frames.{Frames}
 use Rattle.state_core.specs.Pairs.{can_move}
@@ -10,7 +11,7 @@ use Rattle.zone_tables.proofs.Tables.{placement_seen, words_seen, note_seen, mov
 use Rattle.zone_tables.specs.Fits.{MovesFit}
 use Rattle.zone_tables.specs.Moves.{Moves}
 use Rattle.zone_tables.proofs.HeldWords.{contents_kept}
-use Rattle.zone_tables.proofs.LentBlocks.{unheld_here, words_here}
+use Rattle.zone_tables.proofs.LentBlocks.{source_here, target_here, target_unlent}
 use Rattle.zone_tables.specs.declared.zone.ZoneTables.TheInside.{Inside}
 use Rattle.state_core.specs.declared.placement.Placement.TheVariants.{At, Moving}
 use Rattle.state_core.specs.Carrying.{relocated, words_now}
@@ -45,9 +46,9 @@ fill_target-requires g c =
     let target = target_row c.self.view_is c.self.invariant way.page c.requires.placed in
     let seen : words_of c.self.inside.words.rows way.source ≡ words_now c.args.self.now way.page = words_seen c.self.inside.words.rows c.args.self.now sound.words sound.valid way.page (Moving way.serial way.source way.target) c.requires.placed in
     let same = subst (λ (words : List ℕ). IfSome c.args.copy (λ page. page.now.words ≡ words)) (sym seen) c.requires.words in
-    let source_here = words_here c.self.inside c.args.self.now sound way.page _ c.requires.placed in
-    let target_here = unheld_here c.self.inside c.args.self.now sound way.target (target_unheld c.self.view_is c.self.invariant way.page c.requires.placed) in
-    (omega arith, (omega arith, (apart, ((source, source_here), ((target, target_here), same)))))
+    let from_here = source_here c.self.inside c.args.self.now sound way.page way.serial way.source way.target c.requires.placed in
+    let to_here = target_here c.self.inside c.args.self.now sound way.page way.serial way.source way.target c.requires.placed in
+    (omega arith, (omega arith, (apart, ((source, from_here), ((target, to_here), same)))))
 
 pub place-requires : goal.place-requires
 place-requires g c = ap is_some (placement_seen c.self.inside c.args.self.now c.self.view_is c.args.way.now.page ∙ c.requires.placed)
@@ -78,7 +79,7 @@ settling {g = g} c =
     let law = sound.valid in
     let at = c.requires.placed in
     let source_in = source_within v way.page way.serial way.source way.target law at in
-    let target_here = target_in v way.page way.serial way.source way.target law at in
+    let target_within = target_in v way.page way.serial way.source way.target law at in
     record {
       sound = sound;
       view = c.self.view_is;
@@ -87,15 +88,15 @@ settling {g = g} c =
       spare = omega (arith, ending_room c.self.view_is c.self.invariant c.args.way.now.page c.requires.placed, ap (λ (u : ZoneState). u.room) c.self.view_is);
       note_is = c.get-note.ensures;
       frames = subst (λ (fs : Frames). FramesSettled z.frames.states fs.states way.page (Moving way.serial way.source way.target) (At way.target)) (sym (frames_are c))
-          (moved_frames z.frames.states way.page way.serial way.source way.target (frames_apart v way.page way.serial way.source way.target law at) (omega (arith, source_in, sound.frames.count)) (omega (arith, target_here, sound.frames.count)));
+          (moved_frames z.frames.states way.page way.serial way.source way.target (frames_apart v way.page way.serial way.source way.target law at) (omega (arith, source_in, sound.frames.count)) (omega (arith, target_within, sound.frames.count)));
       movable = subst (λ (fs : Frames). MovableSettled z.frames.movable fs.movable (can_move v way.page) (At way.target)) (sym (frames_are c))
-          (kept_movable z.frames.movable (can_move v way.page) c.can_move.result way.target (omega (arith, target_here, sound.movable.count))
+          (kept_movable z.frames.movable (can_move v way.page) c.can_move.result way.target (omega (arith, target_within, sound.movable.count))
           (c.can_move.ensures ∙ movable_seen z v way.page c.get-note.result (note_seen c.self.view_is sound (not_none _ (Moving way.serial way.source way.target) at) c.get-note.ensures)));
       fixed = moving_movable v z.frames.unmovable sound.unmovable way.page way.serial way.source way.target at;
       counts = ap (λ (fs : Frames). fs.unmovable) (frames_are c);
       tables = c.to_present.ensures.replaced;
       words = subst (λ (rows : List (List ℕ)). WordsSettled v.page_size z.words.rows rows (Moving way.serial way.source way.target) (At way.target)) (sym (ap (λ w. w.rows) c.fill_target.ensures))
-          (moved_words z.words.rows (words_of z.words.rows way.source) way.serial way.source way.target (omega (arith, target_here, sound.words.count)) refl (sound.words.sized way.source source_in));
+          (moved_words z.words.rows (words_of z.words.rows way.source) way.serial way.source way.target (omega (arith, target_within, sound.words.count)) refl (sound.words.sized way.source source_in));
       notes = c.place.ensures c.get-note.result c.get-note.ensures;
       moves = subst (λ (moves : Moves). MovesFit moves (Moved way.serial ∷ v.records)) (sym c.arrive.ensures)
           (record { isolated = sound.moves.isolated; moved = ap (λ n. n + 1) sound.moves.moved; back = sound.moves.back });
@@ -107,6 +108,7 @@ settling {g = g} c =
       size_same = c.to_present.ensures.size;
       rest_same = refl;
       lent_same = ap (λ w. w.lent) c.fill_target.ensures;
+      vacant = λ frame e. (let here : way.target ≡ frame = cc in ap (has_frame z.words.lent) (sym here) ∙ target_unlent z v sound way.page way.serial way.source way.target at);
       memory_same = ap memory_of c.fill_target.ensures;
       contents_same = ap (λ (rows : List (List ℕ)). tabulated (contents_at g.row.W rows z.cleared z.handed_out) (length z.handed_out)) (ap (λ w. w.rows) c.fill_target.ensures)
           ∙ contents_kept z v sound c.self.view_is way.target (words_of z.words.rows way.source) (target_unheld c.self.view_is c.self.invariant c.args.way.now.page c.requires.placed);

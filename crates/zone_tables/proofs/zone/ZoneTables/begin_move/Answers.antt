@@ -99,6 +99,7 @@ settling c =
       size_same = c.to_migration.ensures.size;
       rest_same = refl;
       lent_same = refl;
+      vacant = λ frame e. cc;
       memory_same = refl;
       contents_same = refl;
     }

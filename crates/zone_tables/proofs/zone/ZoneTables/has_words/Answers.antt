@@ -4,7 +4,7 @@ use Rattle.state_core.specs.Carrying.{words_now}
 use Rattle.frame_core.specs.Words.{words_of}
 use Rattle.state_core.proofs.Facts.{frame_within}
 use Rattle.zone_tables.proofs.Facts.{is_sound}
-use Rattle.zone_tables.proofs.LentBlocks.{words_here}
+use Rattle.zone_tables.proofs.LentBlocks.{source_here}
 use Rattle.zone_tables.proofs.Tables.{words_seen}
 use Rattle.zone_tables.proofs.zone.ZoneTables.has_words.Goals as goal
 
@@ -13,7 +13,7 @@ same-requires g c =
     let sound = is_sound c.self.view_is c.self.invariant in
     let within = frame_within c.args.self.now sound.valid c.args.way.now.page
     (Moving c.args.way.now.serial c.args.way.now.source c.args.way.now.target) c.requires in
-    let here = words_here c.self.inside c.args.self.now sound c.args.way.now.page (Moving c.args.way.now.serial c.args.way.now.source c.args.way.now.target) c.requires in
+    let here = source_here c.self.inside c.args.self.now sound c.args.way.now.page c.args.way.now.serial c.args.way.now.source c.args.way.now.target c.requires in
     (omega arith, (omega arith, (omega (arith, within, sound.words.count), here)))
 
 pub returns : goal.returns

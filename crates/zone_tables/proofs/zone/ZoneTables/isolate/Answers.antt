@@ -13,7 +13,7 @@ use Rattle.state_core.proofs.Entries.{get_insert_same}
 use Rattle.state_core.proofs.Facts.{frame_within}
 use Rattle.zone_tables.specs.declared.ending.Move.{Move}
 use Rattle.zone_tables.proofs.Facts.{is_sound}
-use Rattle.zone_tables.proofs.LentBlocks.{words_here}
+use Rattle.zone_tables.proofs.LentBlocks.{source_here}
 use Rattle.zone_tables.proofs.Tables.{words_seen}
 use Rattle.zone_tables.proofs.zone.ZoneTables.isolate.Goals as goal
 
@@ -31,7 +31,7 @@ read_out-carried-requires g c =
     let step = c.begin_move-way.ensures.step in
     let sound = is_sound c.self.view_is c.self.invariant in
     let source = ap (λ (way : Move). way.source) c.begin_move-way.ensures.way in
-    let here = subst (λ (way : Move). IsHere c.self.inside.words way.source 1) (sym c.begin_move-way.ensures.way) (words_here c.self.inside new sound pair.page (Moving (isolated z.records) pair.source pair.target) (placed z new pair step)) in
+    let here = subst (λ (way : Move). IsHere c.self.inside.words way.source 1) (sym c.begin_move-way.ensures.way) (source_here c.self.inside new sound pair.page (isolated z.records) pair.source pair.target (placed z new pair step)) in
     (omega arith, (omega arith, (omega (arith, source, frame_within new sound.valid pair.page (Moving (isolated z.records) pair.source pair.target) (placed z new pair step), sound.words.count), here)))
 
 pub returns-clause-page : goal.returns-clause-page

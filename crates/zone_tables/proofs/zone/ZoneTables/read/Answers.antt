@@ -3,7 +3,7 @@ use Rattle.frame_core.specs.declared.record.Record.TheVariants.{Load}
 use Rattle.zone_tables.specs.History.{told}
 use Rattle.state_core.specs.ZoneState.{ZoneState}
 use Rattle.state_core.specs.Access.{value_at, loaded}
-use Rattle.zone_tables.proofs.LoadsAndStores.{loaded_sound, word_read, resident}
+use Rattle.zone_tables.proofs.LoadsAndStores.{resident_here, loaded_sound, word_read, resident}
 use Rattle.state_core.proofs.Facts.{spare}
 use Rattle.zone_tables.proofs.Facts.{noted_view, is_sound, Becomes, becomes}
 use Rattle.zone_tables.proofs.zone.ZoneTables.read.Given.{Over}
@@ -13,7 +13,7 @@ use Rattle.zone_tables.proofs.zone.ZoneTables.read.Goals.{After-note}
 pub load-value-requires : goal.load-value-requires
 load-value-requires g c =
     let is = (resident c.self.view_is c.self.invariant c.requires.frame).1 in
-    (omega arith, (omega arith, (is.row_within, is.here)))
+    (omega arith, (omega arith, (is.row_within, resident_here c.self.view_is c.self.invariant c.args.address c.requires.frame c.requires.here)))
 
 value_is : {g : Over} (c : After-note g) → c.load-value.result ≡ value_at c.args.self.now c.args.address c.args.word
 value_is c =

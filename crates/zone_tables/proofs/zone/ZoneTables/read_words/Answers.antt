@@ -4,7 +4,7 @@ use Rattle.state_core.specs.Bulk.{values_at, loaded_all}
 use Rattle.state_core.specs.ZoneState.{ZoneState}
 use Rattle.zone_tables.specs.History.{told_loads}
 use Rattle.zone_tables.proofs.Facts.{is_sound, Becomes, becomes}
-use Rattle.zone_tables.proofs.LoadsAndStores.{resident}
+use Rattle.zone_tables.proofs.LoadsAndStores.{resident_here, resident}
 use Rattle.zone_tables.proofs.WordsAtOnce.{Reading, words_read, after_loads, loads_hold}
 use Rattle.zone_tables.proofs.zone.ZoneTables.read_words.Given.{Over}
 use Rattle.zone_tables.proofs.zone.ZoneTables.read_words.Goals as goal
@@ -13,7 +13,7 @@ use Rattle.zone_tables.proofs.zone.ZoneTables.read_words.Goals.{After-note_each}
 pub load_words-requires : goal.load_words-requires
 load_words-requires g c =
     let is = (resident c.self.view_is c.self.invariant c.requires.frame).1 in
-    (omega arith, (is.row_within, (is.here, omega (arith, c.get.ensures.value, c.requires.within))))
+    (omega arith, (is.row_within, (resident_here c.self.view_is c.self.invariant c.args.address c.requires.frame c.requires.here, omega (arith, c.get.ensures.value, c.requires.within))))
 
 module _ {g : Over} (c : After-note_each g) where
   abbrev count : ℕ

@@ -34,7 +34,7 @@ unmapping c =
     record {
       sound = sound;
       view = c.self.view_is;
-      can = record { valid = sound.valid; spare = spare c.args.self.now c.requires.room; named = c.requires.named; at = c.requires.here };
+      can = record { valid = sound.valid; spare = spare c.args.self.now c.requires.room; named = c.requires.named; at = c.requires.here; unpinned = λ one. c.requires.unpinned };
       changes = c.clear.ensures.cleared;
       frames_same = c.clear.ensures.frames;
       size_same = c.clear.ensures.size;

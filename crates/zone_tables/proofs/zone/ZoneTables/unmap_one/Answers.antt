@@ -29,7 +29,7 @@ unmapping c =
     record {
       sound = sound;
       view = c.self.view_is;
-      can = record { valid = sound.valid; spare = spare c.args.self.now c.requires.room; named = c.requires.named; at = c.requires.here.1 };
+      can = record { valid = sound.valid; spare = spare c.args.self.now c.requires.room; named = c.requires.named; at = c.requires.here.1; unpinned = λ one. absurd (c.requires.more one) };
       changes = c.clear.ensures.cleared;
       frames_same = c.clear.ensures.frames;
       size_same = c.clear.ensures.size;

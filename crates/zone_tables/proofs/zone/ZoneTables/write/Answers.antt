@@ -5,7 +5,7 @@ use Rattle.zone_tables.specs.History.{told}
 use Rattle.frame_core.specs.declared.record.Record.TheVariants.{Store}
 use Rattle.state_core.specs.ZoneState.{ZoneState}
 use Rattle.zone_tables.proofs.Facts.{is_sound, Becomes}
-use Rattle.zone_tables.proofs.LoadsAndStores.{Resident, Storing, resident, store_holds, resident_in}
+use Rattle.zone_tables.proofs.LoadsAndStores.{resident_here, Resident, Storing, resident, store_holds, resident_in}
 use Rattle.state_core.proofs.Facts.{spare}
 use Rattle.zone_tables.proofs.Tables.{note_is, note_of, use_seen}
 use Rattle.zone_tables.proofs.zone.ZoneTables.write.Given.{Over}
@@ -23,7 +23,7 @@ unreachable-requires g c =
 pub store-requires : goal.store-requires
 store-requires g c =
     let is = (resident c.self.view_is c.self.invariant c.requires.frame).1 in
-    (omega arith, (omega arith, (is.row_within, is.here)))
+    (omega arith, (omega arith, (is.row_within, resident_here c.self.view_is c.self.invariant c.args.address c.requires.frame c.requires.here)))
 
 -- the page that the frame holds
 its : {g : Over} (c : After-note g) → Resident c.self.inside c.args.self.now c.args.address c.args.frame c.in-Some.page

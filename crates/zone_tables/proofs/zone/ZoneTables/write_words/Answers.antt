@@ -6,7 +6,7 @@ use Rattle.state_core.specs.Bulk.{stored_all}
 use Rattle.state_core.specs.ZoneState.{ZoneState}
 use Rattle.zone_tables.specs.History.{told_stores}
 use Rattle.zone_tables.proofs.Facts.{is_sound, Becomes}
-use Rattle.zone_tables.proofs.LoadsAndStores.{Resident, resident, resident_in}
+use Rattle.zone_tables.proofs.LoadsAndStores.{resident_here, Resident, resident, resident_in}
 use Rattle.zone_tables.proofs.Tables.{note_is, note_of, use_seen}
 use Rattle.zone_tables.proofs.WordsAtOnce.{Writing, stores_hold}
 use Rattle.zone_tables.proofs.zone.ZoneTables.write_words.Given.{Over}
@@ -28,7 +28,7 @@ unreachable-requires g c =
 pub store_words-requires : goal.store_words-requires
 store_words-requires g c =
     let is = (resident c.self.view_is c.self.invariant c.requires.frame).1 in
-    (omega arith, (is.row_within, (is.here, omega (arith, c.get.ensures.value, c.requires.within))))
+    (omega arith, (is.row_within, (resident_here c.self.view_is c.self.invariant c.args.address c.requires.frame c.requires.here, omega (arith, c.get.ensures.value, c.requires.within))))
 
 pub store-requires : goal.store-requires
 store-requires g c = use_seen c.self.inside c.self.view_is c.in-Some.page (resident_in c.self.view_is c.self.invariant c.requires.frame (sym c.holder.ensures.holder ∙ c.in-Some.is)).used
