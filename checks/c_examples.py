@@ -19,7 +19,7 @@ from c_programs import BINDING, EXAMPLES
 
 TESTS = runs.ROOT / "c/tests"
 PROGRAMS = [
-    *(EXAMPLES / name for name in ("first.c", "buffers.c", "vm.cpp", "keeper.cpp", "host.c", "database.c")),
+    *(EXAMPLES / name for name in ("first.c", "buffers.c", "vm.cpp", "keeper.cpp", "host.c", "host.cpp", "database.c", "database.cpp")),
     *(TESTS / name for name in ("every_call.c", "lent.c", "four_threads.c", "rounds.c", "owners.cpp")),
 ]
 ADDRESSES = ["-fsanitize=address,undefined", "-fno-sanitize-recover=all"]
@@ -28,15 +28,17 @@ VALGRIND = ["valgrind", "-q", "--error-exitcode=9", "--leak-check=full"]
 OF_C = ["--errors-for-leak-kinds=all"]
 # Rust's library keeps memory of a thread until the program ends.
 OF_RUST = ["--errors-for-leak-kinds=definite", "--show-leak-kinds=definite"]
-OF_THREADS = ("buffers.c", "four_threads.c", "rounds.c", "keeper.cpp", "database.c")
-TIMED = ("keeper.cpp", "keeper.rs", "host.c", "host.rs", "database.c", "database.rs")  # they write times and memory to standard error
+OF_THREADS = ("buffers.c", "four_threads.c", "rounds.c", "keeper.cpp", "database.c", "database.cpp")
+# They write times and memory to standard error.
+TIMED = ("keeper.cpp", "keeper.rs", "host.c", "host.cpp", "host.rs", "database.c", "database.cpp", "database.rs")
 IN_RUST = sorted((BINDING / "examples").glob("*.rs"))
 
 
 def wanted(source):
-    """What a program writes: what stands in the file beside it, or anything where there is none."""
-    file = source.with_suffix(".output")
-    return file.read_bytes() if file.is_file() else None
+    """What a program writes: what stands in the file beside it, which is named by its whole name or by its stem, or anything where there
+    is none."""
+    files = (source.with_name(f"{source.name}.output"), source.with_suffix(".output"))
+    return next((file.read_bytes() for file in files if file.is_file()), None)
 
 
 def compare(command, source, how):

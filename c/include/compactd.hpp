@@ -101,7 +101,8 @@ public:
     Memory &operator=(const Memory &) = delete;
     ~Memory() { compactd_unmap_memory(&words_); }
 
-    // How many words it has.
+    // Where it begins, and how many words it has; null and 0 where it is none, as while a pool has it.
+    const std::uint64_t *data() const noexcept { return words_.at; }
     std::size_t size() const noexcept { return words_.count; }
 
 private:
@@ -128,11 +129,11 @@ struct Handle {
 } // namespace detail
 
 // The words of a block while they are lent. They are read and written by the pointer, beside calls on the pool too. When this is destroyed,
-// they are returned to the block. It goes before its Huge, which isn't given back meanwhile.
+// they are returned to the block. It goes before its Huge, which isn't given back meanwhile; or it has the block, and gives it back then.
 class BlockWords {
 public:
     BlockWords(BlockWords &&other) noexcept
-        : handle_(std::move(other.handle_)), first_(other.first_), order_(other.order_), words_(other.words_)
+        : handle_(std::move(other.handle_)), first_(other.first_), order_(other.order_), has_block_(other.has_block_), words_(other.words_)
     {
         other.words_ = compactd_words();
     }
@@ -144,6 +145,7 @@ public:
             handle_ = std::move(other.handle_);
             first_ = other.first_;
             order_ = other.order_;
+            has_block_ = other.has_block_;
             std::swap(words_, other.words_);
         }
         return *this;
@@ -171,14 +173,17 @@ private:
     friend class Huge;
 
     BlockWords(const std::shared_ptr<detail::Handle> &handle, std::uint32_t first, std::uint32_t order, const compactd_words &words) noexcept
-        : handle_(handle), first_(first), order_(order), words_(words)
+        : handle_(handle), first_(first), order_(order), has_block_(false), words_(words)
     {
     }
 
     void let_go() noexcept
     {
-        if (handle_)
+        if (handle_) {
             detail::ignore(compactd_return_block(&handle_->raw, first_, order_, &words_));
+            if (has_block_)
+                detail::ignore(compactd_give_order(&handle_->raw, first_, order_));
+        }
         handle_.reset();
         words_ = compactd_words();
     }
@@ -186,6 +191,7 @@ private:
     std::shared_ptr<detail::Handle> handle_;
     std::uint32_t first_;
     std::uint32_t order_;
+    bool has_block_;
     compactd_words words_;
 };
 
@@ -296,11 +302,21 @@ public:
 
     // Lends the words of the block, in a pool that lies in a Memory: the pointer leads to them until the guard is destroyed. Meanwhile the
     // block isn't read, written or given back by calls.
-    BlockWords words()
+    BlockWords words() &
     {
         compactd_words words = compactd_words();
         detail::done(compactd_block_words(raw(), first_, order_, &words));
         return BlockWords(handle_, first_, order_, words);
+    }
+
+    // The same where this goes, as in pool.take_huge().words(): the guard has the block then, and gives it back when it is destroyed. Where
+    // lending is refused, the block is still this one's.
+    BlockWords words() &&
+    {
+        BlockWords words = this->words();
+        words.has_block_ = true;
+        handle_.reset();
+        return words;
     }
 
     // Gives the block back. Where that is refused, this throws and the block is still this one's.

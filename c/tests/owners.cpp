@@ -153,16 +153,18 @@ void memory()
 {
     HOLDS(refusal([] { Memory(0); }) == COMPACTD_RANGE && refusal([] { Memory(static_cast<std::size_t>(-1)); }) == COMPACTD_MEMORY);
     Memory memory(PageSize::bytes64, 2), none;
-    HOLDS(memory.size() == 8192 && none.size() == 0);
+    const std::uint64_t *const begin = memory.data();
+    HOLDS(memory.size() == 8192 && none.size() == 0 && begin && !none.data());
     HOLDS(refusal([&] { Pool(PageSize::bytes64, {3, 1, 1024}, std::move(memory)); }) == COMPACTD_RANGE && memory.size() == 8192);
     HOLDS(refusal([&] { Pool(PageSize::bytes64, two_blocks, std::move(none)); }) == COMPACTD_RANGE);
     Pool pool(PageSize::bytes64, two_blocks, std::move(memory), 9);
-    HOLDS(pool.describe().places == 9 && pool.describe().blocks == 2);
+    HOLDS(pool.describe().places == 9 && pool.describe().blocks == 2 && !memory.data());
     pool.map(0, {0, 0});
     pool.store(0, {0, 0}, 7, 5);
     Huge huge = pool.take_huge(9);
     memory = pool.close_in();
-    HOLDS(memory.size() == 8192 && refusal([&] { pool.info(); }) == COMPACTD_CLOSED && refusal([&] { huge.words(); }) == COMPACTD_CLOSED);
+    HOLDS(memory.size() == 8192 && memory.data() == begin);
+    HOLDS(refusal([&] { pool.info(); }) == COMPACTD_CLOSED && refusal([&] { huge.words(); }) == COMPACTD_CLOSED);
     none = std::move(memory);
     Pool other(PageSize::bytes64, two_blocks, std::move(none));
     other.map(0, {0, 9});
@@ -201,6 +203,30 @@ void words_that_are_lent()
     low.give();
     high.give();
     HOLDS(pool.info().free == 1024);
+}
+
+// Words that have their block, which goes back with them, also where others take their place.
+void words_with_blocks()
+{
+    Pool pool(PageSize::bytes64, two_blocks, Memory(PageSize::bytes64, 2));
+    std::vector<BlockWords> words;
+    words.push_back(pool.take_huge().words());
+    words.push_back(pool.take_huge(3).words());
+    HOLDS(words[1].size() == 64 && pool.info().huge == 2 && pool.info().held == 520);
+    words[1][63] = 5;
+    words.erase(words.begin());
+    HOLDS(words[0][63] == 5 && pool.info().huge == 1 && pool.info().held == 8);
+    Huge huge = pool.take_huge(9);
+    {
+        BlockWords others = huge.words();
+        HOLDS(refusal([&] { std::move(huge).words(); }) == COMPACTD_LENT && pool.info().huge == 2);
+        others = std::move(words[0]);
+        HOLDS(others[63] == 5);
+    }
+    HOLDS(pool.info().huge == 1 && std::move(huge).words().size() == 4096);
+    HOLDS(pool.info().free == 1024 && pool.take_huge(9).words().size() == 4096);
+    const Huge again = pool.take_huge(9);
+    HOLDS(again.first() == huge.first() && refusal([&] { huge.words(); }) == COMPACTD_NOT_HUGE && pool.info().huge == 1);
 }
 
 // A page that a guard pins, whose words come back to it.
@@ -545,6 +571,7 @@ int main()
     huge_pages();
     memory();
     words_that_are_lent();
+    words_with_blocks();
     words_of_pages();
     words_of_another_page();
     words_that_stay();
