@@ -26,7 +26,8 @@ pub type Pool<K> = SharedPool<K, 8>;
 /// What is done while the keeper's thread runs. Then it is told to end.
 #[derive(Clone, Copy)]
 enum Meanwhile {
-    Nothing,
+    /// It is told to end at once.
+    Stops,
     /// It is waited for until the thread works.
     Works,
     /// It is waited for until the keeper sleeps.
@@ -88,11 +89,18 @@ fn await_step<K: KeeperIdentity, R: Runtime>(rt: &R, pool: &Pool<K>) {
     panic!(rt; "the thread makes no step");
 }
 
+/// Tells the keeper's thread to end. What it had done by then.
+fn stop<K: KeeperIdentity, R: Runtime>(rt: &R, pool: &Pool<K>) -> Work {
+    let mut room = pool.lock(rt);
+    room.stop();
+    room.work()
+}
+
 impl Meanwhile {
     /// Does it. How many pages were moved for blocks that weren't ready.
     fn happens<K: KeeperIdentity + Send + Sync, R: Runtime>(self, rt: &R, pool: &Pool<K>) -> u64 {
         match self {
-            Meanwhile::Nothing => {}
+            Meanwhile::Stops => pool.stop(rt),
             Meanwhile::Works => await_step(rt, pool),
             Meanwhile::Sleeps => await_sleep(rt, pool),
             Meanwhile::SleepsAgain => {
@@ -126,11 +134,13 @@ fn run<K: KeeperIdentity + Send + Sync, R: Runtime>(
         move |scope| -> (Option<Work>, u64) {
             let thread = start(scope, rt, pool, stack_size);
             let taken = meanwhile.happens(rt, pool);
-            pool.stop(rt);
+            let told = stop(rt, pool);
             let Some(thread) = thread else {
                 return (None, taken);
             };
-            (Some(thread.join(rt)), taken)
+            let work = thread.join(rt);
+            assert!(rt; work == told, "it makes no step after it was told to end");
+            (Some(work), taken)
         },
     )
 }

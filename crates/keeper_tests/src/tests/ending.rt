@@ -19,7 +19,7 @@ fn opening(places: Option<u32>, stack_size: usize) -> Opening {
 /// It is told before it works, while it works, and while it sleeps.
 #[test]
 fn a_thread_ends_when_it_is_told(rt: HostRuntime) {
-    for meanwhile in [Meanwhile::Nothing, Meanwhile::Works, Meanwhile::Sleeps] {
+    for meanwhile in [Meanwhile::Stops, Meanwhile::Works, Meanwhile::Sleeps] {
         let outcome = tries(&rt, opening(None, STACK_SIZE), 1, meanwhile);
         assert_adds_up(&rt, &outcome, 1);
         assert!(&rt; outcome.joined == Some(outcome.work), "it told what it did");
