@@ -3,8 +3,8 @@
 A million calls are made through `libcompactd.so` and beside them on the machine, with pages of both sizes, with a journal and without one,
 among them up to 40 pages that are mapped or unmapped in one call, rounds, slices of rounds, pages that are moved by hand, runs that are
 emptied at once or claimed and emptied in steps, up to 4 blocks that are reserved, and steps of keepers of each order. Half of the pools lie
-in memory of the caller's, which is blank or full of something: words of their blocks and of pinned pages are lent, written by the pointer and
-returned, and each word is compared then. Most calls are made on pools of 1 to 8 pageblocks, and 100,000 on pools of 9 to 513, of which some are filled with
+in memory of the caller's, which is blank or full of something: words of their blocks, of pinned pages and of moving pages are lent, written
+by the pointer and returned, and each word is compared then. Most calls are made on pools of 1 to 8 pageblocks, and 100,000 on pools of 9 to 513, of which some are filled with
 blocks but for a few pageblocks at the top. Half of the pools have random numbers of spaces and of virtual pages, and their first and last
 addresses are among those of the calls. 100,000
 more calls are made on one pool of 262,144 frames and 16,777,216 addresses: nine in ten are about a few of them, the others about any. After
@@ -21,7 +21,7 @@ import c_lending
 import c_programs
 import machine
 import runs
-from c_lending import Words
+from c_lending import LentMove, Words
 from c_machine import MOST_PAGES_OF_A_SPACE, MOST_SPACES, ByMachine, Zone
 from machine import Refused
 
@@ -158,6 +158,9 @@ ARGUMENTS = {
     "isolate": [told(MovingPage), told(u64), size],
     "commit": [told(MovingPage), told(u64), size, told(byte)],
     "put_back": [told(MovingPage)],
+    "lend_move": [told(LentMove)],
+    "commit_lent": [told(LentMove), told(byte)],
+    "put_back_lent": [told(LentMove)],
     "next_moving": [u32, told(MovingPage), told(Move)],
     "journal": [told(u64), told(u64)],
     "record_at": [size, told(Record)],
@@ -214,7 +217,9 @@ class Chooser:
         return *self.place(), self.number(self.page_words), self.chance.getrandbits(64)
 
     def share(self):
-        return *self.place(), *self.place()[1:]
+        """Often the same page, so that it gets all the addresses that one may have."""
+        shared = (0, 0, 0) if self.chance.random() < 0.3 else self.place()
+        return *shared, *self.place()[1:]
 
     unmap = unpin = place
 
@@ -375,11 +380,11 @@ OFTEN = {
     **dict.fromkeys(["pin", "unpin"], 40),
     **dict.fromkeys(["take_order", "give_order", "read_block", "write_block", "evacuate"], 15),
     **dict.fromkeys(["mark", "unmark", "marked", "info", "quiet", "audit", "ended", "describe", "free_runs", "fragmentation"], 5),
-    **dict.fromkeys(["isolate", "commit"], 20),
+    **dict.fromkeys(["isolate", "commit", "lend_move", "commit_lent"], 20),
     **dict.fromkeys(["map_many", "unmap_many"], 15),
     **dict.fromkeys(["block_words", "return_block", "page_words", "return_page"], 15),
     **dict.fromkeys(["next_moving", "claim", "empty_some"], 10),
-    **dict.fromkeys(["put_back", "move_pages", "take_claimed", "drop_claim"], 5),
+    **dict.fromkeys(["put_back", "put_back_lent", "move_pages", "take_claimed", "drop_claim"], 5),
     **dict.fromkeys(["begin_round", "reserve", "set_apart", "cheapest_run"], 2),
     "keep": 20,
     "take_kept": 3,
@@ -388,7 +393,7 @@ OFTEN = {
 # The calls that end the quiet of a round where they are accepted.
 LOUD = {"map", "map_at", "share", "unmap", "pin", "unpin", "take_order", "give_order", "mark", "unmark"} | {"claim", "empty_some", "drop_claim"}
 BY_HAND = {"isolate", "commit", "put_back"}
-LENDING = {"block_words", "return_block", "page_words", "return_page"}
+LENDING = {"block_words", "return_block", "page_words", "return_page", "lend_move", "commit_lent", "put_back_lent"}
 BY_KEEPER = {"keep", "take_kept"}
 MANY = {"map_many", "unmap_many"}
 MOST_KEPT = 2  # blocks that a keeper has ready
@@ -511,9 +516,10 @@ class Beside:
         return (answer, (page.serial, page.flags, tuple(words))), (number, wanted)
 
     def end(self, name, chance):
-        """Ends the move of a page, or of none: now and then with a serial, a number or a word that isn't the page's."""
-        serial = chance.choice([*self.carried, 2**32 - 1, 2**64 - 1])
-        own = self.carried.get(serial, (7, [0] * self.machine.zone.page_words))
+        """Ends the move of a page, or of none, or of one whose words are lent: now and then with a serial, a number or a word that isn't the
+        page's."""
+        serial = chance.choice([*self.carried, *self.lending.lent_moves, 2**32 - 1, 2**64 - 1])
+        own = self.carried.get(serial, self.lending.by_value(serial))
         if chance.random() < 0.03:
             serial ^= 2**32
         number, words = own[0] + (chance.random() < 0.05), list(own[1])

@@ -95,7 +95,7 @@ def fields_of_header(text):
 def of_sources():
     """The same of the exports, in the words of C."""
     text = "".join(map(code_of, sorted(SOURCES.rglob("*.rt")))) + code_of(HELD_WORDS).replace("len: usize", "count: usize")
-    text = text.replace("HeldWords", "Words")
+    text = text.replace("HeldWords", "Words").replace("HeldMove", "LentMove")
     return calls_in(text, 'pub extern "C" fn'), structures_in(text)
 
 
@@ -126,9 +126,12 @@ def structures_in(text):
 
 
 def fields_in(text):
-    """Fields with their kinds in the words of C: a number, a pointer to one, or an array of numbers."""
+    """Fields with their kinds in the words of C: a number, a pointer to one, an array of numbers, or a structure."""
     found = re.findall(r"(\w+): (?:(\*?)(?:mut )?(\w+)|\[(\w+); (\d+)\]),", text)
-    return [(f"{NUMBERS[kind]}{star}" if kind else f"{NUMBERS[inner]}[{places}]", name) for name, star, kind, inner, places in found]
+    return [
+        (f"{NUMBERS.get(kind) or name_in_c(kind)}{star}" if kind else f"{NUMBERS[inner]}[{places}]", name)
+        for name, star, kind, inner, places in found
+    ]
 
 
 def name_in_c(name):

@@ -1,5 +1,5 @@
-"""Memory that a caller gives a pool of the library for C, and the words of blocks and of pinned pages that this lends, for
-`checks/c_calls.py`."""
+"""Memory that a caller gives a pool of the library for C, and the words of blocks, of pinned pages and of moving pages that this lends,
+for `checks/c_calls.py`."""
 
 import ctypes
 import struct
@@ -7,7 +7,7 @@ import struct
 import runs
 from c_machine import LENT, OWN_MEMORY
 
-u64, size = ctypes.c_uint64, ctypes.c_size_t
+u32, u64, size, byte = ctypes.c_uint32, ctypes.c_uint64, ctypes.c_size_t, ctypes.c_ubyte
 WORD = 8  # its bytes
 GARBAGE = 0x5A
 
@@ -16,8 +16,20 @@ class Words(ctypes.Structure):
     _fields_ = [("at", size), ("count", size)]
 
 
+class LentMove(ctypes.Structure):
+    _fields_ = [("serial", u64), *((name, u32) for name in ("page", "source", "target", "reserved")), ("origin", Words), ("goal", Words)]
+
+
 def fields_of(words):
     return words.at, words.count
+
+
+def fields_of_move(move):
+    return move.serial, move.page, move.source, move.target, move.reserved, *fields_of(move.origin), *fields_of(move.goal)
+
+
+def same_move(move):
+    return LentMove.from_buffer_copy(move)
 
 
 def words_at(lent):
@@ -47,11 +59,11 @@ def written_by_pointer(words, chooser):
 
 
 class Lending:
-    """The blocks of a pool whose words are lent, by their first frames and orders, the pages whose words are, and the machine's words beside
-    theirs. The pool has memory of the caller's, or none of it."""
+    """The blocks of a pool whose words are lent, by their first frames and orders, the pages whose words are, the moves whose words are, by
+    their serials, and the machine's words beside theirs. The pool has memory of the caller's, or none of it."""
 
     def __init__(self, pool, memory):
-        self.pool, self.memory, self.lent, self.lent_pages = pool, memory, {}, {}
+        self.pool, self.memory, self.lent, self.lent_pages, self.lent_moves = pool, memory, {}, {}, {}
         self.words_of_page = pool.machine.zone.page_words
 
     def need(self, call, found, wanted):
@@ -174,6 +186,84 @@ class Lending:
         if list(words_at(self.lent_pages[page])) != page.words:
             raise runs.Failed(f"the page at {sorted(page.addresses)} has other words than it was left with")
 
+    # Moves.
+
+    def lend_move(self, chooser):
+        """Borrows the words of the next page of the round, compares them with those that it has, and writes some where it goes to."""
+        move = LentMove(*(chooser.chance.getrandbits(32) for _ in range(5)))
+        before = fields_of_move(move)
+        number, page = self.pool.wanted("lend_move", ())
+        answer = self.pool.call("lend_move", move)
+        self.need("lend_move", (answer, *fields_of_move(move)), (number, *(self.moved_words(page, move.page) if page else before)))
+        if answer == 0:
+            written_by_pointer(words_at(move.goal), chooser)
+            self.lent_moves[page.serial] = move, list(words_at(move.goal))
+            self.pool.machine.numbers[page.serial] = move.page
+            self.compare_move(page.serial)
+        return answer
+
+    def moved_words(self, page, number):
+        """What a move of a page has, with its number in the pool."""
+        of_frames = (field for frame in (page.frame, page.target) for field in (self.place_at(frame), self.words_of_page))
+        return page.serial, number, page.frame, page.target, 0, *of_frames
+
+    def commit_lent(self, chooser):
+        """Copies words of a move that are lent, and ends it."""
+        moved = byte(GARBAGE)
+        answer, said = self.end_move("commit_lent", chooser, moved)
+        self.need("commit_lent", moved.value, GARBAGE if said is None else said)
+        return answer
+
+    def put_back_lent(self, chooser):
+        """Ends a move whose words are lent without a copy."""
+        return self.end_move("put_back_lent", chooser)[0]
+
+    def end_move(self, name, chooser, *told):
+        """Ends a move, or none: now and then with a number that isn't its own, or with words of one frame that are too few."""
+        chance = chooser.chance
+        if not self.lent_moves or chance.random() < 0.02:
+            return self.give_move_back(name, LentMove(chance.getrandbits(32)), False, *told)
+        serial = chance.choice(list(self.lent_moves))
+        self.compare_move(serial)
+        move = same_move(self.lent_moves[serial][0])
+        if name == "commit_lent":
+            ctypes.memmove(move.goal.at, move.origin.at, move.goal.count * WORD)
+        wrong = chance.choice(["serial", "page", "source", "target", "origin", "goal"]) if chance.random() < 0.1 else None
+        if wrong in ("origin", "goal"):
+            words = getattr(move, wrong)
+            words.count = chance.choice([0, self.words_of_page - 1])
+            words.at = words.at if words.count else 0
+        elif wrong:
+            setattr(move, wrong, getattr(move, wrong) + 1)
+        answer, said = self.give_move_back(name, move, wrong is None, *told)
+        if answer == 0:
+            del self.lent_moves[serial]
+        elif name == "commit_lent":
+            self.lent_moves[serial] = self.lent_moves[serial][0], list(words_at(self.lent_moves[serial][0].goal))
+        return answer, said
+
+    def give_move_back(self, name, move, is_own, *told):
+        """What the call answers, and what the machine says."""
+        before = fields_of_move(move)
+        number, said = self.pool.wanted(name, (move.serial, is_own, (move.origin.count, move.goal.count)))
+        answer = self.pool.call(name, move, *told)
+        after = (*before[:5], 0, 0, 0, 0) if number == 0 else before
+        self.need(f"{name}{before}", (answer, *fields_of_move(move)), (number, *after))
+        return answer, said
+
+    def compare_move(self, serial):
+        """The words of a page that moves are the machine's, and nobody else has written where it goes to."""
+        move, left = self.lent_moves[serial]
+        found = list(words_at(move.origin)), list(words_at(move.goal))
+        if found != (self.pool.machine.zone.moving[serial].words, left):
+            raise runs.Failed(f"the move {serial} has other words than it was left with")
+
+    def by_value(self, serial):
+        """The number and the words of a page whose move is lent; any where it isn't."""
+        if serial not in self.lent_moves:
+            return 7, [0] * self.words_of_page
+        return self.lent_moves[serial][0].page, list(self.pool.machine.zone.moving[serial].words)
+
     # The end of a pool.
 
     def close(self):
@@ -186,8 +276,11 @@ class Lending:
         for page in list(self.lent_pages):
             self.compare_page(page)
             self.return_at_the_end(page)
-        if self.lent or self.lent_pages:
+        if self.lent or self.lent_pages or self.lent_moves:
             self.need("close_in", (self.pool.call("close_in", back), *fields_of(back)), (LENT, 0, 0))
+        for serial, (move, _) in self.lent_moves.items():
+            self.compare_move(serial)
+            self.need("put_back_lent", self.give_move_back("put_back_lent", move, True)[0], 0)
         for block in sorted(self.pool.machine.zone.handed_out):
             self.compare_and_return(block)
         if self.lent_pages:

@@ -170,6 +170,12 @@ def need_order(order):
         raise Refused(1)
 
 
+def need_both(source_words, target_words):
+    """Refuses a move that lacks words, or has more of one frame than of the other."""
+    if source_words == 0 or source_words != target_words:
+        raise Refused(1)
+
+
 def need_keeper(order, firsts, places):
     need_order(order)
     need((len(firsts), places + 1), *((first, machine.MOST_FRAMES) for first in firsts))
@@ -303,6 +309,23 @@ class ByMachine:
         lent = self.zone.need_still_page(address)
         self.zone.lent_pages.remove(lent)
         self.write(client, space, page, 0, list(lent.words))
+
+    def lend_move(self):
+        """The page that moves."""
+        self.zone.need_places(2)
+        self.zone.need_memory()
+        page = self.zone.take_next()
+        if page is None:
+            raise Refused(MET)
+        return page
+
+    def commit_lent(self, serial, is_own, counts):
+        need_both(*counts)
+        return int(self.end(serial, is_own, is_own and self.zone.moving[serial].pins == 0))
+
+    def put_back_lent(self, serial, is_own, counts):
+        need_both(*counts)
+        self.end(serial, is_own, False, 2)
 
     def info(self):
         zone = self.zone

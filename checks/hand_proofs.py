@@ -47,9 +47,13 @@ HAND_PROOFS = {
         "what they share: a pool is closed or has a zone, by its pointer",
         "8569e42bfc06b264560d9af9dad4e5bec82453f39a130ed89be488ce8892ab58",
     ),
+    "crates/compactd_c/proofs/LentMoves.antt": (
+        "it has lemmas on the moves of a zone, and proves no function by hand",
+        "d47b60e76663c7fc73ededfc70ef2bcace347fa543435b5981bd18546c03a310",
+    ),
     "crates/compactd_c/proofs/Lib.antt": (
-        "it names the four files beside it",
-        "a45f40e61c9e7d3bb64f7d0c0214464f1619aac9c95b31c4aa387dcc8183f43c",
+        "it names the five files beside it",
+        "a881099f3ef7e4fa5b294044e38de8541285c614ea58cfbe9bab2400fc035850",
     ),
     "crates/compactd_c/proofs/Turns.antt": (
         "it says what one more request leaves, and proves no function by hand",
@@ -126,6 +130,14 @@ HAND_PROOFS = {
     "crates/compactd_c/proofs/zone/lending/end_refusal/Answers.antt": (
         "it says whether any words are lent, and proves no function by hand",
         "a5b0a56d92baf664c30c4c4c1156e0b1d6d25eac0c3608c8480f9a0455f466d0",
+    ),
+    "crates/compactd_c/proofs/zone/lent_moves/frame_no/Answers.antt": (
+        "it says that no move leaves the zone, and proves no function by hand",
+        "15b6d3e1a5fd83b27336eb35f82152a48bc0f6adf8af319c051ad51350c650b8",
+    ),
+    "crates/compactd_c/proofs/zone/lent_moves/way_of/Answers.antt": (
+        "it says which moves a zone hasn't, and proves no function by hand",
+        "0d08ff3b01a2c4a9df8207d7f7c633b09ebb22bb8bc25b0d7755b55332174e10",
     ),
     "crates/compactd_c/src/pool.rt": (
         "it makes a box of its pointer or lends what lies there, and may go to another thread",

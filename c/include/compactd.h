@@ -3,8 +3,8 @@
  * A pool is a row of frames, 512 in each of its pageblocks. A frame holds a page or is free. An address is a space and a virtual
  * page. It names a page, and up to 4 addresses may name the same page. A round moves pages to the top, so that pageblocks at the bottom
  * become empty. A block of 8 to 512 free frames can be handed out; the caller then reads and writes its words. The memory of all frames is
- * allocated when the pool is opened, or it is the caller's, and then the words of a block, and those of a page that has a pin, can be lent by
- * a pointer. docs/C.md explains each call.
+ * allocated when the pool is opened, or it is the caller's, and then the words of a block, those of a page that has a pin, and those of both
+ * frames of a page that is moving can be lent by a pointer. docs/C.md explains each call.
  *
  * Each call answers 0 when it was done, or the number of its refusal, an enum compactd_refusal; compactd_refusal_text has its words. A
  * refused call changes nothing: the pool is as it was, and nothing is written through the other pointers. Where several refusals hold, the
@@ -18,8 +18,9 @@
  * have it, a call that would make it name a page is refused as RANGE: compactd_map, compactd_map_at, and compactd_share for its alias.
  * Everywhere else it is an address that names no page.
  *
- * Each structure but the handle, compactd_words and compactd_page_request ends in reserved words: compactd_geometry in one, each other in
- * two. The library fills them with 0 and doesn't read them. A later version may give them a meaning; the size of the structure stays.
+ * Each structure but the handle, compactd_words, compactd_page_request and compactd_lent_move ends in reserved words: compactd_geometry in one,
+ * each other in two. compactd_lent_move has half a word of them. The library fills them with 0 and doesn't read them. A later version may give
+ * them a meaning; the size of the structure stays.
  *
  * What the caller owes, since no call can test it:
  * - A pool is all zeros before its first call. Only these calls read, write or copy its field.
@@ -39,11 +40,16 @@
  *   - Once compactd_open_in has taken the memory, nothing but calls reads or writes its words until the pool is closed, except those that
  *     are lent. compactd_block_words lends the words of a block, and compactd_page_words those of a page: until compactd_return_block or
  *     compactd_return_page takes them back, nobody else has them, and the caller reads and writes them by the pointer, from any thread,
- *     beside calls on the pool too. So may the kernel or a device for it.
- *   - Whatever is done with lent words, by a device too, has ended when compactd_return_block, compactd_return_page or a closing begins. No
- *     word is used after it.
+ *     beside calls on the pool too. So may the kernel or a device for it. So it is with the words `to` of compactd_lend_move, until
+ *     compactd_commit_lent or compactd_put_back_lent takes them back; the words `from` are only read.
+ *   - Whatever is done with lent words, by a device too, has ended when compactd_return_block, compactd_return_page, compactd_commit_lent,
+ *     compactd_put_back_lent or a closing begins. No word is used after it. But the words of a move may be copied beside compactd_close and
+ *     after it too, as long as the memory is there: all of it is the caller's then, but no clause says so.
  *   - compactd_return_block gets the words that compactd_block_words lent for this very block of this pool, and compactd_return_page those
  *     that compactd_page_words lent for this very page, by any address that names it then. Each are returned once.
+ *   - The `from` and `to` of a compactd_lent_move are all zeros before compactd_lend_move fills it, and only calls write its fields.
+ *     compactd_commit_lent and compactd_put_back_lent get the move as compactd_lend_move of this pool filled it, once. When
+ *     compactd_commit_lent begins, `from` has the words that it was lent with, and `to` has the same.
  *
  * Two caps of a pool's life. The way out of each is to close the pool and open another.
  * - 2^53 recorded calls of a pool that keeps no journal; each word of compactd_read and compactd_write counts as one, and each page that is
@@ -87,6 +93,19 @@
 #define COMPACTD_IN_HEADER static
 #endif
 
+/* A pointer as one of another type, and null, as functions of the headers have them in C and in C++. */
+#ifdef __cplusplus
+#define COMPACTD_AS(type, pointer) reinterpret_cast<type>(pointer)
+#else
+#define COMPACTD_AS(type, pointer) ((type)(pointer))
+#endif
+
+#if defined(__cplusplus) && __cplusplus >= 201103L
+#define COMPACTD_NULL nullptr
+#else
+#define COMPACTD_NULL NULL
+#endif
+
 #ifdef __cplusplus
 extern "C" {
 #endif
@@ -128,7 +147,7 @@ enum compactd_refusal {
     COMPACTD_PINNED = 10,       /* the page has a pin and this is its last address */
     COMPACTD_NO_BLOCK = 11,     /* no block of this order has only free frames, or the run can't be emptied or isn't claimed as a whole */
     COMPACTD_NOT_HUGE = 12,     /* no block of this order that begins at this frame is handed out */
-    COMPACTD_STRANGER = 13,     /* no such page is moving in this pool, or its words differ */
+    COMPACTD_STRANGER = 13,     /* no such page is moving in this pool, or its words differ or are lent */
     COMPACTD_MEMORY = 14,       /* there isn't enough memory */
     COMPACTD_PAGES_MOVING = 16, /* a page of the pool is moving */
     COMPACTD_MARKED = 17,       /* the pageblock is marked already */
@@ -158,7 +177,7 @@ COMPACTD_IN_HEADER const char *compactd_refusal_text(uint32_t refusal)
     case COMPACTD_PINNED: return "the page has a pin and this is its last address";
     case COMPACTD_NO_BLOCK: return "no block of this order has only free frames, or the run can't be emptied or isn't claimed as a whole";
     case COMPACTD_NOT_HUGE: return "no block of this order that begins at this frame is handed out";
-    case COMPACTD_STRANGER: return "no such page is moving in this pool, or its words differ";
+    case COMPACTD_STRANGER: return "no such page is moving in this pool, or its words differ or are lent";
     case COMPACTD_MEMORY: return "there isn't enough memory";
     case COMPACTD_PAGES_MOVING: return "a page of the pool is moving";
     case COMPACTD_MARKED: return "the pageblock is marked already";
@@ -226,6 +245,17 @@ typedef struct compactd_moving_page {
     uint32_t flags;  /* a sum of enum compactd_flag */
     uint64_t reserved[2];
 } compactd_moving_page;
+
+/* The move of a page whose words are lent. No word is lent where `from` and `to` are all zeros. */
+typedef struct compactd_lent_move {
+    uint64_t serial;     /* the number of its isolation */
+    uint32_t page;       /* its number in the pool */
+    uint32_t source;     /* the frame that it leaves */
+    uint32_t target;     /* the frame that it goes to */
+    uint32_t reserved;
+    compactd_words from; /* the words of the first, which are only read */
+    compactd_words to;   /* those of the second */
+} compactd_lent_move;
 
 /* A page that is to be mapped or unmapped, and what came of it. */
 typedef struct compactd_page_request {
@@ -542,7 +572,8 @@ uint32_t compactd_compact(compactd_pool *pool, compactd_bool *met) COMPACTD_CALL
  * between them, this leaves what compactd_compact leaves. compactd_round.h makes such a round beside other threads.
  *
  * A round whose pages the caller carries: compactd_begin_round; then compactd_isolate until it answers MET; and for each page compactd_commit
- * or compactd_put_back, by any thread and in any order. */
+ * or compactd_put_back, by any thread and in any order. In a pool that lies in memory of the caller's: compactd_lend_move in place of
+ * compactd_isolate, a copy of `from` to `to`, and compactd_commit_lent or compactd_put_back_lent. All of these may be mixed in one round. */
 
 /* Begins a round. A round that was begun before ends; pages that are moving stay so. The call is unrecorded.
  * Refused: CLOSED. */
@@ -562,14 +593,33 @@ uint32_t compactd_isolate(compactd_pool *pool, compactd_moving_page *page, uint6
 
 /* Ends the move of a page with a copy of its words, which are compared with those of the page. Gets whether the page was moved to its new
  * frame; else it has a pin and is in its old frame.
- * Refused: CLOSED; RANGE where the count isn't that of a page; STRANGER where no page with this number is moving under this serial, or
- * its words differ. */
+ * Refused: CLOSED; RANGE where the count isn't that of a page; STRANGER where no page with this number is moving under this serial, its
+ * words differ, or the words of the move are lent. */
 uint32_t compactd_commit(compactd_pool *pool, const compactd_moving_page *page, const uint64_t *words, size_t count, compactd_bool *moved)
     COMPACTD_CALL;
 
 /* Ends the move of a page without a copy: the page is in its old frame, with its words.
- * Refused: CLOSED; STRANGER. */
+ * Refused: CLOSED; STRANGER, also where the words of the move are lent. */
 uint32_t compactd_put_back(compactd_pool *pool, const compactd_moving_page *page) COMPACTD_CALL;
+
+/* Isolates the next page of the round, as compactd_isolate does, and lends the words of the frame that it leaves and of the one that it goes
+ * to, in a pool that lies in memory of the caller's. Nothing is copied. The caller copies `from` to `to`, without its lock too, and ends the
+ * move by compactd_commit_lent or compactd_put_back_lent; compactd_commit and compactd_put_back don't end it. Meanwhile the page is moving for
+ * all other calls. It may be pinned, and a pin be taken off.
+ * Refused: CLOSED; JOURNAL_FULL where there aren't two places; OWN_MEMORY where the pool lies in memory of its own; MET, also where no round
+ * was begun. */
+uint32_t compactd_lend_move(compactd_pool *pool, compactd_lent_move *move) COMPACTD_CALL;
+
+/* Takes the words of a move back, and ends it as compactd_commit does; nothing is compared or copied. Gets whether the page was moved to its
+ * new frame; else it has a pin and is in its old frame. `from` and `to` are all zeros then.
+ * Refused: CLOSED; RANGE where the move lacks words or has more of one frame than of the other; STRANGER where no page with this number is
+ * moving under this serial from this frame to that one with its words lent. */
+uint32_t compactd_commit_lent(compactd_pool *pool, compactd_lent_move *move, compactd_bool *moved) COMPACTD_CALL;
+
+/* Takes the words of a move back, and ends it as compactd_put_back does: the page is in its old frame, with its words. What `to` has doesn't
+ * matter. `from` and `to` are all zeros then.
+ * Refused: as compactd_commit_lent is. */
+uint32_t compactd_put_back_lent(compactd_pool *pool, compactd_lent_move *move) COMPACTD_CALL;
 
 /* Gets the move of a page that is moving, as one that was isolated, where its old frame is `from` or a higher one. This is a part of the
  * header and isn't proved; the calls that it makes are.

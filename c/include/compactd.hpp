@@ -5,11 +5,11 @@
 // that is moving. Both can be moved and not copied. When a Huge is destroyed, it gives its block back; when a Moving is destroyed, it
 // puts its page back. Both keep the pool's memory until then, also where the Pool is destroyed before. A Memory is a mapping that a pool may
 // lie in. The words of its blocks and of pinned pages are lent then: a BlockWords has those of one block and a PageWords those of one page.
-// Each returns them when it is destroyed.
+// Each returns them when it is destroyed. A LentMove is a moving page with the words of both its frames, and puts it back.
 //
-// As in C, calls on one pool don't overlap, unless all of them are questions. Destroying a Pool, a Huge, a BlockWords, a PageWords or a Moving
-// is a call on its pool that isn't a question. Threads that share a pool make each call under a lock of their own, destructors included. This
-// header isn't proved. It passes what it is given to calls that are.
+// As in C, calls on one pool don't overlap, unless all of them are questions. Destroying a Pool, a Huge, a BlockWords, a PageWords, a Moving or
+// a LentMove is a call on its pool that isn't a question. Threads that share a pool make each call under a lock of their own, destructors
+// included. This header isn't proved. It passes what it is given to calls that are.
 #ifndef COMPACTD_HPP
 #define COMPACTD_HPP
 
@@ -18,6 +18,7 @@
 
 #include <cstddef>
 #include <cstdint>
+#include <cstring>
 #include <memory>
 #include <stdexcept>
 #include <string>
@@ -428,6 +429,92 @@ private:
     std::vector<std::uint64_t> words_;
 };
 
+// A page that is moving, while the words of the frame that it leaves and of the one that it goes to are lent. They are copied by `copy`, beside
+// calls on the pool too, and then commit ends the move. One that is empty has no page: lend_move returns it where the scanners have met.
+class LentMove {
+public:
+    LentMove() noexcept : move_() {}
+
+    LentMove(LentMove &&other) noexcept : handle_(std::move(other.handle_)), move_(other.move_) { other.move_ = compactd_lent_move(); }
+
+    LentMove &operator=(LentMove &&other) noexcept
+    {
+        if (this != &other) {
+            let_go();
+            handle_ = std::move(other.handle_);
+            std::swap(move_, other.move_);
+        }
+        return *this;
+    }
+
+    LentMove(const LentMove &) = delete;
+    LentMove &operator=(const LentMove &) = delete;
+
+    // Puts the page back, where its move hasn't ended.
+    ~LentMove() { let_go(); }
+
+    // Whether it has a page.
+    explicit operator bool() const noexcept { return handle_ != nullptr; }
+
+    // The number of its isolation, the frame that it leaves, and the one that it goes to.
+    std::uint64_t serial() const noexcept { return move_.serial; }
+    std::uint32_t source() const noexcept { return move_.source; }
+    std::uint32_t target() const noexcept { return move_.target; }
+
+    // The words of these two frames, and how many each has.
+    const std::uint64_t *from() const noexcept { return move_.from.at; }
+    std::uint64_t *to() noexcept { return move_.to.at; }
+    std::size_t size() const noexcept { return move_.to.count; }
+
+    // Copies the words. It is no call on the pool.
+    void copy() noexcept
+    {
+        if (size() > 0)
+            std::memcpy(move_.to.at, move_.from.at, size() * sizeof(std::uint64_t));
+    }
+
+    // Ends the move once the words are copied, and returns whether the page was moved; else it has a pin and is in its old frame. This is
+    // empty then.
+    bool commit()
+    {
+        bool moved = false;
+        detail::done(compactd_commit_lent(raw(), &move_, &moved));
+        handle_.reset();
+        return moved;
+    }
+
+    // Ends the move of a page that wasn't copied: it is in its old frame. This is empty then.
+    void put_back()
+    {
+        detail::done(compactd_put_back_lent(raw(), &move_));
+        handle_.reset();
+    }
+
+private:
+    friend class Pool;
+
+    LentMove(const std::shared_ptr<detail::Handle> &handle, const compactd_lent_move &move) noexcept : handle_(handle), move_(move) {}
+
+    compactd_pool *raw() const
+    {
+        if (!handle_)
+            throw Error(COMPACTD_STRANGER);
+        return &handle_->raw;
+    }
+
+    // A refusal says that the pool is closed.
+    void let_go() noexcept
+    {
+        if (handle_)
+            detail::ignore(compactd_put_back_lent(&handle_->raw, &move_));
+        handle_.reset();
+        move_ = compactd_lent_move();
+    }
+
+    std::shared_ptr<detail::Handle> handle_;
+    compactd_lent_move move_;
+};
+
 // What Pool::move_pages did: how many pages it moved, and in `stopped` 0 where they are as many as were asked for, and else why there were
 // no more, COMPACTD_MET or COMPACTD_JOURNAL_FULL.
 struct Slice {
@@ -722,7 +809,8 @@ public:
 
     // A round in slices: begin_round, then move_pages until its Slice has stopped.
     //
-    // A round whose pages the caller carries: begin_round, then isolate until it returns an empty Moving, and for each page its commit.
+    // A round whose pages the caller carries: begin_round, then isolate until it returns an empty Moving, and for each page its commit; or
+    // lend_move until it returns an empty LentMove, and for each its copy, without a lock, and its commit.
     void begin_round() { detail::done(compactd_begin_round(raw())); }
 
     // Moves the next pages of the round, so many at most, each by one copy from frame to frame.
@@ -798,6 +886,15 @@ public:
 
     // Ends the move of a page without a copy: the page is in its old frame.
     void put_back(const compactd_moving_page &page) { detail::done(compactd_put_back(raw(), &page)); }
+
+    // Isolates the next page of the round and lends the words of both its frames, in a pool that lies in a Memory. Nothing is copied.
+    LentMove lend_move()
+    {
+        compactd_lent_move move = compactd_lent_move();
+        if (!is_there(compactd_lend_move(raw(), &move), COMPACTD_MET))
+            return LentMove();
+        return LentMove(handle_, move);
+    }
 
     // Evacuations.
 

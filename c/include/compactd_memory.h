@@ -28,18 +28,6 @@ extern "C" {
 #define COMPACTD_HUGE_PAGE 2097152u
 #define COMPACTD_SMALL_PAGE 4096u
 
-#ifdef __cplusplus
-#define COMPACTD_AS(type, pointer) reinterpret_cast<type>(pointer)
-#else
-#define COMPACTD_AS(type, pointer) ((type)(pointer))
-#endif
-
-#if defined(__cplusplus) && __cplusplus >= 201103L
-#define COMPACTD_NULL nullptr
-#else
-#define COMPACTD_NULL NULL
-#endif
-
 /* The bytes of so many words, in whole pages; 0 where there are too many. */
 COMPACTD_IN_HEADER size_t compactd_bytes_of(size_t count)
 {

@@ -1,25 +1,31 @@
-/* A round of compactd in slices. It is made on the thread that calls, under a lock that it lets go between slices, so that other threads
- * can make calls on the pool meanwhile. compactd_compact makes a whole round in one call, for which these would wait.
+/* Rounds of compactd under a lock that is let go again and again, so that other threads can make calls on the pool meanwhile.
+ * compactd_compact makes a whole round in one call, for which these would wait.
  *
- * Each slice is one call, compactd_move_pages, which copies each of its pages once, from frame to frame. So no call of another thread finds
- * a page moving by it, and nobody else can end a move of it.
+ * compactd_round makes a round in slices, on the thread that calls. Each slice is one call, compactd_move_pages, which copies each of its
+ * pages once, from frame to frame. So no call of another thread finds a page moving by it, and nobody else can end a move of it.
  *
- * A round isn't made on several threads, since that isn't faster: the calls on the pool do nearly all of its work, and they are made under
- * the lock. bench/c_rounds.py measures threads that share a round.
+ * compactd_round_on makes a round on several threads, in a pool that lies in memory of the caller's. Each of them takes some moves under the
+ * lock, copies the words of these pages without it, and ends the moves under the lock as it takes the next ones. So the pages that are in hand
+ * are moving for other threads, and these wait less for the lock: no page is copied under it.
  *
- * What is proved, and what isn't. Each call on the pool is proved. So, whatever other threads do as long as calls are made under the lock,
- * each page keeps its words, and no page is moving by the round where the lock is let go. This header isn't proved: that it makes each call
- * under the lock, that it counts the pages, and that it ends is only tested. */
+ * What is proved, and what isn't. Each call on the pool is proved. So, whatever other threads do as long as calls are made under the lock
+ * and nobody writes what is lent, each page keeps its words, and no page is moving by a slice where the lock is let go. This header isn't
+ * proved: that it makes each call under the lock, that it copies the words before it ends a move, that it ends each move that it took, that
+ * it counts the pages, and that it ends is only tested. */
 #ifndef COMPACTD_ROUND_H
 #define COMPACTD_ROUND_H
 
 #include "compactd.h"
 
 #include <pthread.h>
+#include <string.h>
 
 #ifdef __cplusplus
 extern "C" {
 #endif
+
+/* The most threads of compactd_round_on, and the most moves that one of them has in hand. */
+#define COMPACTD_ROUND_MOST 64
 
 /* A program may include this and call only some of it. */
 #ifdef __GNUC__
@@ -101,6 +107,128 @@ static uint32_t compactd_round(compactd_pool *pool, pthread_mutex_t *lock, uint3
     if (answer == COMPACTD_MET)
         answer = COMPACTD_OK;
     return answer;
+}
+
+/* What the threads of a round share. The last two are read and written under the lock. */
+typedef struct compactd_round_share {
+    compactd_pool *pool;
+    pthread_mutex_t *lock;
+    uint32_t pages;   /* how many moves a thread takes at a time */
+    uint32_t stopped; /* why no further move is taken, or 0 */
+    compactd_round_counts counts;
+} compactd_round_share;
+
+/* Ends a move whose words were copied. Where that is refused, no further move is taken by any thread, and the page is put back, unless the
+ * pool is closed. */
+static void compactd_round_end(compactd_round_share *share, compactd_lent_move *move)
+{
+    compactd_bool moved = 0;
+    const uint32_t answer = compactd_commit_lent(share->pool, move, &moved);
+
+    if (answer != COMPACTD_OK)
+        share->stopped = answer;
+    if (answer == COMPACTD_OK || compactd_put_back_lent(share->pool, move) == COMPACTD_OK) {
+        share->counts.moved += moved;
+        share->counts.back += !moved;
+    }
+}
+
+/* Takes the next moves of the round, and gets how many. */
+static uint32_t compactd_round_take(compactd_round_share *share, compactd_lent_move *moves)
+{
+    uint32_t count = 0;
+
+    while (share->stopped == COMPACTD_OK && count < share->pages) {
+        share->stopped = compactd_lend_move(share->pool, &moves[count]);
+        count += share->stopped == COMPACTD_OK;
+    }
+    share->counts.isolated += count;
+    return count;
+}
+
+/* Ends the moves that a thread has in hand and takes the next ones, under one hold of the lock. */
+static uint32_t compactd_round_exchange(compactd_round_share *share, compactd_lent_move *moves, uint32_t count)
+{
+    uint32_t at;
+
+    pthread_mutex_lock(share->lock);
+    for (at = 0; at < count; at++)
+        compactd_round_end(share, &moves[at]);
+    count = compactd_round_take(share, moves);
+    pthread_mutex_unlock(share->lock);
+    return count;
+}
+
+/* What each thread of a round does: it copies pages without the lock until there are no more, and has no move in hand then. */
+static void *compactd_round_work(void *shared)
+{
+    compactd_round_share *share = COMPACTD_AS(compactd_round_share *, shared);
+    compactd_lent_move moves[COMPACTD_ROUND_MOST];
+    uint32_t at, count = 0;
+
+    memset(moves, 0, sizeof moves);
+    do {
+        count = compactd_round_exchange(share, moves, count);
+        for (at = 0; at < count; at++)
+            memcpy(moves[at].to.at, moves[at].from.at, moves[at].to.count * sizeof moves[at].to.at[0]);
+    } while (count > 0);
+    return shared;
+}
+
+/* Shares a round that was begun with so many threads besides the one that calls, or with as many as can be started. */
+static void compactd_round_with(compactd_round_share *share, uint32_t others)
+{
+    pthread_t threads[COMPACTD_ROUND_MOST];
+    uint32_t started = 0;
+
+    while (started < others && pthread_create(&threads[started], COMPACTD_NULL, compactd_round_work, share) == 0)
+        started++;
+    compactd_round_work(share);
+    while (started > 0)
+        pthread_join(threads[--started], COMPACTD_NULL);
+}
+
+/* Makes a round on a pool that lies in memory of the caller's, whose calls are made under this lock, on so many threads, 1 to 64: the one that
+ * calls, and others that are started for it and have ended when it answers. Where one can't be started, the round goes on with those that
+ * run. Each thread takes so many moves, 1 to 64, under one hold of the lock, and ends them under its next one; in between it copies their
+ * pages without the lock. The caller doesn't hold the lock, and no other round is made on the pool meanwhile.
+ *
+ * While a page is in hand, its loads, stores, reads and writes are refused as MOVING, and so are sharing and unmapping it: let the lock go, and
+ * try again. It may be pinned; then it is put back.
+ *
+ * Answers 0 where the scanners of the round met, and else a number of enum compactd_refusal. RANGE: a number is out of its range, and nothing
+ * changes. CLOSED. OWN_MEMORY: the pool lies in memory of its own, and no page is moved. JOURNAL_FULL: the journal has no room for a further
+ * move. In each case it tells how many pages it isolated, and how many of them were moved or put back. These are all, so no page is moving by
+ * it, unless others closed the pool.
+ *
+ * While a page is in hand, compactd_close_in is refused as LENT. Where others close the pool by compactd_close, the moves in hand end with
+ * it. The threads still read and write the words of these frames until this answers, so the memory stays until then, and no other pool is
+ * opened by the handle.
+ *
+ * The thread that calls can't be cancelled until the round has ended, whatever its cancelability is. The others have its signal mask. */
+COMPACTD_ROUND_UNUSED
+static uint32_t compactd_round_on(compactd_pool *pool, pthread_mutex_t *lock, uint32_t threads, uint32_t pages,
+                                  compactd_round_counts *counts)
+{
+    compactd_round_share share;
+    int cancelability;
+
+    memset(&share, 0, sizeof share);
+    *counts = share.counts;
+    if (threads < 1 || threads > COMPACTD_ROUND_MOST || pages < 1 || pages > COMPACTD_ROUND_MOST)
+        return COMPACTD_RANGE;
+    share.pool = pool;
+    share.lock = lock;
+    share.pages = pages;
+    pthread_setcancelstate(PTHREAD_CANCEL_DISABLE, &cancelability);
+    share.stopped = compactd_round_begin(pool, lock);
+    if (share.stopped == COMPACTD_OK)
+        compactd_round_with(&share, threads - 1);
+    *counts = share.counts;
+    pthread_setcancelstate(cancelability, &cancelability);
+    if (share.stopped == COMPACTD_MET)
+        share.stopped = COMPACTD_OK;
+    return share.stopped;
 }
 
 #ifdef __cplusplus

@@ -27,6 +27,7 @@ static uint32_t in_run, unclaimed;
 static uint32_t firsts[4];
 static size_t claimed;
 static compactd_words lent;
+static compactd_lent_move lent_move;
 static compactd_moving_page carried[4];
 static size_t isolated;
 static uint32_t statuses[4];
@@ -105,6 +106,9 @@ static void closed(compactd_pool *pool)
     IS(CLOSED, compactd_isolate(pool, &page, words, 8));
     IS(CLOSED, compactd_commit(pool, &page, words, 8, &is_so));
     IS(CLOSED, compactd_put_back(pool, &page));
+    IS(CLOSED, compactd_lend_move(pool, &lent_move));
+    IS(CLOSED, compactd_commit_lent(pool, &lent_move, &is_so));
+    IS(CLOSED, compactd_put_back_lent(pool, &lent_move));
     isolated = 7;
     IS(CLOSED, compactd_isolate_many(pool, carried, 4, words, 8, &isolated));
     IS(CLOSED, compactd_commit_many(pool, carried, 1, words, 8, statuses, are_moved));
@@ -241,6 +245,10 @@ static void ranges(compactd_pool *pool, uint32_t page_words)
     ranges_of_keepers(pool);
     IS(RANGE, compactd_isolate(pool, &page, words, page_words - 1));
     IS(RANGE, compactd_commit(pool, &page, words, 1, &is_so));
+    IS(OWN_MEMORY, compactd_lend_move(pool, &lent_move));
+    IS(RANGE, compactd_commit_lent(pool, &lent_move, &is_so));
+    IS(RANGE, compactd_put_back_lent(pool, &lent_move));
+    HOLDS(lent_move.from.at == NULL && lent_move.from.count == 0 && lent_move.to.at == NULL && lent_move.to.count == 0);
 }
 
 static void pages(compactd_pool *pool, uint32_t page_words)
@@ -378,6 +386,7 @@ static void moved_by_hand(compactd_pool *pool, uint32_t page_words)
     OK(compactd_commit(pool, &page, words, page_words, &is_so));
     HOLDS(is_so);
     IS(STRANGER, compactd_commit(pool, &page, words, page_words, &is_so));
+    IS(OWN_MEMORY, compactd_lend_move(pool, &lent_move));
     OK(compactd_isolate(pool, &page, words, page_words));
     OK(compactd_pin(pool, 0, 1, 1));
     OK(compactd_commit(pool, &page, words, page_words, &is_so));

@@ -1,6 +1,6 @@
-/* Pools in memory of the caller's, and words of blocks and of pinned pages that are lent: each refusal and each change of these calls, in pools with pages of
- * both sizes, and memory that is mapped by compactd_memory.h. Prints each call that answers another number, with its line; the status is
- * then 1. */
+/* Pools in memory of the caller's, and words of blocks, of pinned pages and of moving pages that are lent: each refusal and each change of
+ * these calls, in pools with pages of both sizes, and memory that is mapped by compactd_memory.h. Prints each call that answers another
+ * number, with its line; the status is then 1. */
 #define _DEFAULT_SOURCE
 
 #include "answers.h"
@@ -23,6 +23,8 @@ static compactd_counts counts;
 static compactd_words memory, lent, other;
 static compactd_moving_page page;
 static compactd_page_info info;
+static compactd_lent_move move, another;
+static compactd_round_counts ends;
 
 static int is_nothing(const compactd_words *found)
 {
@@ -797,6 +799,362 @@ static void a_pageblock_of_pages(uint32_t page_words)
     close_in(&pool, begin, page_words);
 }
 
+/* Moving pages. */
+
+/* A pool whose pages 0 to 3 of space 0 are in frames 5 to 8, with their words; page 1 is page 7 of space 1 too. A round was begun. Returns
+ * where the memory begins. */
+static uint64_t *open_with_round(compactd_pool *pool, uint32_t page_words, uint32_t places)
+{
+    uint64_t *begin = open_in(pool, page_words, places);
+    uint32_t vpage;
+
+    for (vpage = 0; vpage < 4; vpage++) {
+        OK(compactd_map_at(pool, 0, 0, vpage, 0, 5 + vpage));
+        write_page(pool, vpage, page_words);
+    }
+    OK(compactd_share(pool, 0, 0, 1, 1, 7));
+    OK(compactd_begin_round(pool));
+    return begin;
+}
+
+/* The next page of the round is lent, and is the one of this number: out of frame 5 + number, to the number-th frame from the top. */
+static void lends(compactd_pool *pool, const uint64_t *begin, uint32_t page_words, uint32_t number, compactd_lent_move *found)
+{
+    const uint32_t source = 5 + number, target = FRAMES - 1 - number;
+
+    memset(found, 0, sizeof *found);
+    found->reserved = 9;
+    OK(compactd_lend_move(pool, found));
+    HOLDS(found->serial == number && found->source == source && found->target == target && found->reserved == 0);
+    HOLDS(found->from.at == begin + (size_t)source * page_words && found->from.count == page_words);
+    HOLDS(found->to.at == begin + (size_t)target * page_words && found->to.count == page_words);
+    HOLDS(are_all(&found->from, number));
+}
+
+static void copy(const compactd_lent_move *lent_move)
+{
+    memcpy(lent_move->to.at, lent_move->from.at, lent_move->to.count * sizeof lent_move->to.at[0]);
+}
+
+static int is_over(const compactd_lent_move *found)
+{
+    return is_nothing(&found->from) && is_nothing(&found->to);
+}
+
+/* The page of this number rests in a frame, with its words and so many pins. */
+static void rests(compactd_pool *pool, uint32_t number, uint32_t wanted, uint32_t pins, uint32_t page_words)
+{
+    OK(compactd_look(pool, 0, number, &info));
+    HOLDS(info.frame == wanted && info.pins == pins && !info.moving && page_has(pool, number, page_words));
+}
+
+/* When no move is lent. */
+static void refused_lending_of_moves(uint32_t page_words)
+{
+    compactd_pool pool = {0};
+    uint64_t *begin;
+
+    memset(&move, 0, sizeof move);
+    IS(CLOSED, compactd_lend_move(&pool, &move));
+    OK(compactd_open_journal(&pool, page_words, 1, 3));
+    IS(OWN_MEMORY, compactd_lend_move(&pool, &move)); /* no round was begun either */
+    OK(compactd_map(&pool, 0, 0, 0, 0, &frame));
+    OK(compactd_begin_round(&pool));
+    IS(OWN_MEMORY, compactd_lend_move(&pool, &move));
+    OK(compactd_mark(&pool, 0));
+    IS(JOURNAL_FULL, compactd_lend_move(&pool, &move)); /* a place is left, and a move needs two */
+    OK(compactd_close(&pool));
+    begin = open_in(&pool, page_words, 2);
+    IS(MET, compactd_lend_move(&pool, &move)); /* no round was begun */
+    OK(compactd_begin_round(&pool));
+    IS(MET, compactd_lend_move(&pool, &move)); /* there is no page */
+    OK(compactd_map(&pool, 0, 0, 0, 0, &frame));
+    IS(JOURNAL_FULL, compactd_lend_move(&pool, &move));
+    HOLDS(is_over(&move) && move.serial == 0 && move.target == 0);
+    close_in(&pool, begin, page_words);
+    IS(CLOSED, compactd_lend_move(&pool, &move));
+}
+
+/* What other calls are refused as while the words of a move are lent. */
+static void refusals_of_a_lent_move(uint32_t page_words)
+{
+    compactd_pool pool = {0};
+    uint64_t *begin = open_with_round(&pool, page_words, 0);
+    compactd_moving_page found;
+    compactd_move way;
+    uint64_t word = 7;
+
+    lends(&pool, begin, page_words, 0, &another);
+    lends(&pool, begin, page_words, 1, &move);
+    IS(MOVING, compactd_load(&pool, 0, 0, 1, 0, &word));
+    IS(MOVING, compactd_load(&pool, 0, 1, 7, 0, &word));
+    IS(MOVING, compactd_store(&pool, 0, 0, 1, 0, 7));
+    IS(MOVING, compactd_read(&pool, 0, 0, 1, 0, words, page_words));
+    IS(MOVING, compactd_write(&pool, 0, 1, 7, 0, words, page_words));
+    IS(MOVING, compactd_unmap(&pool, 0, 0, 1));
+    IS(MOVING, compactd_share(&pool, 0, 0, 1, 0, 9));
+    IS(MOVING, compactd_page_words(&pool, 0, 1, &lent));
+    IS(OCCUPIED, compactd_map(&pool, 0, 0, 1, 0, &frame));
+    IS(NO_FRAME, compactd_map_at(&pool, 0, 0, 9, 0, move.source));
+    IS(NO_FRAME, compactd_map_at(&pool, 0, 0, 9, 0, move.target));
+    IS(NO_BLOCK, compactd_evacuate(&pool, 0, 3, &moved));
+    IS(LENT, compactd_close_in(&pool, &other));
+    IS(PAGES_MOVING, compactd_audit(&pool, &ends));
+    HOLDS(word == 7 && is_nothing(&lent) && is_nothing(&other));
+    OK(compactd_look(&pool, 1, 7, &info));
+    OK(compactd_info(&pool, &counts));
+    HOLDS(info.moving && info.serial == 1 && info.maps == 2 && counts.moving == 2 && counts.pages == 4);
+    OK(compactd_next_moving(&pool, 6, &found, &way));
+    HOLDS(found.serial == 1 && found.number == move.page && way.source == 6 && way.target == move.target && way.space == 0 && way.vpage == 1);
+    memcpy(words, move.from.at, page_words * sizeof words[0]);
+    IS(STRANGER, compactd_commit(&pool, &found, words, page_words, &is_so));
+    IS(RANGE, compactd_commit(&pool, &found, words, page_words - 1, &is_so));
+    IS(STRANGER, compactd_put_back(&pool, &found));
+    copy(&move);
+    OK(compactd_commit_lent(&pool, &move, &is_so));
+    HOLDS(is_so);
+    rests(&pool, 1, FRAMES - 2, 0, page_words);
+    OK(compactd_put_back_lent(&pool, &another));
+    rests(&pool, 0, 5, 0, page_words);
+    close_in(&pool, begin, page_words);
+}
+
+/* What the two ends of a lent move are refused as. They change nothing then. */
+static void refused_ends(uint32_t page_words)
+{
+    compactd_pool pool = {0}, second = {0};
+    uint64_t *begin = open_with_round(&pool, page_words, 0), *begin_of_second;
+    compactd_lent_move wrong_move[6];
+    compactd_moving_page by_value;
+    compactd_move way;
+    size_t at;
+
+    lends(&pool, begin, page_words, 0, &move);
+    OK(compactd_isolate(&pool, &by_value, words, page_words));
+    OK(compactd_next_moving(&pool, move.source + 1, &by_value, &way));
+    for (at = 0; at < 6; at++)
+        wrong_move[at] = move;
+    wrong_move[0].serial = by_value.serial;
+    wrong_move[1].page = by_value.number;
+    wrong_move[2].source = way.source;
+    wrong_move[3].target = way.target;
+    wrong_move[4].serial += (uint64_t)1 << 32;
+    wrong_move[5].serial = by_value.serial; /* a page that moves, but its words aren't lent */
+    wrong_move[5].page = by_value.number;
+    wrong_move[5].source = way.source;
+    wrong_move[5].target = way.target;
+    for (at = 0; at < 6; at++) {
+        another = wrong_move[at];
+        IS(STRANGER, compactd_commit_lent(&pool, &wrong_move[at], &is_so));
+        IS(STRANGER, compactd_put_back_lent(&pool, &wrong_move[at]));
+        HOLDS(wrong_move[at].serial == another.serial && wrong_move[at].page == another.page);
+        HOLDS(is_same(&wrong_move[at].from, &another.from) && is_same(&wrong_move[at].to, &another.to));
+    }
+    another = move;
+    another.from.at = another.to.at = NULL;
+    another.from.count = another.to.count = 0; /* no words at all */
+    IS(RANGE, compactd_commit_lent(&pool, &another, &is_so));
+    IS(RANGE, compactd_put_back_lent(&pool, &another));
+    another.from = move.from; /* those of one frame, and then more of one than of the other */
+    IS(RANGE, compactd_commit_lent(&pool, &another, &is_so));
+    another.to = move.to;
+    another.to.count--;
+    IS(RANGE, compactd_commit_lent(&pool, &another, &is_so));
+    IS(RANGE, compactd_put_back_lent(&pool, &another));
+    HOLDS(another.to.count == page_words - 1 && another.to.at == move.to.at);
+    copy(&move);
+    OK(compactd_commit_lent(&pool, &move, &is_so));
+    HOLDS(is_so && is_over(&move) && move.serial == 0 && move.source == 5);
+    IS(RANGE, compactd_commit_lent(&pool, &move, &is_so)); /* once */
+    IS(RANGE, compactd_put_back_lent(&pool, &move));
+    OK(compactd_commit(&pool, &by_value, words, page_words, &is_so));
+    rests(&pool, 0, FRAMES - 1, 0, page_words);
+    rests(&pool, 1, FRAMES - 2, 0, page_words);
+    lends(&pool, begin, page_words, 2, &move);
+    begin_of_second = open_with_round(&second, page_words, 0);
+    another = move;
+    IS(STRANGER, compactd_commit_lent(&second, &another, &is_so)); /* a pool without such a move */
+    IS(STRANGER, compactd_put_back_lent(&second, &another));
+    close_in(&second, begin_of_second, page_words);
+    IS(CLOSED, compactd_commit_lent(&second, &another, &is_so));
+    IS(CLOSED, compactd_put_back_lent(&second, &another));
+    HOLDS(is_same(&another.from, &move.from) && is_same(&another.to, &move.to));
+    OK(compactd_put_back_lent(&pool, &move));
+    close_in(&pool, begin, page_words);
+}
+
+/* What the ends of lent moves leave: with a pin, without one, with one that was taken off again, and put back. */
+static void ends_of_lent_moves(uint32_t page_words)
+{
+    compactd_pool pool = {0};
+    uint64_t *begin = open_with_round(&pool, page_words, 0);
+    compactd_lent_move moves[4];
+    uint32_t vpage;
+
+    for (vpage = 0; vpage < 4; vpage++)
+        lends(&pool, begin, page_words, vpage, &moves[vpage]);
+    IS(MET, compactd_lend_move(&pool, &move));
+    OK(compactd_pin(&pool, 0, 1, 7));
+    OK(compactd_pin(&pool, 0, 0, 2));
+    OK(compactd_unpin(&pool, 0, 0, 2));
+    memset(moves[3].to.at, GARBAGE, page_words * sizeof words[0]); /* what a copy that broke off leaves */
+    for (vpage = 0; vpage < 3; vpage++) {
+        copy(&moves[2 - vpage]); /* the last one first */
+        OK(compactd_commit_lent(&pool, &moves[2 - vpage], &is_so));
+        HOLDS(is_so == (vpage != 1) && is_over(&moves[2 - vpage]));
+    }
+    OK(compactd_put_back_lent(&pool, &moves[3]));
+    HOLDS(is_over(&moves[3]));
+    rests(&pool, 0, FRAMES - 1, 0, page_words);
+    rests(&pool, 1, 6, 1, page_words);
+    rests(&pool, 2, FRAMES - 3, 0, page_words);
+    rests(&pool, 3, 8, 0, page_words);
+    OK(compactd_audit(&pool, &ends));
+    OK(compactd_info(&pool, &counts));
+    HOLDS(ends.isolated == 4 && ends.moved == 2 && ends.back == 2 && counts.moving == 0 && counts.free == FRAMES - 4);
+    OK(compactd_map_at(&pool, 0, 0, 9, 0, FRAMES - 4)); /* the frame that the broken copy was in */
+    OK(compactd_read(&pool, 0, 0, 9, 0, words, page_words));
+    HOLDS(are_zeros(words, page_words));
+    OK(compactd_take_order(&pool, 3, &first)); /* the frames at the bottom but for two pages: the block lies above */
+    HOLDS(first == 16);
+    OK(compactd_map_at(&pool, 0, 0, 8, 0, 5)); /* a frame that a page left */
+    OK(compactd_read(&pool, 0, 0, 8, 0, words, page_words));
+    HOLDS(are_zeros(words, page_words));
+    OK(compactd_unpin(&pool, 0, 0, 1));
+    OK(compactd_compact(&pool, &is_so));
+    for (vpage = 0; vpage < 4; vpage++)
+        HOLDS(page_has(&pool, vpage, page_words));
+    close_in(&pool, begin, page_words);
+}
+
+/* In memory that is blank: what is left in the frames that moves were to go to is gone when a page or a block is there. */
+static void blank_frames_of_moves(uint32_t page_words)
+{
+    const uint32_t last = FRAMES - 1;
+    compactd_pool pool = {0};
+    compactd_lent_move moves[2];
+    uint64_t *begin;
+    uint32_t vpage;
+
+    find_memory((size_t)FRAMES * page_words);
+    memset(memory.at, 0, memory.count * sizeof memory.at[0]);
+    begin = memory.at;
+    OK(compactd_open_in(&pool, page_words, BLOCKS, 1, FRAMES, 0, &memory, 1));
+    memset(moves, 0, sizeof moves);
+    for (vpage = 0; vpage < 2; vpage++)
+        OK(compactd_map(&pool, 0, 0, vpage, 0, &frame));
+    OK(compactd_begin_round(&pool));
+    for (vpage = 0; vpage < 2; vpage++) {
+        OK(compactd_lend_move(&pool, &moves[vpage]));
+        HOLDS(moves[vpage].target == last - vpage && are_zeros(moves[vpage].to.at, page_words));
+        memset(moves[vpage].to.at, GARBAGE, page_words * sizeof words[0]);
+        OK(compactd_put_back_lent(&pool, &moves[vpage]));
+    }
+    OK(compactd_map_at(&pool, 0, 0, 2, 0, last));
+    OK(compactd_read(&pool, 0, 0, 2, 0, words, page_words));
+    HOLDS(are_zeros(words, page_words));
+    OK(compactd_unmap(&pool, 0, 0, 2));
+    OK(compactd_claim(&pool, last - 7, 3, &pages));
+    OK(compactd_take_claimed(&pool, last - 7, 3));
+    OK(compactd_block_words(&pool, last - 7, 3, &lent));
+    HOLDS(pages == 0 && are_zeros(lent.at, lent.count));
+    OK(compactd_return_block(&pool, last - 7, 3, &lent));
+    close_in(&pool, begin, page_words);
+}
+
+/* A whole round of lent moves leaves each page where compactd_compact does, and has the same records. */
+static void rounds_of_lent_moves(uint32_t page_words)
+{
+    compactd_pool pool = {0}, alone = {0};
+    uint64_t *begin, *begin_alone;
+    compactd_record record, wanted;
+    uint64_t records, room;
+    uint32_t vpage, at;
+
+    begin = open_in(&pool, page_words, 60000);
+    begin_alone = open_in(&alone, page_words, 60000);
+    for (vpage = 0; vpage < FRAMES; vpage += 3 + vpage % 5) {
+        OK(compactd_map_at(&pool, 0, 1, vpage, vpage % 7 == 0, vpage));
+        OK(compactd_map_at(&alone, 0, 1, vpage, vpage % 7 == 0, vpage));
+        OK(compactd_store(&pool, 1, 1, vpage, 7, vpage));
+        OK(compactd_store(&alone, 1, 1, vpage, 7, vpage));
+    }
+    OK(compactd_compact(&alone, &is_so));
+    OK(compactd_begin_round(&pool));
+    memset(&move, 0, sizeof move);
+    while (compactd_lend_move(&pool, &move) == COMPACTD_OK) {
+        copy(&move);
+        OK(compactd_commit_lent(&pool, &move, &is_so));
+        HOLDS(is_so);
+    }
+    for (vpage = 0; vpage < FRAMES; vpage += 3 + vpage % 5) {
+        compactd_page_info found;
+
+        OK(compactd_look(&pool, 1, vpage, &info));
+        OK(compactd_look(&alone, 1, vpage, &found));
+        OK(compactd_load(&pool, 0, 1, vpage, 7, words));
+        HOLDS(info.frame == found.frame && info.flags == found.flags && words[0] == vpage);
+        OK(compactd_load(&alone, 0, 1, vpage, 7, words));
+    }
+    OK(compactd_journal(&pool, &records, &room));
+    for (at = 0; at < records; at++) {
+        OK(compactd_record_at(&pool, at, &record));
+        OK(compactd_record_at(&alone, at, &wanted));
+        HOLDS(memcmp(&record, &wanted, sizeof record) == 0);
+    }
+    IS(RANGE, compactd_record_at(&alone, records, &wanted));
+    close_in(&pool, begin, page_words);
+    close_in(&alone, begin_alone, page_words);
+}
+
+/* Each move that is lent keeps a place of a journal for its end. */
+static void lent_moves_of_a_journal(uint32_t page_words)
+{
+    compactd_pool pool = {0};
+    uint64_t *begin = open_in(&pool, page_words, 8);
+    uint64_t records, room;
+    compactd_record record;
+    uint32_t vpage;
+
+    for (vpage = 0; vpage < 3; vpage++)
+        OK(compactd_map_at(&pool, 0, 0, vpage, 0, vpage));
+    OK(compactd_begin_round(&pool));
+    memset(&move, 0, sizeof move);
+    memset(&another, 0, sizeof another);
+    OK(compactd_lend_move(&pool, &move));
+    OK(compactd_lend_move(&pool, &another));
+    OK(compactd_load(&pool, 0, 0, 2, 0, words));
+    IS(JOURNAL_FULL, compactd_load(&pool, 0, 0, 2, 0, words));
+    IS(JOURNAL_FULL, compactd_pin(&pool, 0, 0, 0));
+    copy(&another);
+    OK(compactd_commit_lent(&pool, &another, &is_so));
+    OK(compactd_put_back_lent(&pool, &move));
+    OK(compactd_journal(&pool, &records, &room));
+    HOLDS(is_so && records == 8 && room == 0);
+    OK(compactd_record_at(&pool, 6, &record));
+    HOLDS(record.kind == COMPACTD_WAS_MOVED && record.number == 1);
+    OK(compactd_record_at(&pool, 7, &record));
+    HOLDS(record.kind == COMPACTD_WAS_PUT_BACK && record.number == 0 && record.other == 2);
+    close_in(&pool, begin, page_words);
+}
+
+/* A pool is closed while the words of a move are lent: the memory is the caller's. */
+static void closed_beside_a_lent_move(uint32_t page_words)
+{
+    compactd_pool pool = {0};
+    uint64_t *begin = open_with_round(&pool, page_words, 0);
+
+    lends(&pool, begin, page_words, 0, &move);
+    OK(compactd_close(&pool));
+    copy(&move);
+    HOLDS(are_all(&move.to, 0));
+    IS(CLOSED, compactd_commit_lent(&pool, &move, &is_so));
+    IS(CLOSED, compactd_put_back_lent(&pool, &move));
+    HOLDS(!is_over(&move));
+    memset(begin, GARBAGE, (size_t)FRAMES * page_words * sizeof begin[0]);
+    free(begin);
+}
+
 /* Memory that is mapped. */
 
 /* How many of the pages of 4 KiB of some memory the system has in memory of its own. */
@@ -899,6 +1257,14 @@ static void both_sizes(uint32_t page_words)
     pinned_words(page_words);
     moves_beside_a_page(page_words);
     a_pageblock_of_pages(page_words);
+    refused_lending_of_moves(page_words);
+    refusals_of_a_lent_move(page_words);
+    refused_ends(page_words);
+    ends_of_lent_moves(page_words);
+    blank_frames_of_moves(page_words);
+    rounds_of_lent_moves(page_words);
+    lent_moves_of_a_journal(page_words);
+    closed_beside_a_lent_move(page_words);
     mapped(page_words, 0);
     mapped(page_words, 1);
 }

@@ -13,6 +13,7 @@ using compactd::Address;
 using compactd::BlockWords;
 using compactd::Error;
 using compactd::Huge;
+using compactd::LentMove;
 using compactd::Memory;
 using compactd::Moving;
 using compactd::PageSize;
@@ -30,6 +31,7 @@ static_assert(std::is_nothrow_move_constructible<Moving>::value && std::is_nothr
 static_assert(!std::is_copy_constructible<Memory>::value && !std::is_copy_constructible<BlockWords>::value, "words have one owner");
 static_assert(std::is_nothrow_move_assignable<Memory>::value && std::is_nothrow_move_assignable<BlockWords>::value, "both are moved");
 static_assert(!std::is_copy_constructible<PageWords>::value && std::is_nothrow_move_constructible<PageWords>::value, "as those of a page");
+static_assert(!std::is_copy_constructible<LentMove>::value && std::is_nothrow_move_assignable<LentMove>::value, "and those of a move");
 
 namespace {
 
@@ -273,6 +275,58 @@ void words_of_another_page()
     }
     HOLDS(pool.load(0, at, 0) == 0 && pool.look(at).pins == 1);
     HOLDS(refusal([&] { pool.load(0, alias, 0); }) == COMPACTD_LENT && pool.look(alias).pins == 1);
+}
+
+// A pool with the pages 0 to `pages` in its lowest frames, whose word 7 is their number, and a round that has begun.
+Pool with_pages(std::uint32_t pages)
+{
+    Pool pool(PageSize::bytes4096, two_blocks, Memory(PageSize::bytes4096, 2));
+    for (std::uint32_t page = 0; page < pages; page++) {
+        pool.map(0, {0, page});
+        pool.store(0, {0, page}, 7, page);
+    }
+    pool.begin_round();
+    return pool;
+}
+
+// Moves that are committed, put back by a call or a destructor, or refused.
+void lent_moves()
+{
+    Pool own(PageSize::bytes64, 1), pool = with_pages(4);
+    HOLDS(refusal([&] { own.lend_move(); }) == COMPACTD_OWN_MEMORY);
+    LentMove none, first = pool.lend_move();
+    HOLDS(!none && none.from() == nullptr && none.to() == nullptr && none.size() == 0);
+    none.copy();
+    HOLDS(refusal([&] { none.commit(); }) == COMPACTD_STRANGER && refusal([&] { none.put_back(); }) == COMPACTD_STRANGER);
+    HOLDS(first && first.serial() == 0 && first.source() == 0 && first.target() == 1023 && first.size() == 512 && first.from()[7] == 0);
+    {
+        LentMove second = pool.lend_move(), third = pool.lend_move();
+        HOLDS(second.from()[7] == 1 && third.from() == second.from() + 512 && third.to() == second.to() - 512);
+        HOLDS(refusal([&] { pool.load(0, {0, 1}, 7); }) == COMPACTD_MOVING && pool.info().moving == 3);
+        third = std::move(second); // which puts that page back
+        HOLDS(pool.info().moving == 2 && pool.look({0, 2}).frame == 2 && pool.load(0, {0, 2}, 7) == 2 && !second && third.serial() == 1);
+        third.to()[5] = 9; // a copy that broke off
+    }
+    HOLDS(pool.info().moving == 1 && pool.load(0, {0, 1}, 7) == 1 && pool.load(0, {0, 1}, 5) == 0);
+    HOLDS(refusal([&] { pool.close_in(); }) == COMPACTD_LENT);
+    first.copy();
+    HOLDS(first.commit() && !first && first.size() == 0 && pool.look({0, 0}).frame == 1023 && pool.load(0, {0, 0}, 7) == 0);
+    HOLDS(refusal([&] { first.commit(); }) == COMPACTD_STRANGER);
+    LentMove last = pool.lend_move();
+    pool.pin(0, {0, 3});
+    last.copy();
+    HOLDS(!last.commit() && pool.look({0, 3}).frame == 3 && !pool.lend_move() && pool.audit().back == 3);
+    HOLDS(pool.close_in().size() == 2 * 512 * 512);
+}
+
+// A guard that has a move as its pool goes.
+void moves_that_stay()
+{
+    std::unique_ptr<Pool> pool(new Pool(with_pages(1)));
+    LentMove move = pool->lend_move();
+    pool.reset();
+    move.copy();
+    HOLDS(move.to()[7] == move.from()[7] && move.commit());
 }
 
 // The memory stays until the last one goes that has words of it.
@@ -575,6 +629,8 @@ int main()
     words_of_pages();
     words_of_another_page();
     words_that_stay();
+    lent_moves();
+    moves_that_stay();
     moves_into_themselves();
     pools_that_go();
     pages_in_a_buffer();

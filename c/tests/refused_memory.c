@@ -6,6 +6,7 @@
 
 #include <stdio.h>
 #include <stdlib.h>
+#include <string.h>
 
 void *__real_malloc(size_t size);
 void *__real_realloc(void *block, size_t size);
@@ -166,6 +167,20 @@ static void make_rounds(compactd_pool *pool, uint32_t page_words)
     made(compactd_compact(pool, &is_so));
 }
 
+/* Two moves whose words are lent, where they are: the first is committed, and the second put back. */
+static void make_lent_moves(compactd_pool *pool)
+{
+    compactd_lent_move move = {0}, other = {0};
+
+    made(compactd_begin_round(pool));
+    made(compactd_lend_move(pool, &move));
+    made(compactd_lend_move(pool, &other));
+    if (move.to.count > 0)
+        memcpy(move.to.at, move.from.at, move.to.count * sizeof move.to.at[0]);
+    made(compactd_commit_lent(pool, &move, &is_so));
+    made(compactd_put_back_lent(pool, &other));
+}
+
 static void make_calls_on_pinned_pages(compactd_pool *pool)
 {
     compactd_words lent = {0}, no_words = {0};
@@ -232,6 +247,7 @@ static void make_calls(compactd_pool *pool, uint32_t page_words)
     for (turn = 0; turn < 2; turn++) {
         make_calls_on_pages(pool, page_words);
         make_calls_on_pinned_pages(pool);
+        make_lent_moves(pool);
         make_rounds(pool, page_words);
         make_calls_on_blocks(pool, page_words);
         ask(pool);

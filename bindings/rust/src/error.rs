@@ -29,7 +29,7 @@ pub enum Error {
     NoBlock,
     /// No such block is handed out by this pool.
     NotHuge,
-    /// No such page is moving in this pool, or its words differ.
+    /// No such page is moving in this pool, or its words differ or are lent.
     Stranger,
     /// There isn't enough memory.
     Memory,
@@ -63,7 +63,7 @@ const KNOWN: [(Error, u32, &str); 20] = [
     (Error::Pinned, 10, "the page has a pin and this is its last address"),
     (Error::NoBlock, 11, "no block of this order has only free frames, or the run can't be emptied or isn't claimed as a whole"),
     (Error::NotHuge, 12, "no block of this order that begins at this frame is handed out"),
-    (Error::Stranger, 13, "no such page is moving in this pool, or its words differ"),
+    (Error::Stranger, 13, "no such page is moving in this pool, or its words differ or are lent"),
     (Error::Memory, 14, "there isn't enough memory"),
     (Error::PagesMoving, 16, "a page of the pool is moving"),
     (Error::Marked, 17, "the pageblock is marked already"),

@@ -29,6 +29,7 @@
 //!
 //! A pool has memory of the library's, or lies in a [`Memory`], which is mapped in huge pages of the processor. Then [`Pool::block_words`]
 //! lends the words of a block as a slice, and [`Pool::pin_words`] those of a page, which has a pin meanwhile. Nothing is copied.
+//! [`Pool::lend_move`] lends the words of both frames of a page that is moving.
 //!
 //! # What is proved
 //!
@@ -40,7 +41,7 @@
 //! # Threads
 //!
 //! A `Pool` may be sent to another thread. Threads that share one keep it in a `Mutex`. A [`MovingGuard`] is a page of such a pool that is
-//! moving; it puts the page back when it is dropped.
+//! moving; it puts the page back when it is dropped. Threads share a round by [`LentMove`]s, which they copy without the lock.
 
 #![deny(missing_docs, unsafe_op_in_unsafe_fn)]
 
@@ -48,6 +49,7 @@ mod claims;
 mod error;
 mod huge;
 mod keeping;
+mod lent_move;
 mod many;
 mod memory;
 mod moving;
@@ -61,6 +63,7 @@ pub use claims::Step;
 pub use error::Error;
 pub use huge::{Huge, Kept};
 pub use keeping::{CheapestRun, Keeper, KeeperStep, Taken};
+pub use lent_move::{CopiedMove, LentMove};
 pub use memory::{BlockWords, Memory, PageWords};
 pub use moving::{Move, Moving, MovingGuard, MovingPage};
 pub use pool::{version, Address, PageSize, Pool, PoolSize};

@@ -58,8 +58,8 @@ impl Memory {
     }
 }
 
-/// What was mapped. A pool that lies in it keeps it, and so does each [`BlockWords`] and [`PageWords`] of that pool: it is unmapped after all
-/// of them.
+/// What was mapped. A pool that lies in it keeps it, and so does each [`BlockWords`], [`PageWords`] and `LentMove` of that pool: it is unmapped
+/// after all of them.
 #[derive(Debug)]
 pub(crate) struct Mapping {
     at: NonNull<u64>,
@@ -305,8 +305,8 @@ impl Pool {
     /// Closes a pool that was opened by [`Pool::open_in`], and returns its memory, which another pool may be opened in. A pool that is refused
     /// comes back with the error.
     ///
-    /// Refused as [`Error::OwnMemory`] where it was opened by another call, or as [`Error::Lent`] where words of a block or of a page
-    /// are lent.
+    /// Refused as [`Error::OwnMemory`] where it was opened by another call, or as [`Error::Lent`] where words of a block, of a page or of a
+    /// move are lent.
     pub fn close_in(mut self) -> Result<Memory, Kept<Pool>> {
         let Some(mapping) = self.mapping.take() else {
             return Err(Kept { error: Error::OwnMemory, value: self });

@@ -89,6 +89,22 @@ pub struct MovingPage {
     reserved: [u64; 2],
 }
 
+/// The move of a page whose words are lent.
+#[repr(C)]
+pub struct LentMove {
+    pub serial: u64,
+    pub page: u32,
+    pub source: u32,
+    pub target: u32,
+    reserved: u32,
+    pub from: Words,
+    pub to: Words,
+}
+
+impl LentMove {
+    pub const NONE: LentMove = LentMove { serial: 0, page: 0, source: 0, target: 0, reserved: 0, from: Words::NONE, to: Words::NONE };
+}
+
 /// A page that [`crate::Pool::map_many`] is to map or [`crate::Pool::unmap_many`] to unmap, and what came of it.
 #[repr(C)]
 #[derive(Clone, Copy, Debug, PartialEq, Eq)]
@@ -177,6 +193,9 @@ extern "C" {
     pub fn compactd_isolate(pool: *mut Handle, page: *mut MovingPage, words: *mut u64, count: usize) -> u32;
     pub fn compactd_commit(pool: *mut Handle, page: *const MovingPage, words: *const u64, count: usize, moved: *mut bool) -> u32;
     pub fn compactd_put_back(pool: *mut Handle, page: *const MovingPage) -> u32;
+    pub fn compactd_lend_move(pool: *mut Handle, page: *mut LentMove) -> u32;
+    pub fn compactd_commit_lent(pool: *mut Handle, page: *mut LentMove, moved: *mut bool) -> u32;
+    pub fn compactd_put_back_lent(pool: *mut Handle, page: *mut LentMove) -> u32;
     pub fn compactd_evacuate(pool: *mut Handle, first: u32, order: u32, moved: *mut u32) -> u32;
     pub fn compactd_claim(pool: *mut Handle, first: u32, order: u32, pages: *mut u32) -> u32;
     pub fn compactd_empty_some(pool: *mut Handle, first: u32, order: u32, most: u32, moved: *mut u32, unclaimed: *mut u32) -> u32;

@@ -3,7 +3,7 @@ use crate::raw;
 use crate::{Error, Huge, Kept, Move, Moving, MovingPage, Pool};
 
 /// The number where the scanners have met: the answer of an isolation, and why a slice stopped.
-const MET: u32 = 53;
+pub(crate) const MET: u32 = 53;
 
 /// What [`Pool::move_pages`] did.
 #[derive(Clone, Copy, Debug, PartialEq, Eq)]
@@ -59,8 +59,8 @@ impl Pool {
         }
     }
 
-    /// Begins a round whose pages are moved in slices by [`Pool::move_pages`], or carried by [`Pool::isolate`] and [`Pool::commit`]. A
-    /// round that was begun before ends; pages that are moving stay so.
+    /// Begins a round whose pages are moved in slices by [`Pool::move_pages`], or carried by [`Pool::isolate`] and [`Pool::commit`], or by
+    /// [`Pool::lend_move`] and [`Pool::commit_lent`]. A round that was begun before ends; pages that are moving stay so.
     ///
     /// ```
     /// # use compactd::{Address, Error, PageSize, Pool};
@@ -281,7 +281,7 @@ impl Pool {
     /// The same with a copy of the page's words in a buffer of the caller's. The words are compared with those of the page.
     ///
     /// Refused as [`Error::Range`] where the buffer has more or fewer words than a page, or as [`Error::Stranger`], also where the words
-    /// differ.
+    /// differ or are lent.
     pub fn commit_copy(&mut self, page: MovingPage, words: &[u64]) -> Result<bool, Error> {
         self.own_page(page)?;
         let mut moved = false;
@@ -313,7 +313,7 @@ impl Pool {
     /// # }
     /// ```
     ///
-    /// Refused as [`Error::Stranger`] where the page is another pool's, or isn't moving any more.
+    /// Refused as [`Error::Stranger`] where the page is another pool's, isn't moving any more, or has a [`LentMove`](crate::LentMove).
     pub fn put_back_lost(&mut self, page: MovingPage) -> Result<(), Error> {
         self.own_page(page)?;
         done(unsafe { raw::compactd_put_back(&mut self.raw, &page.raw) })

@@ -1,4 +1,5 @@
 pub mod Boxed
 pub mod Either
+pub mod LentMoves
 pub mod Turns
 pub mod Walks

@@ -1,6 +1,7 @@
 -- Pages that C carries: what it gets of one that is isolated, and what it brings back.
-use Rattle.std.specs.Prelude.{◌≡◌, ℕ, Bool, List, length, nat_eq, is_some, if◌then◌else◌, Option, Some, None}
+use Rattle.std.specs.Prelude.{◌≡◌, ℕ, Bool, ◌&&◌, not, List, length, nat_eq, is_some, if◌then◌else◌, Option, Some, None}
 use Rattle.std.specs.FinMap as map
+use Rattle.std.specs.FinSet as set
 use Rattle.frame_core.specs.Moves.{isolated}
 use Rattle.state_core.specs.Carrying.{flags_of, words_now}
 use Rattle.state_core.specs.Ending.{IsOwnCopy}
@@ -19,6 +20,10 @@ use Rattle.compactd_c.specs.declared.carrying.MovingPage.{MovingPage}
 -- a page is moving under this serial
 abbrev pub is_moving : ZoneState → ℕ → ℕ → Bool
 is_moving z number serial = is_under (map.get z.placement number) serial
+
+-- and its words aren't lent, so that C ends its move by its serial
+abbrev pub is_carried : ZoneState → ℕ → ℕ → Bool
+is_carried z number serial = is_moving z number serial && not (set.contains z.lent_pages number)
 
 -- an isolation is refused where C has room for another number of words than a page has, and where the zone refuses it
 abbrev pub isolate_refused : ZoneState → ℕ → Option ZoneError

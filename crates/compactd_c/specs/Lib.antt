@@ -5,6 +5,7 @@ pub mod Carried
 pub mod Keepers
 pub mod Kinds
 pub mod Lent
+pub mod LentMoves
 pub mod Looks
 pub mod Memory
 pub mod Moving

@@ -15,6 +15,7 @@ mod evacuating;
 mod exports;
 mod free_runs;
 mod keeping;
+mod lent_moves;
 mod looking;
 mod memory;
 mod moving;

@@ -2,7 +2,7 @@
 
 ghost use Rattle.std.specs.Prelude.{◌≡◌, ◌+◌, ◌≤◌, ◌↔◌, true, false, if◌then◌else◌, is_some, nat_eq, length, IsTrue, None, Some};
 ghost use Rattle.compactd_c.specs.Answers.{answer, left};
-ghost use Rattle.compactd_c.specs.Carried.{is_moving};
+ghost use Rattle.compactd_c.specs.Carried.{is_carried};
 ghost use Rattle.frame_core.specs.Moves.{moved as pages_moved, out};
 ghost use Rattle.frame_core.specs.declared.record.Cause.{Cause};
 ghost use Rattle.state_core.specs.Ending.{put_back_to_source};
@@ -95,7 +95,7 @@ pub extern "C" fn compactd_begin_round(pool: &mut Pool) -> u32
 #[unsafe(no_mangle)]
 pub extern "C" fn compactd_put_back(pool: &mut Pool, page: &MovingPage) -> u32
     ensures closed { pool.old.zone ≡ None → result ≡ 51 }
-    ensures own { (z : ZoneState) → pool.old.zone ≡ Some z → (result ≡ 0) ↔ IsTrue (is_moving z page.now.number page.now.serial) }
+    ensures own { (z : ZoneState) → pool.old.zone ≡ Some z → (result ≡ 0) ↔ IsTrue (is_carried z page.now.number page.now.serial) }
     ensures stranger { (z : ZoneState) → pool.old.zone ≡ Some z → ¬ (result ≡ 0) → result ≡ 13 }
     ensures zone { (z : ZoneState) → pool.old.zone ≡ Some z → result ≡ 0 → pool.new.zone ≡ Some (put_back_to_source z page.now.serial page.now.number Cause.NotCopied) }
     ensures kept { ¬ (result ≡ 0) → pool.new.zone ≡ pool.old.zone }

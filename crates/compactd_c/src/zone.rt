@@ -34,7 +34,7 @@ ghost use Rattle.compactd_c.specs.Kinds.{IsPageSize};
 ghost use Rattle.compactd_c.specs.Looks.{look_refusal, audit_refusal};
 ghost use Rattle.compactd_c.specs.Records.{record_refused};
 ghost use Rattle.compactd_c.specs.Told.{geometry_of, places_of};
-ghost use Rattle.compactd_c.specs.Carried.{IsOwn, is_moving, moving_page_of, words_of, isolate_refused, commit_refused};
+ghost use Rattle.compactd_c.specs.Carried.{IsOwn, is_carried, is_moving, moving_page_of, words_of, isolate_refused, commit_refused};
 
 /// What an expression of the zone comes to, whichever size its pages have.
 macro_rules! of_zone {
@@ -47,6 +47,7 @@ macro_rules! of_zone {
 }
 
 mod lending;
+mod lent_moves;
 
 use crate::asked::{Asked, address, word_of};
 use crate::carrying::MovingPage;
@@ -373,7 +374,7 @@ impl Zone {
 
     /// Ends the move of a page that wasn't copied.
     pub(crate) fn put_back(&mut self, serial: u64, number: u32) -> Result<(), ZoneError>
-        ensures own { IsOk result ↔ IsTrue (is_moving self.old number serial) }
+        ensures own { IsOk result ↔ IsTrue (is_carried self.old number serial) }
         ensures stranger { IfErr result (λ error. error ≡ ZoneError.Stranger) }
         ensures err { OnErr result (self.new ≡ self.old) }
         ensures ok { OnOk result (self.new ≡ put_back_to_source self.old serial number Cause.NotCopied) }
@@ -605,7 +606,7 @@ fn put_back<const W: usize>(
     number: u32,
 ) -> Result<(), ZoneError>
     requires { W ≤ 65536 }
-    ensures own { IsOk result ↔ IsTrue (is_moving zone.old number serial) }
+    ensures own { IsOk result ↔ IsTrue (is_carried zone.old number serial) }
     ensures stranger { IfErr result (λ error. error ≡ ZoneError.Stranger) }
     ensures err { OnErr result (zone.new ≡ zone.old) }
     ensures ok { OnOk result (zone.new ≡ put_back_to_source zone.old serial number Cause.NotCopied) }

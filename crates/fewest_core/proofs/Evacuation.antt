@@ -1,6 +1,7 @@
 -- A move outside of a round leaves the zone valid.
-use Rattle.std.proofs.Common.{◌≡◌, ◌≢◌, ℕ, true, List, ◌∷◌, length, inl, inr, refl, sym, ap, subst, ◌∙◌, arith, Option, Some, None, IsSomeAnd, nat_eq}
+use Rattle.std.proofs.Common.{◌≡◌, ◌≢◌, ℕ, true, false, List, ◌∷◌, length, inl, inr, refl, sym, ap, subst, ◌∙◌, arith, Option, Some, None, IsSomeAnd, is_some, nat_eq}
 use Rattle.std.specs.FinMap as map
+use Rattle.std.specs.FinSet as set
 use Rattle.std.specs.Cmp.{nat_cmp_total}
 use Rattle.std.specs.Ordering.{nat_cmp}
 use Rattle.std.proofs.lemmas.Bool.{and_parts, both_ways, cond-true, cond-false, eq-eqb, eqb-true, ne_eqb, or_cases, or_left, or_right}
@@ -18,7 +19,7 @@ use Rattle.state_core.specs.ZoneState.{ZoneState, is_free}
 use Rattle.state_core.proofs.Entries.{get_insert_same, get_insert_other}
 use Rattle.state_core.proofs.Facts.{not_none, room_for_two, unpinned_here}
 use Rattle.state_core.proofs.Moving.{CanSettle, some_same}
-use Rattle.state_core.proofs.Places.{IsOutWith, free_count, page_count, rests_still, valid_places, where_is}
+use Rattle.state_core.proofs.Places.{IsOutWith, free_count, lent_stay, page_count, valid_places, where_is}
 use Rattle.fewest_core.specs.Evacuation.{moved_away}
 use Rattle.fewest_core.specs.FewestMoves.{Move, IsMove, after_move, under_way}
 
@@ -41,10 +42,16 @@ module _ (z : ZoneState) (m : Move) (law : IsValidZone z) (is : IsMove z m) wher
     valid = law;
     at = is.here;
     numbered = is.known;
-    here = unpinned_here z law m.page (eqb-true (pins z.records m.page) 0 (and_parts _ _ is.movable).0);
     takes = λ g e. inr (ap (is_free z) (eqb-true g m.target e) ∙ target_free, omega (arith, eqb-true g m.target e, is.within));
     upward = λ s source target e. cc;
   }
+
+  -- the words of the page aren't lent, and those whose words are lent stay where they are
+  pub move_here : set.contains z.lent_pages m.page ≡ false
+  move_here = unpinned_here z law m.page m.source is.here (eqb-true (pins z.records m.page) 0 (and_parts _ _ is.movable).0)
+
+  stays : (q : ℕ) → set.contains z.lent_pages q ≡ true → map.get placement q ≡ map.get z.placement q
+  stays = lent_stay can_settle move_here
 
   -- the page's place while it moved is forgotten
   pub placement_after : (moved_away z m).placement ≡ placement
@@ -129,7 +136,7 @@ module _ (z : ZoneState) (m : Move) (law : IsValidZone z) (is : IsMove z m) wher
         };
         pages = valid_places can_settle z.unmovable (λ q e. some_same can_settle q ∙ law.pages.unmovable q e);
         blocks = law.blocks;
-        loans = record { rest = rests_still can_settle; pinned = law.loans.pinned; lendable = law.loans.lendable };
+        loans = record { used = λ q lent. ap is_some (stays q lent) ∙ law.loans.used q lent; pinned = λ q frame lent rests. law.loans.pinned q frame lent (sym (stays q lent) ∙ rests); lendable = law.loans.lendable };
         fingers = record { ordered = law.fingers.ordered; begun = λ start e. cc; swept = λ quiet. cc };
         sum = omega (arith, law.sum, free_count can_settle, page_count can_settle, as_many_out);
       })

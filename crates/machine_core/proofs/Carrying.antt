@@ -2,16 +2,17 @@
 use Rattle.std.proofs.Common.{◌≡◌, ◌≢◌, ℕ, zero, suc, ◌+◌, ◌*◌, ◌<◌, Bool, true, false, cond, not, List, [], ◌∷◌, ◌++◌, length, ◌⊎◌, inl, inr, refl, sym, ap, subst, ◌∙◌, arith}
 use Rattle.std.specs.Prelude.{Option, Some, None, IsSome, Result, Ok, Err, IfOk, OnOk, OnErr, map as each, slice_get, slice_set, unwrap_or, nat_eq, nat_lt, ◌&&◌, is_some, if◌then◌else◌}
 use Rattle.std.specs.FinMap as map
+use Rattle.std.specs.FinSet as set
 use Rattle.std.specs.List.{list_any}
 use Rattle.std.specs.Option.{option_or}
-use Rattle.std.proofs.lemmas.Bool.{and_parts, eq-eqb, ltb-true, not-false, or_left, or_right}
+use Rattle.std.proofs.lemmas.Bool.{and_parts, eq-eqb, eqb-true, ltb-true, not-false, or_cases, or_left, or_right}
 use Rattle.std.proofs.lemmas.Bool.Decides.{eqb_tells}
 use Rattle.std.proofs.lemmas.List.{length-set, length-map, map-append}
 use Rattle.std.proofs.lemmas.Option.{slice_get_within}
 use Rattle.frame_core.proofs.Lists.{slice_get_set_same, slice_get_set_other}
 use Rattle.frame_core.specs.declared.place.Address.{Address}
 use Rattle.frame_core.specs.History.{page_at}
-use Rattle.frame_core.specs.Moves.{isolated, out}
+use Rattle.frame_core.specs.Moves.{isolated, out, page_of}
 use Rattle.frame_core.specs.Page.{IsolatedPage}
 use Rattle.frame_core.specs.Serials.{serials_of}
 use Rattle.state_core.specs.declared.call.ZoneCall.{ZoneCall}
@@ -19,7 +20,7 @@ use Rattle.state_core.specs.declared.call.ZoneCall.TheVariants.{Map, MapAt, Stor
 use Rattle.state_core.specs.declared.error.ZoneError.{ZoneError}
 use Rattle.state_core.specs.declared.error.ZoneError.TheVariants.{Range, JournalFull, Occupied, NoFrame}
 use Rattle.machine_core.specs.declared.hands.Held.TheVariants.{Nothing, Page, Copy}
-use Rattle.machine_core.specs.Carried.{InHand, hand_as, world_of, IsCarried}
+use Rattle.machine_core.specs.Carried.{AreOwn, InHand, hand_as, world_of, IsCarried}
 use Rattle.machine_core.specs.Hands.{page_held, copy_held, is_nothing}
 use Rattle.state_core.specs.declared.moves.Next.TheVariants.{Page as Found, Met}
 use Rattle.state_core.specs.declared.round.Pair.{Pair}
@@ -27,7 +28,7 @@ use Rattle.state_core.specs.declared.placement.Placement.{Placement}
 use Rattle.state_core.specs.declared.placement.Placement.TheVariants.{At, Moving}
 use Rattle.state_core.specs.Valid.{IsValidZone}
 use Rattle.state_core.specs.Pairs.{next_pair}
-use Rattle.state_core.specs.Ending.{IsOwnCopy}
+use Rattle.state_core.specs.Ending.{IsOwnCopy, is_own}
 use Rattle.state_core.specs.Carrying.{page_now}
 use Rattle.state_core.specs.Rounds.{round_begun}
 use Rattle.state_core.specs.Isolating.{isolate_refusal, isolated_next, next_answer, next_state, Scans}
@@ -42,7 +43,9 @@ use Rattle.state_core.specs.HandingOut.{block_taken}
 use Rattle.machine_core.specs.World.{WorldState, IsOrderly, isolated_by}
 use Rattle.state_core.specs.ZoneState.{ZoneState, frame_count, has_address, has_room, is_free, placement_at, lowest_free_frame, lowest_unused_page}
 use Rattle.state_core.proofs.Finding.{some_lowest, unused_left, unused_is}
-use Rattle.state_core.proofs.Carried.{own_begun, own_loaded, own_stored, own_placed, own_isolated, own_fresh, own_unmapped}
+use Rattle.state_core.proofs.Pairing.{pair_found}
+use Rattle.state_core.proofs.Settled.{pair_here}
+use Rattle.state_core.proofs.Carried.{own_begun, own_loaded, own_stored, own_placed, own_isolated, own_fresh, own_here, own_page, own_unmapped}
 use Rattle.machine_core.proofs.Orderly.{orderly_with_zone, orderly_round_opened, orderly_noted, orderly_isolated}
 
 -- Lists of what hands hold
@@ -151,7 +154,7 @@ module _ (zone next : ZoneState) (scan : ScanSeat) (ends : EndSeat) (is_open : B
   own_now : IsOwnCopy next p
   own_now =
       subst (λ (v : ZoneState). IsOwnCopy v p) (sym take.state)
-      (subst (IsOwnCopy (isolated_next zone take.pair)) (sym take.page) (own_fresh zone take.pair))
+      (subst (IsOwnCopy (isolated_next zone take.pair)) (sym take.page) (own_fresh zone take.pair (pair_here zone take.pair was.orderly.valid (pair_found zone was.orderly.valid take.pair take.is))))
 
   blocks_then : next.blocks ≡ zone.blocks
   blocks_then = ap (λ (v : ZoneState). v.blocks) take.state
@@ -210,6 +213,8 @@ pub record LeavesMoves (zone after : ZoneState) : Type 0 where
   pub migrate : after.migrate ≡ zone.migrate
   pub free : after.free ≡ zone.free
   pub blocks : after.blocks ≡ zone.blocks
+  pub pages : (serial : ℕ) → page_of after.records serial ≡ page_of zone.records serial
+  pub lent : after.lent_pages ≡ zone.lent_pages
 
 -- an unmap leaves what it leaves whether or not the address was the page's last
 by_last : (P : ZoneState → Type 0) (b : Bool) (gone kept : ZoneState) → P gone → P kept → P (if b then gone else kept)
@@ -218,8 +223,8 @@ by_last P false gone kept last more = more
 
 pub call_leaves : {W : ℕ} (call : ZoneCall W) (client : ℕ) (z : ZoneState) → LeavesMoves z (after call client z)
 call_leaves (Unmap address) client z =
-    by_last (LeavesMoves z) (is_last z address) _ _ (record { same_out = refl; migrate = refl; free = refl; blocks = refl }) (record { same_out = refl; migrate = refl; free = refl; blocks = refl })
-call_leaves _ client z = record { same_out = refl; migrate = refl; free = refl; blocks = refl }
+    by_last (LeavesMoves z) (is_last z address) _ _ (record { same_out = refl; migrate = refl; free = refl; blocks = refl; pages = λ s. refl; lent = refl }) (record { same_out = refl; migrate = refl; free = refl; blocks = refl; pages = λ s. refl; lent = refl })
+call_leaves _ client z = record { same_out = refl; migrate = refl; free = refl; blocks = refl; pages = λ s. refl; lent = refl }
 
 -- a copy of a moving page stays the zone's own
 own_mapped : (z : ZoneState) (client : ℕ) (address : Address) (unmovable : Bool) (frame : ℕ) → IsValidZone z → IsSome (lowest_free_frame z) → (p : IsolatedPage) → IsOwnCopy z p → IsOwnCopy (mapped z client address unmovable frame) p
@@ -240,20 +245,20 @@ own_called _ client z law accepted = λ p own. record { own = own.own; same = ow
 
 -- words that are read or written in bulk, one after the other
 read_leaves : (z : ZoneState) (client : ℕ) (address : Address) (from count : ℕ) → LeavesMoves z (loaded_all z client address from count)
-read_leaves z client address from zero = record { same_out = refl; migrate = refl; free = refl; blocks = refl }
+read_leaves z client address from zero = record { same_out = refl; migrate = refl; free = refl; blocks = refl; pages = λ s. refl; lent = refl }
 read_leaves z client address from (suc count) =
     let rest = read_leaves (loaded z client address from) client address (from + 1) count in
-    record { same_out = rest.same_out; migrate = rest.migrate; free = rest.free; blocks = rest.blocks }
+    record { same_out = rest.same_out; migrate = rest.migrate; free = rest.free; blocks = rest.blocks; pages = rest.pages; lent = rest.lent }
 
 own_read : (z : ZoneState) (client : ℕ) (address : Address) (from count : ℕ) (p : IsolatedPage) → IsOwnCopy z p → IsOwnCopy (loaded_all z client address from count) p
 own_read z client address from zero p own = own
 own_read z client address from (suc count) p own = own_read (loaded z client address from) client address (from + 1) count p (own_loaded z client address from p own)
 
 written_leaves : (z : ZoneState) (client : ℕ) (address : Address) (from : ℕ) (values : List ℕ) → LeavesMoves z (stored_all z client address from values)
-written_leaves z client address from [] = record { same_out = refl; migrate = refl; free = refl; blocks = refl }
+written_leaves z client address from [] = record { same_out = refl; migrate = refl; free = refl; blocks = refl; pages = λ s. refl; lent = refl }
 written_leaves z client address from (value ∷ values) =
     let rest = written_leaves (stored z client address from value) client address (from + 1) values in
-    record { same_out = rest.same_out; migrate = rest.migrate; free = rest.free; blocks = rest.blocks }
+    record { same_out = rest.same_out; migrate = rest.migrate; free = rest.free; blocks = rest.blocks; pages = rest.pages; lent = rest.lent }
 
 own_written : (z : ZoneState) (client : ℕ) (address : Address) (from : ℕ) (values : List ℕ) (frame : ℕ) → placement_at z address ≡ Some (At frame) → (p : IsolatedPage) → IsOwnCopy z p → IsOwnCopy (stored_all z client address from values) p
 own_written z client address from [] frame at p own = own
@@ -269,7 +274,7 @@ module _ (zone next : ZoneState) (scan : ScanSeat) (ends : EndSeat) (is_open : B
   changed after is law leaves own =
       subst (λ (v : ZoneState). IsCarried v scan ends is_open list held capacity) (sym is)
       (carried_with zone after scan ends is_open list held capacity was scan is_open
-      (orderly_with_zone (world_of zone scan ends is_open list held) after was.orderly (subst IsValidZone is law) (λ serial. ap (list_any (nat_eq serial)) leaves.same_out) leaves.migrate leaves.free leaves.blocks) own leaves.blocks)
+      (orderly_with_zone (world_of zone scan ends is_open list held) after was.orderly (subst IsValidZone is law) (λ serial. ap (list_any (nat_eq serial)) leaves.same_out) leaves.pages leaves.lent leaves.migrate leaves.free leaves.blocks) own leaves.blocks)
 
   -- any call, and calls that name the frame that they answer
   pub carried_call : {T : Type 0} (W : ℕ) (call : ZoneCall W) (client : ℕ) (result : Result T ZoneError) → IsValidZone next → result_err result ≡ refusal_of call zone → OnErr result (next ≡ zone) → OnOk result (next ≡ after call client zone) → IsCarried next scan ends is_open list held capacity
@@ -280,12 +285,12 @@ module _ (zone next : ZoneState) (scan : ScanSeat) (ends : EndSeat) (is_open : B
   pub carried_mapped : (client : ℕ) (address : Address) (unmovable : Bool) (result : Result ℕ ZoneError) → IsValidZone next → result_err result ≡ map_refusal zone address → OnErr result (next ≡ zone) → IfOk result (λ frame. next ≡ mapped zone client address unmovable frame) → IsCarried next scan ends is_open list held capacity
   carried_mapped client address unmovable (Err error) law refused err ok = unchanged err
   carried_mapped client address unmovable (Ok frame) law refused err ok =
-      changed (mapped zone client address unmovable frame) ok law (record { same_out = refl; migrate = refl; free = refl; blocks = refl }) (own_mapped zone client address unmovable frame was.orderly.valid (frame_left zone address (sym refused)))
+      changed (mapped zone client address unmovable frame) ok law (record { same_out = refl; migrate = refl; free = refl; blocks = refl; pages = λ s. refl; lent = refl }) (own_mapped zone client address unmovable frame was.orderly.valid (frame_left zone address (sym refused)))
 
   pub carried_taken : {T : Type 0} (first : T → ℕ) (order : ℕ) (result : Result T ZoneError) → IsValidZone next → OnErr result (next ≡ zone) → IfOk result (λ block. next ≡ block_taken zone (first block) order) → IsCarried next scan ends is_open list held capacity
   carried_taken first order (Err error) law err ok = unchanged err
   carried_taken first order (Ok block) law err ok =
-      changed (block_taken zone (first block) order) ok law (record { same_out = refl; migrate = refl; free = refl; blocks = refl }) (λ p own. record { own = own.own; same = own.same })
+      changed (block_taken zone (first block) order) ok law (record { same_out = refl; migrate = refl; free = refl; blocks = refl; pages = λ s. refl; lent = refl }) (λ p own. record { own = own.own; same = own.same })
 
   pub carried_read : {T : Type 0} (kept : Type 0) (client : ℕ) (address : Address) (from count : ℕ) (result : Result T ZoneError) → IsValidZone next → OnErr result ((next ≡ zone) × kept) → OnOk result (next ≡ loaded_all zone client address from count) → IsCarried next scan ends is_open list held capacity
   carried_read kept client address from count (Err error) law err ok = unchanged err.0

@@ -88,6 +88,7 @@ module _ (w : WorldState) (k first : ℕ) (more : List ℕ) (low : 0 < k) (high 
         out = λ s. (λ h. stands_so more hands_then s (taken_stands s (stands_out w o s h)), λ h. (o.out s).1 (stands_so w.waiting w.hands s (taken_stood s (stands more hands_then s h))));
         one_hand = taken_one_hand;
         one_place = λ j s some e. false_from_ne_true _ (taken_one_place j s some e);
+        here = o.here;
         closed = o.closed;
         few = (omega (arith, o.few.0), omega (arith, o.few.1));
       }
@@ -148,6 +149,7 @@ module _ (w : WorldState) (k serial : ℕ) (low : 0 < k) (high : k ≤ 4) (o : I
     out = λ s. (λ h. stands_so w.waiting with_copy s (copied_stands s (stands_out w o s h)), λ h. (o.out s).1 (stands_so w.waiting w.hands s (copied_stood s (stands w.waiting with_copy s h))));
     one_hand = λ i j s e f some_i some_j. o.one_hand i j s (sym (same_serial i some_i) ∙ e) (sym (same_serial j some_j) ∙ f) some_i some_j;
     one_place = λ j s some e. o.one_place j s some (sym (same_serial j some) ∙ e);
+    here = o.here;
     closed = o.closed;
     few = o.few;
   }

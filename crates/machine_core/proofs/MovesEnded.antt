@@ -2,6 +2,7 @@
 use Rattle.std.proofs.Common.{◌≡◌, ◌≢◌, ℕ, ◌-◌, ◌<◌, ◌≤◌, Bool, true, false, not, List, [], ◌∷◌, length, inl, inr, refl, sym, ap, subst, ◌∙◌, arith}
 use Rattle.std.specs.Prelude.{Option, Some, None, slice_set, unwrap_or, nat_eq, ◌||◌, ◌&&◌, if◌then◌else◌}
 use Rattle.std.specs.FinMap as map
+use Rattle.std.specs.FinSet as set
 use Rattle.std.specs.List.{list_any, list_all}
 use Rattle.std.specs.Option.{option_and_then}
 use Rattle.std.proofs.lemmas.Bool.{eq-eqb, eqb-true, ne_eqb, or_left, or_right, or_from, and_parts, and_from, and_left, not-true, not_from_false, false_from_ne_true, both_ways}
@@ -27,7 +28,7 @@ use Rattle.machine_core.specs.World.{WorldState, IsOrderly, IsRising, with_hand,
 use Rattle.zone_core.specs.Seats.{EndSeat, seat_ended}
 use Rattle.state_core.specs.ZoneState.{ZoneState}
 use Rattle.state_core.proofs.Settled.{valid_moved, valid_put_back}
-use Rattle.machine_core.proofs.Orderly.{orderly_at_rest}
+use Rattle.machine_core.proofs.Orderly.{lent_alike, orderly_at_rest}
 use Rattle.machine_core.proofs.Standing.{holds_at, none_held, Stands, stands, stands_so, set_cases, stands_out, waits_out, in_hand_out}
 
 -- a serial that is out has the page that was isolated under it
@@ -68,28 +69,34 @@ record IsEnded (old new : ZoneState) (serial : ℕ) : Type 0 where
   migrate : new.migrate ≡ old.migrate
   free : new.free ≡ old.free
   blocks : new.blocks ≡ old.blocks
+  pages : (s : ℕ) → page_of new.records s ≡ page_of old.records s
+  lent : new.lent_pages ≡ old.lent_pages
 
-finished_ended : (z : ZoneState) → IsValidZone z → (serial : ℕ) → is_out z.records serial ≡ true → IsEnded z (finished_in z serial) serial
-finished_ended z law serial e = by_pins (nat_eq (pins z.records (page_under z serial)) 0) refl where
+finished_ended : (z : ZoneState) → IsValidZone z → (serial : ℕ) → set.contains z.lent_pages (page_under z serial) ≡ false → is_out z.records serial ≡ true → IsEnded z (finished_in z serial) serial
+finished_ended z law serial here e = by_pins (nat_eq (pins z.records (page_under z serial)) 0) refl where
   way : (source target : ℕ) × (map.get z.placement (page_under z serial) ≡ Some (Moving serial source target))
   way = on_its_way z law serial e
 
   by_pins : (b : Bool) → nat_eq (pins z.records (page_under z serial)) 0 ≡ b → IsEnded z (if b then moved_to_target z serial (page_under z serial) else put_back_to_source z serial (page_under z serial) Pinned) serial
   by_pins true none = record {
-    valid = valid_moved z serial (page_under z serial) way.0 way.1 law way.2 (eqb-true _ 0 none);
+    valid = valid_moved z serial (page_under z serial) way.0 way.1 law way.2 here (eqb-true _ 0 none);
     gone = λ s. any_without serial s (out z.records);
     migrate = refl;
     free = refl;
     blocks = refl;
+    pages = λ s. refl;
+    lent = refl;
   }
   by_pins false some =
       let ne : pins z.records (page_under z serial) ≢ 0 = λ is. both_ways _ some (eq-eqb _ 0 is) in
       record {
-        valid = valid_put_back z serial (page_under z serial) way.0 way.1 Pinned law way.2 (omega arith);
+        valid = valid_put_back z serial (page_under z serial) way.0 way.1 Pinned law way.2 here (omega arith);
         gone = λ s. any_without serial s (out z.records);
         migrate = refl;
         free = refl;
         blocks = refl;
+        pages = λ s. refl;
+        lent = refl;
       }
 
 copy_serial : (serial : ℕ) (hand : Held ℕ ℕ) → copy_held hand ≡ Some serial → serial_in hand ≡ Some serial
@@ -151,6 +158,7 @@ module _ (w : WorldState) (k serial : ℕ) (low : 0 < k) (high : k ≤ 4) (o : I
     );
     one_hand = λ i j s e f some_i some_j. o.one_hand i j s (has_left i s some_i e).1 (has_left j s some_j f).1 some_i some_j;
     one_place = λ j s some e. o.one_place j s some (has_left j s some e).1;
+    here = λ s h. lent_alike w.zone zone s (ended.pages s) ended.lent ∙ o.here s (was_out s h).0;
     closed = λ e s. ended.gone s ∙ and_left _ _ (o.closed e s);
     few = (omega (arith, o.few.0, ended.migrate), omega (arith, o.few.1, ended.free, ended.blocks));
   }
@@ -165,7 +173,7 @@ orderly_finished w k finished after low high o e = by_copy (copy_held (held_at w
   by_copy (Some serial) is e =
       let out_now = in_hand_out w o k serial low (copy_serial serial (held_at w.hands k) is) in
       subst IsOrderly (some_pair_parts _ finished _ after e).1
-      (orderly_with_end w k serial low high o is (finished_in w.zone serial) (finished_ended w.zone o.valid serial out_now)
+      (orderly_with_end w k serial low high o is (finished_in w.zone serial) (finished_ended w.zone o.valid serial (o.here serial out_now) out_now)
       (seat_ended w.ends (finished_as w.zone serial).ended) (parts_ended w.ends (finished_as w.zone serial).ended ∙ o.whole))
 
 -- a zone in which the moves of some serials ended
@@ -173,13 +181,14 @@ record AreEnded (old new : ZoneState) (serials : List ℕ) : Type 0 where
   valid : IsValidZone new
   gone : (s : ℕ) → is_out new.records s ≡ true → (is_out old.records s ≡ true) × (list_any (nat_eq s) serials ≡ false)
 
-all_ended : (serials : List ℕ) (z : ZoneState) → IsValidZone z → IsRising serials → ((s : ℕ) → list_any (nat_eq s) serials ≡ true → is_out z.records s ≡ true) → AreEnded z (all_put_back z serials) serials
-all_ended [] z law rising are_out = record { valid = law; gone = λ s e. (e, refl) }
-all_ended (serial ∷ more) z law rising are_out =
-    let way = on_its_way z law serial (are_out serial (or_left (nat_eq serial serial) _ (eq-eqb serial serial refl))) in
+all_ended : (serials : List ℕ) (z : ZoneState) → IsValidZone z → ((s : ℕ) → list_any (nat_eq s) serials ≡ true → set.contains z.lent_pages (page_under z s) ≡ false) → IsRising serials → ((s : ℕ) → list_any (nat_eq s) serials ≡ true → is_out z.records s ≡ true) → AreEnded z (all_put_back z serials) serials
+all_ended [] z law here rising are_out = record { valid = law; gone = λ s e. (e, refl) }
+all_ended (serial ∷ more) z law here rising are_out =
+    let first = or_left (nat_eq serial serial) _ (eq-eqb serial serial refl) in
+    let way = on_its_way z law serial (are_out serial first) in
     let next : ZoneState = put_back_to_source z serial (page_under z serial) NotCopied in
     let rest : AreEnded next (all_put_back next more) more =
-    all_ended more next (valid_put_back z serial (page_under z serial) way.0 way.1 NotCopied law way.2 tt) rising.1
+    all_ended more next (valid_put_back z serial (page_under z serial) way.0 way.1 NotCopied law way.2 (here serial first) tt) (λ s h. here s (or_right (nat_eq s serial) _ h)) rising.1
     (λ s h. (let above : serial < s = rising.0 s h in
     any_without serial s (out z.records) ∙ and_from _ _ (are_out s (or_right (nat_eq s serial) _ h)) (not_from_false _ (ne_eqb s serial (λ same. omega arith))))) in
     record {
@@ -194,7 +203,7 @@ module _ (w : WorldState) (o : IsOrderly w) (empty : list_all is_nothing w.hands
   zone_shut = all_put_back w.zone w.waiting
 
   shut_ended : AreEnded w.zone zone_shut w.waiting
-  shut_ended = all_ended w.waiting w.zone o.valid o.rising (waits_out w o)
+  shut_ended = all_ended w.waiting w.zone o.valid (λ s h. o.here s (waits_out w o s h)) o.rising (waits_out w o)
 
   none_left_out : (s : ℕ) → is_out zone_shut.records s ≡ true → ⊥
   none_left_out s e =

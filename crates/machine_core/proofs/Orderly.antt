@@ -1,12 +1,13 @@
 -- Calls of the zone, rounds and scans keep a world orderly.
-use Rattle.std.proofs.Common.{◌≡◌, ℕ, ◌+◌, ◌-◌, ◌<◌, ◌≤◌, Bool, true, false, List, [], ◌∷◌, ◌++◌, length, ◌⊎◌, inl, inr, refl, sym, ◌∙◌, arith}
-use Rattle.std.specs.Prelude.{Option, Some, None, nat_eq, ◌||◌, if◌then◌else◌}
+use Rattle.std.proofs.Common.{◌≡◌, ◌≢◌, ap, ℕ, ◌+◌, ◌-◌, ◌<◌, ◌≤◌, Bool, true, false, List, [], ◌∷◌, ◌++◌, length, ◌⊎◌, inl, inr, refl, sym, ◌∙◌, arith}
+use Rattle.std.specs.Prelude.{Option, Some, None, nat_eq, unwrap_or, ◌||◌, if◌then◌else◌}
+use Rattle.std.specs.FinSet as set
 use Rattle.std.specs.List.{list_all, list_any}
-use Rattle.std.proofs.lemmas.Bool.{eq-eqb, eqb-true, or_cases, or_left, or_right, false_from_ne_true, both_ways}
+use Rattle.std.proofs.lemmas.Bool.{eq-eqb, eqb-true, or_cases, or_left, or_right, false_from_ne_true, both_ways, ne_eqb}
 use Rattle.std.proofs.lemmas.List.{length-append}
 use Rattle.std.proofs.lemmas.List.Folds.{list_any-append}
 use Rattle.frame_core.proofs.OnTheWay.{out_below}
-use Rattle.frame_core.specs.Moves.{isolated, is_out}
+use Rattle.frame_core.specs.Moves.{isolated, is_out, page_of}
 use Rattle.machine_core.specs.declared.hands.Held.{Held}
 use Rattle.state_core.specs.declared.moves.Next.TheVariants as next
 use Rattle.state_core.specs.declared.round.Pair.{Pair}
@@ -20,26 +21,36 @@ use Rattle.zone_core.specs.Seats.{ScanSeat, EndSeat, seat_begun, seat_noted}
 use Rattle.state_core.specs.ZoneState.{ZoneState, frame_count}
 use Rattle.state_core.proofs.Pairing.{pair_found}
 use Rattle.state_core.proofs.Rounds.{valid_begun}
-use Rattle.state_core.proofs.Settled.{valid_isolated}
+use Rattle.state_core.proofs.Settled.{pair_here, valid_isolated}
 use Rattle.machine_core.proofs.Standing.{Stands, holds_at, none_held, stands, stands_so, stands_out, waits_out, in_hand_out}
 
+-- whether the words of the page that is moving under a serial are lent
+abbrev is_lent : ZoneState → ℕ → Bool
+is_lent zone serial = set.contains zone.lent_pages (unwrap_or (page_of zone.records serial) 0)
+
+-- they are where they were, if the page has the serial that it had and the same pages are lent
+pub lent_alike : (old new : ZoneState) (serial : ℕ) → page_of new.records serial ≡ page_of old.records serial → new.lent_pages ≡ old.lent_pages → is_lent new serial ≡ is_lent old serial
+lent_alike old new serial pages lent i = set.contains (lent i) (unwrap_or (pages i) 0)
+
 -- a world whose zone has the same moving pages as that of an orderly one
-orderly_like : (w : WorldState) (zone : ZoneState) (scan : ScanSeat) (is_open : Bool) → IsOrderly w → IsValidZone zone → ((serial : ℕ) → is_out zone.records serial ≡ is_out w.zone.records serial) → (is_open ≡ false → w.is_open ≡ false)
+orderly_like : (w : WorldState) (zone : ZoneState) (scan : ScanSeat) (is_open : Bool) → IsOrderly w → IsValidZone zone → ((serial : ℕ) → is_out zone.records serial ≡ is_out w.zone.records serial) → ((serial : ℕ) → is_out zone.records serial ≡ true → is_lent zone serial ≡ false) → (is_open ≡ false → w.is_open ≡ false)
     → (length w.waiting ≤ zone.migrate) × (length w.waiting + zone.free ≤ frame_count zone) → IsOrderly (record w { zone = zone; scan = scan; is_open = is_open })
-orderly_like w zone scan is_open o law same closed few = record {
+orderly_like w zone scan is_open o law same here closed few = record {
   valid = law;
   whole = o.whole;
   four = o.four;
   rising = o.rising;
   out = λ s. (λ h. (o.out s).0 (sym (same s) ∙ h), λ h. same s ∙ (o.out s).1 h);
+  here = here;
   one_hand = o.one_hand;
   one_place = o.one_place;
   closed = λ e s. same s ∙ o.closed (closed e) s;
   few = few;
 }
 
-pub orderly_with_zone : (w : WorldState) (zone : ZoneState) → IsOrderly w → IsValidZone zone → ((serial : ℕ) → is_out zone.records serial ≡ is_out w.zone.records serial) → zone.migrate ≡ w.zone.migrate → zone.free ≡ w.zone.free → zone.blocks ≡ w.zone.blocks → IsOrderly (with_zone w zone)
-orderly_with_zone w zone o law same migrate free blocks = orderly_like w zone w.scan w.is_open o law same (λ e. e) (omega (arith, o.few.0, migrate), omega (arith, o.few.1, free, blocks))
+pub orderly_with_zone : (w : WorldState) (zone : ZoneState) → IsOrderly w → IsValidZone zone → ((serial : ℕ) → is_out zone.records serial ≡ is_out w.zone.records serial) → ((serial : ℕ) → page_of zone.records serial ≡ page_of w.zone.records serial) → zone.lent_pages ≡ w.zone.lent_pages → zone.migrate ≡ w.zone.migrate → zone.free ≡ w.zone.free → zone.blocks ≡ w.zone.blocks → IsOrderly (with_zone w zone)
+orderly_with_zone w zone o law same pages lent migrate free blocks =
+    orderly_like w zone w.scan w.is_open o law same (λ s e. lent_alike w.zone zone s (pages s) lent ∙ o.here s (sym (same s) ∙ e)) (λ e. e) (omega (arith, o.few.0, migrate), omega (arith, o.few.1, free, blocks))
 
 -- a world in which no page is moving, where its hands are empty
 pub orderly_at_rest : (zone : ZoneState) (scan : ScanSeat) (ends : EndSeat) (hands : List (Held ℕ ℕ)) → IsValidZone zone → ends.parts ≡ 64 → length hands ≡ 4 → list_all is_nothing hands ≡ true → ((serial : ℕ) → is_out zone.records serial ≡ false)
@@ -50,6 +61,7 @@ orderly_at_rest zone scan ends hands law whole four empty none = record {
   four = four;
   rising = tt;
   out = λ s. (λ h. absurd (both_ways _ (none s) h), λ h. absurd (both_ways _ (none_held hands s empty) h));
+  here = λ s e. absurd (both_ways _ (none s) e);
   one_hand = λ j k s a b low_j low_k. absurd (both_ways _ (none_held hands s empty) (holds_at hands (j - 1) s a));
   one_place = λ k s low e. refl;
   closed = λ e. none;
@@ -62,15 +74,15 @@ none_waits (x ∷ serials) none = absurd (none x (or_left (nat_eq x x) _ (eq-eqb
 
 -- the seat of the scanner notes something
 pub orderly_noted : (w : WorldState) (seat : ScanSeat) → IsOrderly w → IsOrderly (record w { scan = seat })
-orderly_noted w seat o = orderly_like w w.zone seat w.is_open o o.valid (λ s. refl) (λ e. e) o.few
+orderly_noted w seat o = orderly_like w w.zone seat w.is_open o o.valid (λ s. refl) o.here (λ e. e) o.few
 
 pub orderly_round_opened : (w : WorldState) → IsOrderly w → IsOrderly (round_opened w)
 orderly_round_opened w o = by_open w.is_open refl where
   by_open : (b : Bool) → w.is_open ≡ b → IsOrderly (record w { zone = if b then w.zone else round_begun w.zone; scan = if b then w.scan else seat_begun w.scan; is_open = true })
-  by_open true e = orderly_like w w.zone w.scan true o o.valid (λ s. refl) (λ bad. cc) o.few
+  by_open true e = orderly_like w w.zone w.scan true o o.valid (λ s. refl) o.here (λ bad. cc) o.few
   by_open false e =
       let none : length w.waiting ≡ 0 = none_waits w.waiting (λ s h. both_ways _ (o.closed e s) (waits_out w o s h)) in
-      orderly_like w (round_begun w.zone) (seat_begun w.scan) true o (valid_begun w.zone o.valid) (λ s. refl) (λ bad. cc) (omega arith, omega arith)
+      orderly_like w (round_begun w.zone) (seat_begun w.scan) true o (valid_begun w.zone o.valid) (λ s. refl) o.here (λ bad. cc) (omega arith, omega arith)
 
 -- a serial that waits after one more was appended waited before, or is that one
 waited : (waiting : List ℕ) (n s : ℕ) → list_any (nat_eq s) (waiting ++ n ∷ []) ≡ true → (list_any (nat_eq s) waiting ≡ true) ⊎ (s ≡ n)
@@ -121,6 +133,13 @@ module _ (w : WorldState) (o : IsOrderly w) (is_open : w.is_open ≡ true) (pair
       let under : s < next_serial = below_next s (in_hand_out w o k s some there) in
       elim (waited w.waiting next_serial s e) [ inl before ↦ both_ways _ (o.one_place k s some there) before | inr same ↦ omega arith ]
 
+  isolated_here : (s : ℕ) → (nat_eq s next_serial || is_out w.zone.records s) ≡ true → set.contains w.zone.lent_pages (unwrap_or (if nat_eq next_serial s then Some pair.page else page_of w.zone.records s) 0) ≡ false
+  isolated_here s e = elim (or_cases (nat_eq s next_serial) _ e) [
+    | inl here ↦ ap (λ (b : Bool). set.contains w.zone.lent_pages (unwrap_or (if b then Some pair.page else page_of w.zone.records s) 0)) (eq-eqb next_serial s (sym (eqb-true s next_serial here))) ∙ pair_here w.zone pair o.valid is_pair
+    | inr before ↦ (let apart : next_serial ≢ s = (let under : s < next_serial = below_next s before in λ same. omega arith) in
+        ap (λ (b : Bool). set.contains w.zone.lent_pages (unwrap_or (if b then Some pair.page else page_of w.zone.records s) 0)) (ne_eqb next_serial s apart) ∙ o.here s before)
+  ]
+
   orderly_with_pair : IsOrderly (isolated_by w (Some pair))
   orderly_with_pair =
       let low : w.zone.migrate ≤ pair.source = is_pair.from.low in
@@ -132,6 +151,7 @@ module _ (w : WorldState) (o : IsOrderly w) (is_open : w.is_open ≡ true) (pair
         four = o.four;
         rising = rising_more w.waiting next_serial o.rising (λ s h. below_next s (waits_out w o s h));
         out = λ s. (λ h. stands_so now_waiting w.hands s (isolated_stands s h), λ h. isolated_out s (stands now_waiting w.hands s h));
+        here = isolated_here;
         one_hand = o.one_hand;
         one_place = λ k s some there. false_from_ne_true _ (not_waiting k s some there);
         closed = λ e. absurd (both_ways _ e is_open);

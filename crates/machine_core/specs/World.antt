@@ -1,5 +1,6 @@
 -- A world: a zone, its isolated pages, and four hands.
 use Rattle.std.specs.Prelude.{◌≡◌, ℕ, ◌+◌, ◌-◌, ◌<◌, ◌≤◌, ◌↔◌, nat_eq, Bool, true, false, ◌||◌, List, [], ◌∷◌, ◌++◌, length, replicate, slice_set, unwrap_or, if◌then◌else◌, Option, Some, None, IsTrue}
+use Rattle.std.specs.FinSet as set
 use Rattle.std.specs.List.{list_any, list_all}
 use Rattle.std.specs.Option.{option_and_then}
 use Rattle.frame_core.specs.declared.record.Cause.TheVariants.{NotCopied}
@@ -170,6 +171,8 @@ pub record IsOrderly (w : WorldState) : Type 0 where
   pub four : length w.hands ≡ 4
   pub rising : IsRising w.waiting
   pub out : (serial : ℕ) → IsTrue (is_out w.zone.records serial) ↔ IsTrue (waits w serial || is_in_hand w serial)
+  -- the words of no moving page are lent
+  pub here : (serial : ℕ) → IsTrue (is_out w.zone.records serial) → set.contains w.zone.lent_pages (unwrap_or (page_of w.zone.records serial) 0) ≡ false
   -- no page is in two hands, or waits while it is in a hand
   pub one_hand : (j k serial : ℕ) → serial_in (held_at w.hands j) ≡ Some serial → serial_in (held_at w.hands k) ≡ Some serial → 0 < j → 0 < k → j ≡ k
   pub one_place : (k serial : ℕ) → 0 < k → serial_in (held_at w.hands k) ≡ Some serial → waits w serial ≡ false

@@ -44,7 +44,7 @@ pub keeps_zone : (w : WorldState) (call : ZoneCall 8) → IsOrderly w → IsInRa
 keeps_zone w call o r accepted =
     let leaves = call_leaves call 0 w.zone in
     record {
-      orderly = orderly_with_zone w (after call 0 w.zone) o (call_valid 8 call 0 w.zone o.valid r accepted) (λ serial. ap (list_any (nat_eq serial)) leaves.same_out) leaves.migrate leaves.free leaves.blocks;
+      orderly = orderly_with_zone w (after call 0 w.zone) o (call_valid 8 call 0 w.zone o.valid r accepted) (λ serial. ap (list_any (nat_eq serial)) leaves.same_out) leaves.pages leaves.lent leaves.migrate leaves.free leaves.blocks;
       blocks = leaves.blocks;
     }
 

@@ -1,8 +1,9 @@
 -- Each call that isn't refused leaves a valid zone valid.
 use Rattle.std.proofs.Common.{◌≡◌, ℕ, ◌+◌, ◌<◌, ◌≤◌, Bool, true, false, cond, length, refl, sym, ap, ◌∙◌, subst, arith, ◌-◌, not, is_some, nat_eq, ◌&&◌, Option, Some, None, IsSome}
 use Rattle.std.specs.Prelude.{IsTrue, ◌∷◌, unwrap_or}
-use Rattle.std.specs.Option.{option_or}
-use Rattle.std.proofs.lemmas.Bool.{and_parts, not-false, ltb-true, leb-false, eq-eqb, eqb-true}
+use Rattle.std.specs.FinMap as map
+use Rattle.std.specs.Option.{option_and_then, option_or}
+use Rattle.std.proofs.lemmas.Bool.{and_from, and_parts, not-false, ltb-true, leb-false, eq-eqb, eqb-true}
 use Rattle.std.proofs.lemmas.Bool.Decides.{nat_tests}
 use Rattle.frame_core.proofs.Searches.{lowest_some}
 use Rattle.frame_core.specs.declared.place.Address.{Address}
@@ -19,10 +20,11 @@ use Rattle.state_core.specs.Calls.{refusal_of, answer_of, after, answers, record
 use Rattle.state_core.specs.HandingOut.{is_order, is_run, lowest_run, take_order_refusal, give_order_refusal, block_taken, block_given}
 use Rattle.state_core.specs.Valid.{IsValidZone}
 use Rattle.state_core.specs.Mapping.{map_refusal, map_at_refusal, mapped}
+use Rattle.state_core.specs.Packed.{frame_of}
 use Rattle.state_core.specs.Pinning.{pins_at, pin_refusal, unpin_refusal, pinned, unpinned}
 use Rattle.state_core.specs.Sharing.{share_refusal, shared}
 use Rattle.state_core.specs.Unmapping.{is_last, last_refusal, unmap_refusal, unmapped}
-use Rattle.state_core.specs.ZoneState.{ZoneState, frame_count, has_address, has_room, is_free, frame_for, lowest_free_frame, lowest_unused_page}
+use Rattle.state_core.specs.ZoneState.{ZoneState, frame_count, has_address, has_room, is_free, frame_for, lowest_free_frame, lowest_unused_page, placement_at}
 use Rattle.state_core.proofs.Accessed.{valid_loaded, valid_stored}
 use Rattle.state_core.proofs.Facts.{in_table, none_is, spare, page_named}
 use Rattle.state_core.proofs.Finding.{frame_for_free, some_lowest, unused_is, unused_left}
@@ -58,7 +60,7 @@ last_unpinned z address page named accepted one =
     not_pinned true false e last = cc
     not_pinned false b e last = cc
 
--- where a page keeps a pin if its words are lent, it has another one
+-- where a page keeps a pin if it rests and its words are lent, it has another one
 pub keeps_one : (pins : ℕ) (lent : Bool) → nat_eq pins 0 ≡ false → (nat_eq pins 1 && lent) ≡ false → lent ≡ true → 1 < pins
 keeps_one pins lent some kept away = grind (arith, nat_tests, some, kept, away)
 
@@ -165,7 +167,10 @@ module _ (z : ZoneState) where
         let named = passed _ _ _ room.1 in
         let some = passed _ _ _ named.1 in
         let kept = passed _ _ _ some.1 in
-        valid_unpinned z client address _ (found (page_at z.records address) (not-false _ named.0)) law (room_passed room.0) (keeps_one _ _ some.0 kept.0)
+        let page = found (page_at z.records address) (not-false _ named.0) in
+        let place : (frame : ℕ) → map.get z.placement (unwrap_or (page_at z.records address) 0) ≡ Some (At frame) → is_some (frame_of (placement_at z address)) ≡ true = λ frame rests.
+        (ap (λ (o : Option ℕ). is_some (frame_of (option_and_then (map.get z.placement) o))) page ∙ ap (λ (o : Option Placement). is_some (frame_of o)) rests) in
+        valid_unpinned z client address _ page law (room_passed room.0) (λ frame rests lent. keeps_one _ _ some.0 kept.0 (and_from _ _ (place frame rests) lent))
 
     kept_take : (order : ℕ) → 3 ≤ order → order ≤ 9 → take_order_refusal z order ≡ None → IsValidZone (block_taken z (unwrap_or (lowest_run z order) 0) order)
     kept_take order low high accepted =

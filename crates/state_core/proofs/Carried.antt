@@ -1,9 +1,10 @@
 -- What a call of the zone leaves unchanged of the moving pages.
-use Rattle.std.proofs.Common.{◌≡◌, ◌≢◌, ℕ, Bool, true, false, ◌∷◌, refl, sym, ap, ◌∙◌, Option, Some, None, map as each, nat_eq, ◌&&◌, if◌then◌else◌}
+use Rattle.std.proofs.Common.{◌≡◌, ◌≢◌, ℕ, Bool, true, false, not, ◌∷◌, refl, sym, ap, ◌∙◌, Option, Some, None, map as each, nat_eq, ◌&&◌, if◌then◌else◌}
 use Rattle.std.specs.Prelude.{unwrap_or}
 use Rattle.std.specs.List.{range_with_len}
 use Rattle.std.specs.FinMap as map
-use Rattle.std.proofs.lemmas.Bool.{and_parts, and_from, both_ways, eq-eqb, eqb-true, ne_eqb}
+use Rattle.std.specs.FinSet as set
+use Rattle.std.proofs.lemmas.Bool.{and_parts, and_from, both_ways, eq-eqb, eqb-true, ne_eqb, not-true}
 use Rattle.frame_core.specs.declared.place.Address.{Address}
 use Rattle.frame_core.specs.declared.record.Cause.{Cause}
 use Rattle.frame_core.specs.declared.record.Cause.TheVariants.{Pinned}
@@ -34,16 +35,20 @@ one_serial _ s t e f = cc
 
 -- a page of a zone, isolated under a serial, is moving there under this serial
 pub own_under : (z : ZoneState) (p : IsolatedPage) → is_own z p ≡ true → is_under (map.get z.placement p.page.number) p.serial ≡ true
-own_under z p own = (and_parts (nat_eq p.page.zone z.number) (is_under (map.get z.placement p.page.number) p.serial) own).1
+own_under z p own = (and_parts (nat_eq p.page.zone z.number) _ (and_parts _ (not (set.contains z.lent_pages p.page.number)) own).0).1
+
+-- and its words aren't lent
+pub own_here : (z : ZoneState) (p : IsolatedPage) → is_own z p ≡ true → set.contains z.lent_pages p.page.number ≡ false
+own_here z p own = not-true _ (and_parts (nat_eq p.page.zone z.number && is_under (map.get z.placement p.page.number) p.serial) _ own).1
 
 -- the journal tells which page has the serial
 pub own_page : (z : ZoneState) → IsValidZone z → (p : IsolatedPage) → is_own z p ≡ true → page_of z.records p.serial ≡ Some p.page.number
 own_page z law p own = ((law.agrees.under_way p.page.number p.serial).0 (own_under z p own)).1
 
 -- a copy stays one of the zone where the placement and the words of its page stay
-own_kept : (z next : ZoneState) (p : IsolatedPage) → next.number ≡ z.number → next.page_size ≡ z.page_size → map.get next.placement p.page.number ≡ map.get z.placement p.page.number → ((w : ℕ) → last next.records p.page.number w ≡ last z.records p.page.number w) → IsOwnCopy z p → IsOwnCopy next p
-own_kept z next p number size placement words own = record {
-  own = (λ i. nat_eq p.page.zone (number i) && is_under (placement i) p.serial) ∙ own.own;
+own_kept : (z next : ZoneState) (p : IsolatedPage) → next.number ≡ z.number → next.page_size ≡ z.page_size → next.lent_pages ≡ z.lent_pages → map.get next.placement p.page.number ≡ map.get z.placement p.page.number → ((w : ℕ) → last next.records p.page.number w ≡ last z.records p.page.number w) → IsOwnCopy z p → IsOwnCopy next p
+own_kept z next p number size lent placement words own = record {
+  own = (λ i. nat_eq p.page.zone (number i) && is_under (placement i) p.serial && not (set.contains (lent i) p.page.number)) ∙ own.own;
   same = own.same ∙ sym (λ i. each (λ w. words w i) (range_with_len 0 (size i)));
 }
 
@@ -70,7 +75,7 @@ own_unmapped z client address frame at p own = by_last (is_last z address) where
   named = ap (λ (o : Option ℕ). unwrap_or o 0) page.1
 
   by_last : (b : Bool) → IsOwnCopy (if b then without_page (noted z (Unmap client address)) (unwrap_or (page_at z.records address) 0) else noted z (Unmap client address)) p
-  by_last true = own_kept z _ p refl refl (get_remove_other z.placement _ p.page.number (λ same. apart_from z page.0 _ p page.2 refl own.own (same ∙ named))) (λ w. refl) own
+  by_last true = own_kept z _ p refl refl refl (get_remove_other z.placement _ p.page.number (λ same. apart_from z page.0 _ p page.2 refl own.own (same ∙ named))) (λ w. refl) own
   by_last false = record { own = own.own; same = own.same }
 
 pub own_stored : (z : ZoneState) (client : ℕ) (address : Address) (word value frame : ℕ) → placement_at z address ≡ Some (At frame) → (p : IsolatedPage) → IsOwnCopy z p → IsOwnCopy (stored z client address word value) p
@@ -78,12 +83,12 @@ own_stored z client address word value frame at p own =
     let page = page_named z address (At frame) at in
     let unnamed : names z.records address p.page.number ≡ false =
     ap (λ (o : Option ℕ). is_page o p.page.number) page.1 ∙ ne_eqb page.0 p.page.number (λ same. apart_from z page.0 _ p page.2 refl own.own (sym same)) in
-    own_kept z (stored z client address word value) p refl refl refl (λ w. ap (λ b. if b && nat_eq word w then value else last z.records p.page.number w) unnamed) own
+    own_kept z (stored z client address word value) p refl refl refl refl (λ w. ap (λ b. if b && nat_eq word w then value else last z.records p.page.number w) unnamed) own
 
 pub own_placed : (z : ZoneState) (client : ℕ) (address : Address) (unmovable : Bool) (page frame : ℕ) → map.get z.placement page ≡ None → (p : IsolatedPage) → IsOwnCopy z p → IsOwnCopy (placed z client address unmovable page frame) p
 own_placed z client address unmovable page frame unused p own =
     let ne = apart_from z page _ p unused refl own.own in
-    own_kept z (placed z client address unmovable page frame) p refl refl
+    own_kept z (placed z client address unmovable page frame) p refl refl refl
     (get_insert_other z.placement page p.page.number (At frame) ne)
     (λ w. skipped (nat_eq page p.page.number) 0 (last z.records p.page.number w) (ne_eqb page p.page.number (λ same. ne (sym same))))
     own
@@ -91,22 +96,24 @@ own_placed z client address unmovable page frame unused p own =
 -- a copy stays one of the zone when another page is isolated
 pub own_isolated : (z : ZoneState) (pair : Pair) (frame : ℕ) → map.get z.placement pair.page ≡ Some (At frame) → (p : IsolatedPage) → IsOwnCopy z p → IsOwnCopy (isolated_next z pair) p
 own_isolated z pair frame at p own =
-    own_kept z (isolated_next z pair) p refl refl
+    own_kept z (isolated_next z pair) p refl refl refl
     (get_insert_other z.placement pair.page p.page.number _ (apart_from z pair.page _ p at refl own.own))
     (λ w. refl) own
 
 -- the page that is isolated is one of the zone, with its words
-pub own_fresh : (z : ZoneState) (pair : Pair) → IsOwnCopy (isolated_next z pair) (record { serial = isolated z.records; page = page_now z pair.page })
-own_fresh z pair = record {
-  own = and_from (nat_eq z.number z.number) _ (eq-eqb z.number z.number refl)
-      (ap (λ (o : Option Placement). is_under o (isolated z.records)) (get_insert_same z.placement pair.page pair.page _ refl) ∙ eq-eqb (isolated z.records) (isolated z.records) refl);
+pub own_fresh : (z : ZoneState) (pair : Pair) → set.contains z.lent_pages pair.page ≡ false → IsOwnCopy (isolated_next z pair) (record { serial = isolated z.records; page = page_now z pair.page })
+own_fresh z pair here = record {
+  own = and_from _ (not (set.contains z.lent_pages pair.page))
+      (and_from (nat_eq z.number z.number) _ (eq-eqb z.number z.number refl)
+      (ap (λ (o : Option Placement). is_under o (isolated z.records)) (get_insert_same z.placement pair.page pair.page _ refl) ∙ eq-eqb (isolated z.records) (isolated z.records) refl))
+      (ap not here);
   same = refl;
 }
 
 -- a copy stays one of the zone when another page's move ends
 own_ended : (z : ZoneState) (entry : Record) (q : IsolatedPage) (frame : ℕ) (p : IsolatedPage) → is_own z q ≡ true → q.serial ≢ p.serial → ((w : ℕ) → last (entry ∷ z.records) p.page.number w ≡ last z.records p.page.number w) → IsOwnCopy z p → IsOwnCopy (relocated z entry q.page.number (At frame)) p
 own_ended z entry q frame p own_q ne words own =
-    own_kept z (relocated z entry q.page.number (At frame)) p refl refl
+    own_kept z (relocated z entry q.page.number (At frame)) p refl refl refl
     (get_insert_other z.placement q.page.number p.page.number (At frame) (serials_apart z p q own.own own_q ne))
     words own
 

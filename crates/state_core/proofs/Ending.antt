@@ -1,9 +1,10 @@
 -- The move of a page ends: the page is in its target or in its source, and the other frame is free.
-use Rattle.std.proofs.Common.{◌≡◌, ◌≢◌, ℕ, ◌+◌, ◌<◌, true, ◌∷◌, length, inl, refl, sym, ap, subst, ◌∙◌, arith, Option, Some, IsSomeAnd, IsTrue, nat_eq, ◌||◌, ◌↔◌}
+use Rattle.std.proofs.Common.{◌≡◌, ◌≢◌, ℕ, ◌+◌, ◌<◌, true, false, ◌∷◌, length, inl, refl, sym, ap, subst, ◌∙◌, arith, Option, Some, IsSomeAnd, IsTrue, nat_eq, ◌||◌, ◌↔◌}
 use Rattle.std.specs.Prelude.{⊤}
 use Rattle.std.specs.List.{list_any}
 use Rattle.std.specs.FinMap as map
-use Rattle.std.proofs.lemmas.Bool.{false_from_ne_true, both_ways, eq-eqb, eqb-true, ne_eqb, or_left, or_right}
+use Rattle.std.specs.FinSet as set
+use Rattle.std.proofs.lemmas.Bool.{both_ways, eq-eqb, eqb-true, ne_eqb, or_left, or_right}
 use Rattle.std.proofs.lemmas.Option.{same_Some}
 use Rattle.frame_core.proofs.OnTheWay.{still_out, ended_out, length_without}
 use Rattle.frame_core.specs.declared.record.Cause.{Cause}
@@ -44,7 +45,6 @@ module _ (v : ZoneState) (page serial source target : ℕ) (law : IsValidZone v)
     valid = law;
     at = at;
     numbered = law.pages.numbered page (not_none _ way at);
-    here = false_from_ne_true _ (λ lent. (let rests = law.loans.rest page lent in let bad : Some way ≡ Some (At rests.0) = sym at ∙ rests.1 in absurd (cc)));
     takes = λ g e. inl (ap (takes_up (Some way)) (eqb-true g frame e) ∙ had);
     upward = λ s from to e. cc;
   }
@@ -92,8 +92,8 @@ module _ (v : ZoneState) (page serial source target : ℕ) (law : IsValidZone v)
     λ known. ((was_out s known.0).1, known.1),
   )
 
-  pub moved_recorded : pins v.records page ≡ 0 → IsRecorded v (Moved serial) page (At target)
-  moved_recorded none =
+  pub moved_recorded : set.contains v.lent_pages page ≡ false → pins v.records page ≡ 0 → IsRecorded v (Moved serial) page (At target)
+  moved_recorded here none =
       let room = law.journal.room_left in
       record {
         still = moved_still v.records serial;
@@ -101,6 +101,7 @@ module _ (v : ZoneState) (page serial source target : ℕ) (law : IsValidZone v)
         well_ended = (record { under_way = known_out.0; page = subst (λ (o : Option ℕ). IsSomeAnd o (λ p. pins v.records p ≡ 0)) (sym known_out.1) none }, law.journal.well_ended);
         spare = omega (arith, out_fewer);
         room_left = omega (arith, out_fewer);
+        here = here;
         own_way = λ s. (λ under. cc, λ known. absurd (no_way s known.0 known.1));
         other_ways = other_ways;
         ways = omega (arith, out_fewer, ap ways_of at);
@@ -110,8 +111,8 @@ module _ (v : ZoneState) (page serial source target : ℕ) (law : IsValidZone v)
   ends_back Pinned has = let E : Option ℕ → Type 0 = λ o. IsSomeAnd o (λ p. 0 < pins v.records p) in (record { under_way = known_out.0; page = subst E (sym known_out.1) has }, law.journal.well_ended)
   ends_back NotCopied has = let E : Option ℕ → Type 0 = λ o. IsSomeAnd o (λ p. ⊤) in (record { under_way = known_out.0; page = subst E (sym known_out.1) tt }, law.journal.well_ended)
 
-  pub back_recorded : (cause : Cause) → HasCause cause (pins v.records page) → IsRecorded v (Back cause serial) page (At source)
-  back_recorded cause has =
+  pub back_recorded : set.contains v.lent_pages page ≡ false → (cause : Cause) → HasCause cause (pins v.records page) → IsRecorded v (Back cause serial) page (At source)
+  back_recorded here cause has =
       let room = law.journal.room_left in
       record {
         still = back_still v.records serial cause;
@@ -119,6 +120,7 @@ module _ (v : ZoneState) (page serial source target : ℕ) (law : IsValidZone v)
         well_ended = ends_back cause has;
         spare = omega (arith, out_fewer);
         room_left = omega (arith, out_fewer);
+        here = here;
         own_way = λ s. (λ under. cc, λ known. absurd (no_way s known.0 known.1));
         other_ways = other_ways;
         ways = omega (arith, out_fewer, ap ways_of at);

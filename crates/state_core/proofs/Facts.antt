@@ -83,6 +83,6 @@ frames_differ v law p q a b at_p at_q ne same =
     (ap (λ (o : Option Placement). takes_up o (words_frame b)) at_q ∙ takes_own b)
     (ap (λ (o : Option Placement). takes_up o (words_frame b)) at_p ∙ ap (takes_up (Some a)) same ∙ takes_own a))
 
--- the words of a page that has no pin aren't lent
-pub unpinned_here : (v : ZoneState) → IsValidZone v → (page : ℕ) → pins v.records page ≡ 0 → set.contains v.lent_pages page ≡ false
-unpinned_here v law page none = false_from_ne_true _ (λ lent. absurd (omega (arith, law.loans.pinned page lent, none)))
+-- the words of a page that rests in a frame and has no pin aren't lent
+pub unpinned_here : (v : ZoneState) → IsValidZone v → (page frame : ℕ) → map.get v.placement page ≡ Some (At frame) → pins v.records page ≡ 0 → set.contains v.lent_pages page ≡ false
+unpinned_here v law page frame at none = false_from_ne_true _ (λ lent. absurd (omega (arith, law.loans.pinned page frame lent at, none)))

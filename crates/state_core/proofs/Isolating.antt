@@ -1,5 +1,6 @@
 -- The page of a pair is isolated: it takes up its target besides its source.
 use Rattle.std.proofs.Common.{◌≡◌, ◌≢◌, ℕ, ◌+◌, ◌<◌, true, false, ◌∷◌, length, inl, inr, refl, sym, ap, ◌∙◌, arith, Option, Some, nat_eq, ◌||◌}
+use Rattle.std.specs.FinSet as set
 use Rattle.std.proofs.Math.Bool.{or-false}
 use Rattle.std.proofs.lemmas.Bool.{and_parts, both_ways, cond-true, cond-false, eq-eqb, eqb-true, ne_eqb, or_cases, or_left, or_right}
 use Rattle.std.proofs.lemmas.Bool.Decides.{eqb_tells}
@@ -34,7 +35,6 @@ module _ (v : ZoneState) (pair : Pair) (law : IsValidZone v) (is : IsPair v pair
     valid = law;
     at = is.from.here;
     numbered = law.pages.numbered pair.page (not_none _ (At pair.source) is.from.here);
-    here = unpinned_here v law pair.page (eqb-true (pins v.records pair.page) 0 (and_parts _ _ is.from.movable).0);
     takes = λ g e. elim (or_cases (nat_eq g pair.source) (nat_eq g pair.target) e) [
       | inl source ↦ inl source
       | inr target ↦ inr (ap (is_free v) (eqb-true g pair.target target) ∙ is.to.free, omega (arith, eqb-true g pair.target target, target_within))
@@ -60,6 +60,10 @@ module _ (v : ZoneState) (pair : Pair) (law : IsValidZone v) (is : IsPair v pair
     sym (cond-false _ (Some pair.page) (page_of v.records serial) (ne_eqb serial_next serial ne)) ∙ way.1,
   )
 
+  -- the words of the page aren't lent
+  pub pair_here : set.contains v.lent_pages pair.page ≡ false
+  pair_here = unpinned_here v law pair.page pair.source is.from.here (eqb-true (pins v.records pair.page) 0 (and_parts _ _ is.from.movable).0)
+
   pub isolate_recorded : length (out v.records) + 1 < v.room → IsRecorded v (Isolate pair.page serial_next) pair.page way_next
   isolate_recorded room = record {
     still = isolate_still v.records serial_next pair.page;
@@ -76,6 +80,7 @@ module _ (v : ZoneState) (pair : Pair) (law : IsValidZone v) (is : IsPair v pair
     );
     spare = omega arith;
     room_left = omega arith;
+    here = pair_here;
     own_way = λ serial. (
       λ under. (or_left _ _ (eq-eqb serial serial_next (sym (eqb-true serial_next serial under))), cond-true _ (Some pair.page) (page_of v.records serial) under),
       λ way. elim (eqb_tells serial_next serial) [ inl same ↦ same.0 | inr other ↦ (let old = was_out pair.page serial other.1 way in absurd (at_rest serial old.0 old.1)) ],

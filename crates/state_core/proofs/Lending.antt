@@ -20,10 +20,10 @@ use Rattle.state_core.proofs.Entries.{contains_insert_other, contains_remove_oth
 use Rattle.state_core.proofs.StaysMet.{met_same}
 use Rattle.state_core.proofs.Sweeping.{swept_same}
 
--- the words of a page may be lent: it rests in a frame and has a pin, and the zone lies in memory of its caller
+-- the words of a page may be lent: it is in use, and has a pin where it rests in a frame, and the zone lies in memory of its caller
 pub record MayBeLent (v : ZoneState) (page : ℕ) : Type 0 where
-  pub rest : (frame : ℕ) × (map.get v.placement page ≡ Some (At frame))
-  pub pinned : 0 < pins v.records page
+  pub used : IsSome (map.get v.placement page)
+  pub pinned : (frame : ℕ) → map.get v.placement page ≡ Some (At frame) → 0 < pins v.records page
   pub lendable : IsSome v.memory
 
 module _ (v : ZoneState) (law : IsValidZone v) (first order : ℕ) (at : map.get v.handed_out first ≡ Some order) where
@@ -86,7 +86,7 @@ met_block_lent v first = met_same v v.records v.room v.contents _ v.lent_pages (
 pub met_block_returned : (v : ZoneState) (first : ℕ) (words : List ℕ) → HaveMet v → HaveMet (block_returned v first words)
 met_block_returned v first words = met_same v v.records v.room _ _ v.lent_pages (λ page. refl)
 
--- the pages whose words are lent may be any that are lent already, and such as rest in a frame and have a pin, where the zone lends words
+-- the pages whose words are lent may be any that may be lent
 module _ (v : ZoneState) (law : IsValidZone v) (away : set.FinSet nat_cmp) (may : (page : ℕ) → set.contains away page ≡ true → MayBeLent v page) where
   pub valid_loans : IsValidZone (record v { lent_pages = away })
   valid_loans = record {
@@ -96,13 +96,13 @@ module _ (v : ZoneState) (law : IsValidZone v) (away : set.FinSet nat_cmp) (may 
     agrees = law.agrees;
     pages = law.pages;
     blocks = law.blocks;
-    loans = record { rest = λ page lent. (may page lent).rest; pinned = λ page lent. (may page lent).pinned; lendable = λ page lent. (may page lent).lendable };
+    loans = record { used = λ page lent. (may page lent).used; pinned = λ page frame lent. (may page lent).pinned frame; lendable = λ page lent. (may page lent).lendable };
     fingers = record { ordered = law.fingers.ordered; begun = law.fingers.begun; swept = λ quiet. swept_same v v.records v.room v.contents v.lent away (λ page. refl) (law.fingers.swept quiet) };
     sum = law.sum;
   }
 
 lent_may : (v : ZoneState) → IsValidZone v → (page : ℕ) → set.contains v.lent_pages page ≡ true → MayBeLent v page
-lent_may v law page lent = record { rest = law.loans.rest page lent; pinned = law.loans.pinned page lent; lendable = law.loans.lendable page lent }
+lent_may v law page lent = record { used = law.loans.used page lent; pinned = λ frame. law.loans.pinned page frame lent; lendable = law.loans.lendable page lent }
 
 pub valid_page_lent : (v : ZoneState) → IsValidZone v → (page : ℕ) → MayBeLent v page → IsValidZone (record v { lent_pages = set.insert v.lent_pages page })
 valid_page_lent v law page can = valid_loans v law (set.insert v.lent_pages page) (λ other lent. elim (eqb_tells other page) [

@@ -13,6 +13,7 @@ pub mod HandingOut
 pub mod Holding
 pub mod Isolating
 pub mod Lending
+pub mod LentMoves
 pub mod Mapping
 pub mod Marking
 pub mod Moving

@@ -40,15 +40,14 @@ module _ (v : ZoneState) (client : ℕ) (address : Address) (unmovable : Bool) (
   next = placed v client address unmovable page frame
 
   -- the words of a page that isn't in use aren't lent
-  here : set.contains v.lent_pages page ≡ false
-  here = false_from_ne_true _ (λ lent. clash _ can.unused (ap is_some (can.valid.loans.rest page lent).1))
+  pub fresh_here : set.contains v.lent_pages page ≡ false
+  fresh_here = false_from_ne_true _ (λ lent. clash _ can.unused (can.valid.loans.used page lent))
 
   pub can_map : CanChangePlace v page None (Some (At frame))
   can_map = record {
     valid = can.valid;
     at = can.unused;
     numbered = can.numbered;
-    here = here;
     takes = λ g e. (let same : frame ≡ g = sym (eqb-true g frame e) in let within = can.within in inr (ap (is_free v) (sym same) ∙ can.free, omega arith));
     upward = λ serial source target e. cc;
   }
@@ -142,9 +141,8 @@ module _ (v : ZoneState) (client : ℕ) (address : Address) (unmovable : Bool) (
         ways = ap (λ o. length (out v.records) + places.ways_of o) can.unused;
         handed = λ first. refl;
         marks = λ block. refl;
-        pinned = λ q lent.
-            let apart : q ≢ page = λ same. both_ways _ here (ap (set.contains v.lent_pages) (sym same) ∙ lent) in
-            omega (arith, pins_others q apart, law.loans.pinned q lent);
+        here = fresh_here;
+        pins_kept = λ q lent. pins_others q (λ same. both_ways _ fresh_here (ap (set.contains v.lent_pages) (sym same) ∙ lent));
         stay = stay unmovable;
       }
 

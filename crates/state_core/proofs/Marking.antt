@@ -26,7 +26,7 @@ module _ (v : ZoneState) (law : IsValidZone v) (spare : length (out v.records) <
     agrees = record { named = law.agrees.named; in_use = law.agrees.in_use; under_way = law.agrees.under_way; handed = law.agrees.handed; marks = marks_more };
     pages = law.pages;
     blocks = law.blocks;
-    loans = record { rest = law.loans.rest; pinned = law.loans.pinned; lendable = law.loans.lendable };
+    loans = record { used = law.loans.used; pinned = law.loans.pinned; lendable = law.loans.lendable };
     fingers = fingers_ended v (block_marked v block) (Mark block) law law.fingers.ordered refl refl refl;
     sum = law.sum;
   }
@@ -39,7 +39,7 @@ module _ (v : ZoneState) (law : IsValidZone v) (spare : length (out v.records) <
     agrees = record { named = law.agrees.named; in_use = law.agrees.in_use; under_way = law.agrees.under_way; handed = law.agrees.handed; marks = marks_fewer };
     pages = law.pages;
     blocks = law.blocks;
-    loans = record { rest = law.loans.rest; pinned = law.loans.pinned; lendable = law.loans.lendable };
+    loans = record { used = law.loans.used; pinned = law.loans.pinned; lendable = law.loans.lendable };
     fingers = fingers_ended v (block_unmarked v block) (Unmark block) law law.fingers.ordered refl refl refl;
     sum = law.sum;
   }

@@ -1,6 +1,7 @@
 -- A page in use takes up other frames; its names, values and pins stay.
-use Rattle.std.proofs.Common.{◌≡◌, ◌≢◌, ℕ, ◌+◌, ◌-◌, ◌<◌, ◌≤◌, ◌∷◌, List, length, inl, inr, refl, sym, ap, ◌∙◌, arith, Some, IsTrue, is_some, ◌↔◌}
+use Rattle.std.proofs.Common.{◌≡◌, ◌≢◌, ℕ, ◌+◌, ◌-◌, ◌<◌, ◌≤◌, false, ◌∷◌, List, length, inl, inr, refl, sym, ap, ◌∙◌, arith, Some, IsTrue, is_some, ◌↔◌}
 use Rattle.std.specs.FinMap as map
+use Rattle.std.specs.FinSet as set
 use Rattle.frame_core.specs.declared.place.Address.{Address}
 use Rattle.frame_core.specs.declared.record.Cause.{Cause}
 use Rattle.frame_core.specs.declared.record.Record.{Record}
@@ -46,6 +47,7 @@ pub record IsRecorded (v : ZoneState) (entry : Record) (page : ℕ) (new : Place
   pub well_ended : IsWellEnded (entry ∷ v.records)
   pub spare : 0 < v.room
   pub room_left : length (out (entry ∷ v.records)) ≤ v.room - 1
+  pub here : set.contains v.lent_pages page ≡ false
   pub own_way : (serial : ℕ) → IsTrue (is_under (Some new) serial) ↔ IsOutWith (entry ∷ v.records) page serial
   pub other_ways : (q serial : ℕ) → q ≢ page → IsOutWith v.records q serial ↔ IsOutWith (entry ∷ v.records) q serial
   pub ways : length (out (entry ∷ v.records)) + ways_of (map.get v.placement page) ≡ length (out v.records) + ways_of (Some new)
@@ -74,6 +76,7 @@ module _ {v : ZoneState} {page : ℕ} {old new : Placement} (can : CanSettle v p
         ways = recorded.ways;
         handed = still.handed;
         marks = still.marks;
-        pinned = λ q lent. (let some = law.loans.pinned q lent in let same = still.pins q in omega arith);
+        here = recorded.here;
+        pins_kept = λ q lent. still.pins q;
         stay = λ q e. some_same q ∙ law.pages.unmovable q e;
       })

@@ -10,6 +10,7 @@ use Rattle.frame_core.specs.Blocks.{handed_out_by, is_marked_by}
 use Rattle.frame_core.specs.History.{page_at, maps, pins}
 use Rattle.frame_core.specs.Moves.{out, IsWellEnded}
 use Rattle.frame_core.specs.Truth.{IsTruthful}
+use Rattle.state_core.specs.declared.placement.Placement.TheVariants.{At}
 use Rattle.state_core.specs.Valid.{IsValidZone, HasValidJournal}
 use Rattle.state_core.specs.Swept.{SweptIfQuiet}
 use Rattle.state_core.specs.ZoneState.{ZoneState, noted}
@@ -26,7 +27,7 @@ pub record IsNoted (v : ZoneState) (entry : Record) : Type 0 where
   pub ways : (page serial : ℕ) → IsOutWith v.records page serial ↔ IsOutWith (entry ∷ v.records) page serial
   pub handed : (first : ℕ) → handed_out_by (entry ∷ v.records) first ≡ handed_out_by v.records first
   pub marks : (block : ℕ) → is_marked_by (entry ∷ v.records) block ≡ is_marked_by v.records block
-  pub pinned : (page : ℕ) → set.contains v.lent_pages page ≡ true → 0 < pins (entry ∷ v.records) page
+  pub pinned : (page frame : ℕ) → set.contains v.lent_pages page ≡ true → map.get v.placement page ≡ Some (At frame) → 0 < pins (entry ∷ v.records) page
   pub swept : SweptIfQuiet (noted v entry)
 
 -- a record that neither isolates a page nor ends its move leaves the journal valid, where it has a place for it
@@ -48,7 +49,7 @@ valid_noted v law entry spare told = record {
   };
   pages = law.pages;
   blocks = law.blocks;
-  loans = record { rest = law.loans.rest; pinned = told.pinned; lendable = law.loans.lendable };
+  loans = record { used = law.loans.used; pinned = told.pinned; lendable = law.loans.lendable };
   fingers = record { ordered = law.fingers.ordered; begun = λ start e. begun_more v.records entry v.round law.fingers.begun start e; swept = told.swept };
   sum = omega (arith, law.sum, ap (λ (list : List ℕ). length list) told.out);
 }

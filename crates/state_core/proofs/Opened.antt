@@ -76,8 +76,8 @@ module _ (words number : ℕ) (size : ZoneSize) (places : ℕ) where
       unclaimed = λ first frame e. absurd (both_ways _ (uncovered first frame) e);
     };
     loans = record {
-      rest = λ page e. absurd (both_ways _ (set.contains-empty nat_cmp page) e);
-      pinned = λ page e. absurd (both_ways _ (set.contains-empty nat_cmp page) e);
+      used = λ page e. absurd (both_ways _ (set.contains-empty nat_cmp page) e);
+      pinned = λ page frame e rests. absurd (both_ways _ (set.contains-empty nat_cmp page) e);
       lendable = λ page e. absurd (both_ways _ (set.contains-empty nat_cmp page) e);
     };
     fingers = record { ordered = (omega arith, omega arith); begun = λ start e. cc; swept = λ quiet. cc };
@@ -101,7 +101,7 @@ module _ (words number : ℕ) (size : ZoneSize) (places : ℕ) where
       claims = law.blocks.claims;
       unclaimed = law.blocks.unclaimed;
     };
-    loans = record { rest = law.loans.rest; pinned = law.loans.pinned; lendable = λ page e. refl };
+    loans = record { used = law.loans.used; pinned = law.loans.pinned; lendable = λ page e. refl };
     fingers = record { ordered = law.fingers.ordered; begun = law.fingers.begun; swept = λ quiet. cc };
     sum = law.sum;
   }

@@ -1,5 +1,6 @@
 -- One pin more or less: nothing changes but how many pins the page has.
 use Rattle.std.proofs.Common.{◌≡◌, ◌≢◌, ℕ, ◌+◌, ◌-◌, ◌<◌, true, length, inl, inr, refl, sym, ap, ◌∙◌, arith, Option, Some}
+use Rattle.std.specs.FinMap as map
 use Rattle.std.specs.FinSet as set
 use Rattle.std.proofs.lemmas.Bool.{eq-eqb, ne_eqb}
 use Rattle.std.proofs.lemmas.Bool.Decides.{eqb_tells}
@@ -8,6 +9,7 @@ use Rattle.frame_core.specs.declared.place.Address.{Address}
 use Rattle.frame_core.specs.declared.record.Record.TheVariants.{Pin, Unpin}
 use Rattle.frame_core.specs.History.{page_at, is_page, pins}
 use Rattle.frame_core.specs.Moves.{out}
+use Rattle.state_core.specs.declared.placement.Placement.TheVariants.{At}
 use Rattle.state_core.specs.Valid.{IsValidZone}
 use Rattle.state_core.specs.Pinning.{pinned, unpinned}
 use Rattle.state_core.specs.ZoneState.{ZoneState}
@@ -49,14 +51,14 @@ module _ (v : ZoneState) (client : ℕ) (address : Address) (page : ℕ) (named 
       ways = λ p serial. (λ way. way, λ way. way);
       handed = λ first. refl;
       marks = λ block. refl;
-      pinned = λ q lent. (let some = law.loans.pinned q lent in elim (eqb_tells q page) [
+      pinned = λ q frame lent rests. (let some = law.loans.pinned q frame lent rests in elim (eqb_tells q page) [
         | inl same ↦ omega (arith, ap (pins (pinned v client address).records) same.1, pins_one_more)
         | inr other ↦ omega (arith, pinned_others q other.1, some)
       ]);
       swept = swept_ended v (pinned v client address) (Pin client address) law refl refl refl;
     })
 
-    pub valid_unpinned : (set.contains v.lent_pages page ≡ true → 1 < pins v.records page) → IsValidZone (unpinned v client address)
+    pub valid_unpinned : ((frame : ℕ) → map.get v.placement page ≡ Some (At frame) → set.contains v.lent_pages page ≡ true → 1 < pins v.records page) → IsValidZone (unpinned v client address)
     valid_unpinned keeps = valid_noted v law (Unpin client address) spare (record {
       truthful = law.journal.truthful;
       well_ended = law.journal.well_ended;
@@ -66,9 +68,9 @@ module _ (v : ZoneState) (client : ℕ) (address : Address) (page : ℕ) (named 
       ways = λ p serial. (λ way. way, λ way. way);
       handed = λ first. refl;
       marks = λ block. refl;
-      pinned = λ q lent. (let some = law.loans.pinned q lent in elim (eqb_tells q page) [
+      pinned = λ q frame lent rests. (let some = law.loans.pinned q frame lent rests in elim (eqb_tells q page) [
         | inl same ↦
-            (let more = keeps (ap (set.contains v.lent_pages) (sym same.1) ∙ lent) in
+            (let more = keeps frame (ap (map.get v.placement) (sym same.1) ∙ rests) (ap (set.contains v.lent_pages) (sym same.1) ∙ lent) in
             omega (arith, ap (pins (unpinned v client address).records) same.1, pins_one_less, more))
         | inr other ↦ omega (arith, unpinned_others q other.1, some)
       ]);

@@ -52,8 +52,6 @@ pub record CanChangePlace (v : ZoneState) (page : ℕ) (old new : Option Placeme
   pub valid : IsValidZone v
   pub at : map.get v.placement page ≡ old
   pub numbered : page < frame_count v
-  -- its words aren't lent
-  pub here : set.contains v.lent_pages page ≡ false
   pub takes : (frame : ℕ) → takes_up new frame ≡ true → (takes_up old frame ≡ true) ⊎ ((is_free v frame ≡ true) × (frame < frame_count v))
   pub upward : (serial source target : ℕ) → new ≡ Some (Moving serial source target) → source < target
 
@@ -129,12 +127,9 @@ module _ {v : ZoneState} {page : ℕ} {old new : Option Placement} (can : CanCha
     | inr other ↦ inr (other.1, at_other q other.1)
   ]
 
-  -- the pages whose words are lent are others, and rest where they did
-  pub rests_still : (q : ℕ) → set.contains v.lent_pages q ≡ true → (frame : ℕ) × (map.get next.placement q ≡ Some (At frame))
-  rests_still q lent = elim (where_is q) [
-    | inl here ↦ absurd (both_ways _ (ap (set.contains v.lent_pages) here.0 ∙ can.here) lent)
-    | inr there ↦ (let at = can.valid.loans.rest q lent in (at.0, there.1 ∙ at.1))
-  ]
+  -- where the words of this page aren't lent, those whose words are lent stay where they are
+  pub lent_stay : set.contains v.lent_pages page ≡ false → (q : ℕ) → set.contains v.lent_pages q ≡ true → map.get next.placement q ≡ map.get v.placement q
+  lent_stay here q lent = at_other q (λ same. both_ways _ (ap (set.contains v.lent_pages) same ∙ here) lent)
 
   -- a page that takes up a frame after the change is this page or took it up before
   took : (q g : ℕ) → takes_up (map.get next.placement q) g ≡ true → ((q ≡ page) × (takes_up new g ≡ true)) ⊎ ((q ≢ page) × (takes_up (map.get v.placement q) g ≡ true))
@@ -238,7 +233,9 @@ pub record IsTold (v : ZoneState) (page : ℕ) (new : Option Placement) (entry :
   pub ways : length (out (entry ∷ v.records)) + ways_of (map.get v.placement page) ≡ length (out v.records) + ways_of new
   pub handed : (first : ℕ) → handed_out_by (entry ∷ v.records) first ≡ handed_out_by v.records first
   pub marks : (block : ℕ) → is_marked_by (entry ∷ v.records) block ≡ is_marked_by v.records block
-  pub pinned : (q : ℕ) → set.contains v.lent_pages q ≡ true → 0 < pins (entry ∷ v.records) q
+  -- the words of this page aren't lent, and the pages whose words are lent keep their pins
+  pub here : set.contains v.lent_pages page ≡ false
+  pub pins_kept : (q : ℕ) → set.contains v.lent_pages q ≡ true → pins (entry ∷ v.records) q ≡ pins v.records q
   pub stay : (q : ℕ) → set.contains unmovable q ≡ true → IsSome (map.get (put v.placement page new) q)
 
 module _ {v : ZoneState} {page : ℕ} {old new : Option Placement} (can : CanChangePlace v page old new) (entry : Record) (unmovable : set.FinSet nat_cmp) (told : IsTold v page new entry unmovable) where
@@ -278,7 +275,11 @@ module _ {v : ZoneState} {page : ℕ} {old new : Option Placement} (can : CanCha
         };
         pages = valid_places can unmovable told.stay;
         blocks = law.blocks;
-        loans = record { rest = rests_still can; pinned = told.pinned; lendable = law.loans.lendable };
+        loans = record {
+          used = λ q lent. ap is_some (lent_stay can told.here q lent) ∙ law.loans.used q lent;
+          pinned = λ q frame lent rests. (let some = law.loans.pinned q frame lent (sym (lent_stay can told.here q lent) ∙ rests) in omega (arith, told.pins_kept q lent));
+          lendable = law.loans.lendable;
+        };
         fingers = record { ordered = fingers; begun = λ start e. begun_more v.records entry v.round law.fingers.begun start e; swept = swept };
         sum = omega (arith, law.sum, free_count can, page_count can, told.ways, ap ways_of can.at);
       }

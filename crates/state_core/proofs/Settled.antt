@@ -10,7 +10,7 @@ use Rattle.state_core.specs.ZoneState.{ZoneState, frame_count, takes_up}
 use Rattle.state_core.proofs.Moving as moving
 use Rattle.state_core.proofs.Places as places
 pub use Rattle.state_core.proofs.Moving.{CanSettle, IsStill, IsRecorded, isolate_still, moved_still, back_still}
-pub use Rattle.state_core.proofs.Isolating.{target_within, can_isolate, isolated_others, isolated_target, isolate_recorded}
+pub use Rattle.state_core.proofs.Isolating.{target_within, pair_here, can_isolate, isolated_others, isolated_target, isolate_recorded}
 pub use Rattle.state_core.proofs.Ending.{frames_apart, can_move_on, can_go_back, moved_others, moved_source, back_target, source_within, target_in, out_fewer, moved_recorded, back_recorded}
 pub use Rattle.state_core.proofs.ValidMoves.{swept_if_isolated, swept_if_moved, swept_if_put_back, valid_isolated, valid_moved, valid_put_back}
 

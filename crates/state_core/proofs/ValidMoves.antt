@@ -1,6 +1,7 @@
 -- A page is isolated, and its move ends: the zone stays valid, and swept while its latest round is quiet.
-use Rattle.std.proofs.Common.{◌≡◌, ℕ, ◌+◌, subst, sym, ap, refl, arith, Some, None}
+use Rattle.std.proofs.Common.{◌≡◌, ℕ, ◌+◌, false, subst, sym, ap, refl, arith, Some, None}
 use Rattle.std.specs.FinMap as map
+use Rattle.std.specs.FinSet as set
 use Rattle.frame_core.specs.declared.record.Cause.{Cause}
 use Rattle.frame_core.specs.declared.record.Record.TheVariants.{Isolate, Moved, Back}
 use Rattle.frame_core.specs.History.{pins}
@@ -37,12 +38,12 @@ module _ (v : ZoneState) (page serial source target : ℕ) (law : IsValidZone v)
   pub swept_if_put_back : (cause : Cause) → SweptIfQuiet (relocated v (Back cause serial) page (At source))
   swept_if_put_back cause = swept_ended v (relocated v (Back cause serial) page (At source)) (Back cause serial) law refl refl refl
 
-pub valid_moved : (v : ZoneState) (serial page source target : ℕ) → IsValidZone v → map.get v.placement page ≡ Some (Moving serial source target) → pins v.records page ≡ 0 → IsValidZone (moved_to_target v serial page)
-valid_moved v serial page source target law at none =
+pub valid_moved : (v : ZoneState) (serial page source target : ℕ) → IsValidZone v → map.get v.placement page ≡ Some (Moving serial source target) → set.contains v.lent_pages page ≡ false → pins v.records page ≡ 0 → IsValidZone (moved_to_target v serial page)
+valid_moved v serial page source target law at here none =
     subst (λ (frame : ℕ). IsValidZone (relocated v (Moved serial) page (At frame))) (sym (ap target_of at))
-    (valid_settled (can_move_on v page serial source target law at) (Moved serial) (moved_recorded v page serial source target law at none) v.migrate v.free law.fingers.ordered (swept_if_moved v page serial source target law at))
+    (valid_settled (can_move_on v page serial source target law at) (Moved serial) (moved_recorded v page serial source target law at here none) v.migrate v.free law.fingers.ordered (swept_if_moved v page serial source target law at))
 
-pub valid_put_back : (v : ZoneState) (serial page source target : ℕ) (cause : Cause) → IsValidZone v → map.get v.placement page ≡ Some (Moving serial source target) → HasCause cause (pins v.records page) → IsValidZone (put_back_to_source v serial page cause)
-valid_put_back v serial page source target cause law at has =
+pub valid_put_back : (v : ZoneState) (serial page source target : ℕ) (cause : Cause) → IsValidZone v → map.get v.placement page ≡ Some (Moving serial source target) → set.contains v.lent_pages page ≡ false → HasCause cause (pins v.records page) → IsValidZone (put_back_to_source v serial page cause)
+valid_put_back v serial page source target cause law at here has =
     subst (λ (frame : ℕ). IsValidZone (relocated v (Back cause serial) page (At frame))) (sym (ap source_of at))
-    (valid_settled (can_go_back v page serial source target law at) (Back cause serial) (back_recorded v page serial source target law at cause has) v.migrate v.free law.fingers.ordered (swept_if_put_back v page serial source target law at cause))
+    (valid_settled (can_go_back v page serial source target law at) (Back cause serial) (back_recorded v page serial source target law at here cause has) v.migrate v.free law.fingers.ordered (swept_if_put_back v page serial source target law at cause))

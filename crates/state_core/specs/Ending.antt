@@ -1,6 +1,7 @@
 -- The calls that end the move of a page: which pages they take, how the move ends, and what they leave.
-use Rattle.std.specs.Prelude.{◌≡◌, ◌≢◌, ℕ, ◌<◌, Bool, true, ◌&&◌, nat_eq, if◌then◌else◌, Option, Some, ⊤}
+use Rattle.std.specs.Prelude.{◌≡◌, ◌≢◌, ℕ, ◌<◌, Bool, true, not, ◌&&◌, nat_eq, if◌then◌else◌, Option, Some, ⊤}
 use Rattle.std.specs.FinMap as map
+use Rattle.std.specs.FinSet as set
 use Rattle.frame_core.specs.declared.place.Address.{Address}
 use Rattle.frame_core.specs.declared.record.Cause.{Cause}
 use Rattle.frame_core.specs.declared.record.Cause.TheVariants.{Pinned, NotCopied}
@@ -15,9 +16,10 @@ use Rattle.state_core.specs.Valid.{is_under}
 use Rattle.state_core.specs.ZoneState.{ZoneState, is_free}
 use Rattle.state_core.specs.Carrying.{flags_of, words_now, relocated}
 
--- whether a page is of this zone and is moving there under its serial
+-- whether a page is of this zone and is moving there under its serial, and its words aren't lent: a move whose words are lent ends when
+-- they come back
 abbrev pub is_own : ZoneState → IsolatedPage → Bool
-is_own z p = nat_eq p.page.zone z.number && is_under (map.get z.placement p.page.number) p.serial
+is_own z p = nat_eq p.page.zone z.number && is_under (map.get z.placement p.page.number) p.serial && not (set.contains z.lent_pages p.page.number)
 
 -- a copy is of a page that is moving in this zone under its serial, and has the page's words
 pub record IsOwnCopy (z : ZoneState) (copy : IsolatedPage) : Type 0 where

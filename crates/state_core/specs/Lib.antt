@@ -10,6 +10,7 @@ pub mod ErrorNumber
 pub mod HandingOut
 pub mod Isolating
 pub mod Lending
+pub mod LentMoves
 pub mod Looking
 pub mod Mapping
 pub mod Marking

@@ -83,9 +83,10 @@ pub record HasValidBlocks (frames page_size : ℕ) (handed_out : map.FinMap nat_
 
 -- the pages whose words are away are valid, by the records and the placements of a zone that lies in this memory of its caller if in any
 pub record HasValidLoans (records : List Record) (placement : map.FinMap nat_cmp Placement) (away : set.FinSet nat_cmp) (memory : Option Ptr) : Type 0 where
-  -- the words of a page are lent only while it rests in a frame and has a pin, in a zone that lies in memory of its caller
-  pub rest : (page : ℕ) → set.contains away page ≡ true → (frame : ℕ) × (map.get placement page ≡ Some (At frame))
-  pub pinned : (page : ℕ) → set.contains away page ≡ true → 0 < pins records page
+  -- the words of a page are lent only while it is in use, and while it rests in a frame only where it has a pin, in a zone that lies in
+  -- memory of its caller
+  pub used : (page : ℕ) → set.contains away page ≡ true → IsSome (map.get placement page)
+  pub pinned : (page frame : ℕ) → set.contains away page ≡ true → map.get placement page ≡ Some (At frame) → 0 < pins records page
   pub lendable : (page : ℕ) → set.contains away page ≡ true → IsSome memory
 
 -- the fingers of a zone are valid, and its latest round

@@ -24,6 +24,7 @@ use Rattle.state_core.specs.Looking.{look_by, look_of, info_of}
 use Rattle.state_core.specs.Mapping.{map_refusal, map_at_refusal, mapped}
 use Rattle.state_core.specs.Marking.{mark_refusal, unmark_refusal, marked_of, block_marked, block_unmarked}
 use Rattle.state_core.specs.Pinning.{pins_at, pin_refusal, unpin_refusal}
+use Rattle.state_core.specs.Packed.{frame_of}
 use Rattle.state_core.specs.Sharing.{maps_at, share_refusal}
 use Rattle.state_core.specs.Unmapping.{is_last, unmap_refusal, without_page, unmapped}
 use Rattle.state_core.specs.ZoneState.{ZoneState, frame_count, is_free, frame_for, lowest_free_frame, lowest_unused_page, noted}
@@ -100,7 +101,7 @@ module _ (z w : ZoneState) (same : IsSame z w) where
   unpin_agrees : (a : Address) → unpin_refusal z a ≡ unpin_refusal w a
   unpin_agrees a = λ i.
       cond (not (room_same z w same i)) (Some JournalFull)
-      (cond (is_none (page_same z w same a i)) (Some Unmapped) (cond (nat_eq (pins_agrees a i) 0) (Some NotPinned) (cond (nat_eq (pins_agrees a i) 1 && lent_agrees a i) (Some Lent) None)))
+      (cond (is_none (page_same z w same a i)) (Some Unmapped) (cond (nat_eq (pins_agrees a i) 0) (Some NotPinned) (cond (nat_eq (pins_agrees a i) 1 && (is_some (frame_of (place_same z w same a i)) && lent_agrees a i)) (Some Lent) None)))
 
   -- unmaps
 

@@ -50,14 +50,17 @@ comes_put_back start z page serial source target cause law has at keeps =
     record {
       carried = carried_back z law keeps.carried page serial source target cause at;
       least = omega arith;
-      scans = seen_trans _ _ (all_isolated start) (seen_steps (frame_count z) (put_back_to_source z serial page cause) z (valid_put_back z serial page source target cause law at has) law (seen_back z law keeps.carried page serial source target cause at)) keeps.scans;
+      scans = seen_trans _ _ (all_isolated start) (seen_steps (frame_count z) (put_back_to_source z serial page cause) z (valid_put_back z serial page source target cause law at (keeps.carried.here page serial source target at) has) law (seen_back z law keeps.carried page serial source target cause at)) keeps.scans;
       outcome = λ none. absurd (omega arith);
     }
 
 -- a round that begins where no page is moving comes to what it comes to by hand
 pub comes_begun : (start : ZoneState) → IsAtRest start → ComesTo start (round_begun start)
 comes_begun start rest = record {
-  carried = record { each = λ page serial source target at. absurd (at_rest start rest.valid (ap length rest.none_out) page serial source target at) };
+  carried = record {
+    each = λ page serial source target at. absurd (at_rest start rest.valid (ap length rest.none_out) page serial source target at);
+    here = λ page serial source target at. absurd (at_rest start rest.valid (ap length rest.none_out) page serial source target at);
+  };
   least = omega arith;
   scans = seen_refl (all_isolated start);
   outcome = λ same. refl;

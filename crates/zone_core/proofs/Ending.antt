@@ -23,7 +23,7 @@ module _ (z : ZoneState) (law : IsValidZone z) (carried : AreCarriedUp z) (page 
   target_is = ap target_of at
 
   pub valid_move : IsValidZone (moved_to_target z serial page)
-  valid_move = valid_moved z serial page source target law at (no_pin z carried page serial source target at)
+  valid_move = valid_moved z serial page source target law at (carried.here page serial source target at) (no_pin z carried page serial source target at)
 
   pub carried_moved : AreCarriedUp (moved_to_target z serial page)
   carried_moved = record {
@@ -32,6 +32,12 @@ module _ (z : ZoneState) (law : IsValidZone z) (carried : AreCarriedUp z) (page 
         elim (eqb_tells q page) [
           | inl same ↦ absurd (not_moving _ s from to (sym (get_insert_same z.placement page q there same.1) ∙ here))
           | inr other ↦ (let old = carried.each q s from to (sym (get_insert_other z.placement page q there other.1) ∙ here) in record { low = old.low; high = old.high; movable = old.movable })
+        ];
+    here = λ q s from to here.
+        let there = At (target_of (map.get z.placement page)) in
+        elim (eqb_tells q page) [
+          | inl same ↦ absurd (not_moving _ s from to (sym (get_insert_same z.placement page q there same.1) ∙ here))
+          | inr other ↦ carried.here q s from to (sym (get_insert_other z.placement page q there other.1) ∙ here)
         ];
   }
 
@@ -63,6 +69,10 @@ module _ (z : ZoneState) (law : IsValidZone z) (carried : AreCarriedUp z) (page 
     each = λ q s from to here. elim (eqb_tells q page) [
       | inl same ↦ absurd (not_moving _ s from to (sym (get_insert_same z.placement page q home same.1) ∙ here))
       | inr other ↦ (let old = carried.each q s from to (sym (get_insert_other z.placement page q home other.1) ∙ here) in record { low = old.low; high = old.high; movable = old.movable })
+    ];
+    here = λ q s from to here. elim (eqb_tells q page) [
+      | inl same ↦ absurd (not_moving _ s from to (sym (get_insert_same z.placement page q home same.1) ∙ here))
+      | inr other ↦ carried.here q s from to (sym (get_insert_other z.placement page q home other.1) ∙ here)
     ];
   }
 

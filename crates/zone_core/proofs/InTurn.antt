@@ -3,6 +3,7 @@ use Rattle.std.proofs.Common.{◌≡◌, ℕ, zero, suc, ◌+◌, ◌-◌, ◌<�
 use Rattle.std.specs.Prelude.{Bool, true, false, nat_eq, is_some, is_none, Option, Some, None}
 use Rattle.std.proofs.lemmas.Bool.{eqb-true, and_parts}
 use Rattle.std.specs.FinMap as map
+use Rattle.std.specs.FinSet as set
 use Rattle.frame_core.specs.History.{pins}
 use Rattle.frame_core.specs.Moves.{isolated}
 use Rattle.state_core.specs.Isolating.{isolate_refusal, isolated_next}
@@ -135,6 +136,9 @@ module _ (start z begun : ZoneState) (pair : Pair) (way : Move) (same : z ≡ st
       (λ i. map.get (step i).placement (is i).page)
       ∙ get_insert_same z.placement pair.page pair.page (Moving (isolated z.records) pair.source pair.target) refl
       ∙ sym (ap (λ (m : Move). Some (Moving m.serial m.source m.target)) is)
+
+  pub begun_here : set.contains begun.lent_pages pair.page ≡ false → set.contains begun.lent_pages way.page ≡ false
+  begun_here here = ap (λ (m : Move). set.contains begun.lent_pages m.page) is ∙ here
 
   pub begun_unpinned : can_move start pair.page ≡ true → pins begun.records way.page ≡ 0
   begun_unpinned can =

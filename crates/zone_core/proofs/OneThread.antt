@@ -18,7 +18,9 @@ use Rattle.state_core.specs.Pairs.{next_pair}
 use Rattle.state_core.specs.Rounds.{round_begun}
 use Rattle.state_core.specs.ZoneState.{ZoneState}
 use Rattle.state_core.proofs.Carried.{own_fresh}
+use Rattle.state_core.proofs.Pairing.{pair_found}
 use Rattle.state_core.proofs.Rounds.{valid_begun}
+use Rattle.state_core.proofs.Settled.{pair_here}
 use Rattle.zone_core.specs.Alone.{ComesTo, IsAtRest}
 use Rattle.zone_core.specs.ByHand.{scan_pair, scan_step, all_isolated, by_hand}
 use Rattle.zone_core.specs.Outcome.{IsSame}
@@ -102,8 +104,8 @@ page_scanned z z_new p None says left = cc
 page_scanned z z_new p (Some pair) says left = record { pair = pair; found = refl; page = cc; left = left }
 
 -- a page that was just isolated is its own copy
-pub own_isolated : (z z_new : ZoneState) (p : IsolatedPage) (o : Option Pair) → answer.Page p ≡ next_answer z o → z_new ≡ next_state z o → IsOwnCopy z_new p
-own_isolated z z_new p None says left = cc
-own_isolated z z_new p (Some pair) says left =
+pub own_isolated : (z z_new : ZoneState) (p : IsolatedPage) (o : Option Pair) → IsValidZone z → next_pair z ≡ o → answer.Page p ≡ next_answer z o → z_new ≡ next_state z o → IsOwnCopy z_new p
+own_isolated z z_new p None law found says left = cc
+own_isolated z z_new p (Some pair) law found says left =
     let page : p ≡ _ = cc in
-    subst (λ (w : ZoneState). IsOwnCopy w p) (sym left) (subst (IsOwnCopy (isolated_next z pair)) (sym page) (own_fresh z pair))
+    subst (λ (w : ZoneState). IsOwnCopy w p) (sym left) (subst (IsOwnCopy (isolated_next z pair)) (sym page) (own_fresh z pair (pair_here z pair law (pair_found z law pair found))))

@@ -1,6 +1,7 @@
 -- Steps of the scanner.
 use Rattle.std.proofs.Common.{◌≡◌, ℕ, zero, suc, ◌+◌, ◌-◌, ◌<◌, ◌≤◌, cond, ◌∷◌, length, inl, inr, refl, sym, ap, subst, ◌∙◌, arith, Option, Some, None, is_none}
 use Rattle.std.specs.FinMap as map
+use Rattle.std.specs.FinSet as set
 use Rattle.std.specs.Ordering.{nat_cmp}
 use Rattle.std.proofs.lemmas.Bool.{and_parts, eqb-true}
 use Rattle.std.proofs.lemmas.Bool.Decides.{eqb_tells}
@@ -18,7 +19,7 @@ use Rattle.state_core.specs.ZoneState.{ZoneState, frame_count, takes_up}
 use Rattle.state_core.proofs.Entries.{get_insert_same, get_insert_other}
 use Rattle.state_core.proofs.Facts.{room_for_two}
 use Rattle.state_core.proofs.Pairing.{pair_found}
-use Rattle.state_core.proofs.Settled.{valid_isolated}
+use Rattle.state_core.proofs.Settled.{pair_here, valid_isolated}
 use Rattle.zone_core.specs.Alone.{AreCarriedUp, IsSeenAs}
 use Rattle.zone_core.specs.ByHand.{scan_pair, scan_step, scan_steps}
 use Rattle.zone_core.specs.Outcome.{Outcome, outcome_of, without_ends, final_frame}
@@ -61,8 +62,8 @@ two_ways a s t b source target e = (cc, cc)
 pub not_moving : (f s source target : ℕ) → Some (At f) ≡ Some (Moving s source target) → ⊥
 not_moving f s source target e = cc
 
-carried_isolated : (z : ZoneState) (pair : Pair) → IsScanned z pair → AreCarriedUp z → AreCarriedUp (isolated_next z pair)
-carried_isolated z pair t carried = record {
+carried_isolated : (z : ZoneState) (pair : Pair) → IsValidZone z → IsScanned z pair → AreCarriedUp z → AreCarriedUp (isolated_next z pair)
+carried_isolated z pair law t carried = record {
   each = λ page serial source target at.
       let way = Moving (isolated z.records) pair.source pair.target in
       elim (eqb_tells page pair.page) [
@@ -77,10 +78,14 @@ carried_isolated z pair t carried = record {
             let high = t.is.to.high in
             record { low = omega (arith, old.low); high = omega (arith, old.high); movable = old.movable })
       ];
+  here = λ page serial source target at. elim (eqb_tells page pair.page) [
+    | inl same ↦ ap (set.contains z.lent_pages) same.1 ∙ pair_here z pair law t.is
+    | inr other ↦ carried.here page serial source target (sym (get_insert_other z.placement pair.page page (Moving (isolated z.records) pair.source pair.target) other.1) ∙ at)
+  ];
 }
 
 pub carried_scan : (z : ZoneState) → IsValidZone z → AreCarriedUp z → AreCarriedUp (scan_step z)
-carried_scan z law carried = by_scan z law AreCarriedUp (λ e. carried) (λ pair t. carried_isolated z pair t carried)
+carried_scan z law carried = by_scan z law AreCarriedUp (λ e. carried) (λ pair t. carried_isolated z pair law t carried)
 
 -- a moving page has no pin
 pub no_pin : (z : ZoneState) → AreCarriedUp z → (page serial source target : ℕ) → map.get z.placement page ≡ Some (Moving serial source target) → pins z.records page ≡ 0

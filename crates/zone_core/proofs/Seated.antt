@@ -1,7 +1,8 @@
 -- What the clauses of public calls say of pages, books and seats.
-use Rattle.std.proofs.Common.{◌≡◌, ℕ, ◌+◌, Bool, true, false, if◌then◌else◌, ◌≤◌, [], length, refl, sym, ap, subst, ◌∙◌, arith}
+use Rattle.std.proofs.Common.{◌≡◌, ℕ, ◌+◌, Bool, true, false, not, if◌then◌else◌, ◌≤◌, [], length, refl, sym, ap, subst, ◌∙◌, arith}
 use Rattle.std.specs.Prelude.{Option, Some, None, is_some, IsSome, IfSome, Result, Ok, Err, IsOk, IfOk, OnOk, ◌↔◌, ◌&&◌, nat_eq, nat_lt}
 use Rattle.std.specs.FinMap as map
+use Rattle.std.specs.FinSet as set
 use Rattle.std.proofs.lemmas.Bool.{eq-eqb, both_ways, ltb-true, ltb-false}
 use Rattle.std.proofs.lemmas.List.{nil_from_length}
 use Rattle.std.specs.Option.{ok_or}
@@ -34,7 +35,7 @@ neither false b e = refl
 
 -- a page whose move has ended isn't moving any more
 pub ended_once : (v : ZoneState) (entry : Record) (page frame : ℕ) (p : IsolatedPage) → p.page.number ≡ page → is_own (relocated v entry page (At frame)) p ≡ false
-ended_once v entry page frame p e = neither (nat_eq p.page.zone v.number) _ (ap (λ (o : Option Placement). is_under o p.serial) (get_insert_same v.placement page p.page.number (At frame) e))
+ended_once v entry page frame p e = ap (λ b. b && not (set.contains v.lent_pages p.page.number)) (neither (nat_eq p.page.zone v.number) _ (ap (λ (o : Option Placement). is_under o p.serial) (get_insert_same v.placement page p.page.number (At frame) e)))
 
 -- a page of a copy whose move is found is moving in the zone, and only then
 module _ {z v : ZoneState} {serial : ℕ} {page : Page} {copy : IsolatedPage} (same : z ≡ v) (serial_is : serial ≡ copy.serial) (page_is : page ≡ copy.page) where

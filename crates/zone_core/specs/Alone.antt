@@ -1,6 +1,7 @@
 -- What the lock of a zone keeps during a round, where nobody else has the zone: what the round comes to from here.
-use Rattle.std.specs.Prelude.{◌≡◌, ◌⊎◌, ℕ, ◌-◌, ◌<◌, ◌≤◌, [], length, Some}
+use Rattle.std.specs.Prelude.{◌≡◌, ◌⊎◌, ℕ, ◌-◌, ◌<◌, ◌≤◌, false, [], length, Some}
 use Rattle.std.specs.FinMap as map
+use Rattle.std.specs.FinSet as set
 use Rattle.frame_core.specs.History.{pins}
 use Rattle.frame_core.specs.Moves.{isolated, out, put_back}
 use Rattle.state_core.specs.declared.placement.Placement.TheVariants.{Moving}
@@ -12,9 +13,10 @@ use Rattle.state_core.specs.ZoneState.{ZoneState, takes_up}
 use Rattle.zone_core.specs.ByHand.{scanned_out, all_isolated}
 use Rattle.zone_core.specs.Outcome.{outcome_of}
 
--- each page that is moving goes up past both fingers, and has no pin
+-- each page that is moving goes up past both fingers, and has no pin, and its words aren't lent
 pub record AreCarriedUp (z : ZoneState) : Type 0 where
   pub each : (page serial source target : ℕ) → map.get z.placement page ≡ Some (Moving serial source target) → IsCarriedUp z page source target
+  pub here : (page serial source target : ℕ) → map.get z.placement page ≡ Some (Moving serial source target) → set.contains z.lent_pages page ≡ false
 
 -- the scanner can't tell these zones apart: its fingers stand alike, and between them the same pages stand in the same frames, and the
 -- same frames are taken up

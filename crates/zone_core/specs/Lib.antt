@@ -5,6 +5,7 @@ pub mod Counted
 pub mod Emptying
 pub mod Fingers
 pub mod FreeRuns
+pub mod LentMoves
 pub mod Made
 pub mod OneThread
 pub mod Outcome

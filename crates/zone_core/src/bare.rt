@@ -17,6 +17,7 @@ mod claiming;
 mod evacuating;
 mod free_runs;
 mod lending;
+mod lent_moves;
 mod moving;
 mod one_thread;
 mod reserving;

@@ -47,7 +47,7 @@ pub use state_core::{
     ZoneAnswer, ZoneCall, ZoneCallOf, ZoneError, ZoneSize,
 };
 pub use zone::Zone as ZoneOf;
-pub use zone_tables::MovingPage;
+pub use zone_tables::{CopiedMove, LentMove, MovingPage};
 
 /// A zone with pages of eight words.
 pub type Zone<I, M, B> = ZoneOf<8, I, M, B>;

@@ -5,7 +5,7 @@ use Rattle.std.specs.Option.{option_and_then}
 use Rattle.std.specs.FinMap as map
 use Rattle.std.specs.FinSet as set
 use Rattle.std.specs.Ordering.{nat_cmp}
-use Rattle.std.proofs.lemmas.Bool.{both_ways, cases_Bool, eq-eqb, ne_eqb, or_from, or_left}
+use Rattle.std.proofs.lemmas.Bool.{both_ways, cases_Bool, eq-eqb, eqb-true, ne_eqb, or_from, or_left}
 use Rattle.std.proofs.lemmas.Option.{slice_get_within}
 use Rattle.frame_core.proofs.Ends.{is_balanced}
 use Rattle.frame_core.specs.Address.{InRange}
@@ -27,11 +27,12 @@ use Rattle.state_core.specs.Isolating.{isolate_refusal}
 use Rattle.state_core.specs.Pairs.{can_move}
 use Rattle.state_core.specs.ZoneState.{ZoneState, frame_count, is_used, takes_up, words_frame}
 use Rattle.state_core.proofs.Facts.{frame_within, isolated_bound, room_for_two as has_two}
+use Rattle.state_core.proofs.Holding.{at_takes}
 use Rattle.state_core.proofs.Places.{unheld_frame}
 use Rattle.state_core.proofs.Settled.{isolate_still}
 use Rattle.fewest_core.specs.Evacuation.{moved_away}
 use Rattle.fewest_core.specs.FewestMoves.{Move, IsMove}
-use Rattle.fewest_core.proofs.Evacuation.{can_settle, placement_after, target_free, valid_moved_away}
+use Rattle.fewest_core.proofs.Evacuation.{can_settle, move_here, placement_after, target_free, valid_moved_away}
 use Rattle.fewest_core.proofs.Moves.{target_not_source, free_unused, others_same, page_there}
 use Rattle.zone_tables.specs.declared.note.PageNote.{PageNote}
 use Rattle.zone_tables.specs.declared.zone.ZoneTables.TheInside.{Inside}
@@ -46,7 +47,7 @@ use Rattle.zone_tables.specs.Contents.{contents_at, memory_of}
 use Rattle.zone_tables.proofs.Facts.{held_by, is_sound}
 use Rattle.zone_tables.proofs.HeldWords.{contents_kept, held_contents}
 use Rattle.zone_tables.proofs.LentBlocks.{free_here, free_unlent, words_here}
-use Rattle.zone_tables.proofs.LentPages.{pages_put, rests_here}
+use Rattle.zone_tables.proofs.LentPages.{pages_put}
 use Rattle.zone_tables.proofs.ListedAddresses.{names_of, none_listed, page_rests}
 use Rattle.zone_tables.proofs.MoveEnds.{kept_movable, moved_frames, moved_words, still_free}
 use Rattle.zone_tables.proofs.NotedPages.{placements_put, unmovable_kept}
@@ -54,7 +55,7 @@ use Rattle.zone_tables.proofs.UnmovablePages.{movable_only, unmovable_moved}
 use Rattle.zone_tables.proofs.Placement.{lent_fit, FramesPlaced, GetsPlace, LeavesOthers, MovablePlaced, WordsPlaced, frames_fit, movable_fit, notes_fit, words_fit}
 use Rattle.zone_tables.proofs.Relocation.{ReplacesInRange, WordsSettled, entries_settled}
 use Rattle.frame_core.specs.FrameSet.{has_frame}
-use Rattle.zone_tables.specs.LentPages.{pages_lent}
+use Rattle.zone_tables.specs.LentPages.{has_words_lent, pages_lent}
 use Rattle.zone_tables.proofs.SearchesAndCounts.{free_seen, get_placements}
 
 -- an entry that becomes another one, and then a third, becomes the third
@@ -85,7 +86,7 @@ module _ {W : ℕ} {z : Inside W} {v : ZoneState} (view : state_of z ≡ v) (inv
   target_row = omega (arith, is.within, sound.words.count)
 
   pub source_here : IsHere z.words m.source 1
-  source_here = words_here z v sound m.page (At m.source) is.here (can_settle v m sound.valid is).here
+  source_here = words_here z v sound m.page (At m.source) is.here (move_here v m sound.valid is)
 
   pub target_here : IsHere z.words m.target 1
   target_here = free_here z v sound m.target (target_free v m sound.valid is)
@@ -258,13 +259,13 @@ module _ {W : ℕ} {z changed : Inside W} {v : ZoneState} {m : Move} {note : Pag
 
   -- the words of the page aren't lent, and its new frame isn't
   back : set.contains v.lent_pages m.page ≡ false
-  back = (can_settle v m known.sound.valid known.may_move).here
+  back = move_here v m known.sound.valid known.may_move
 
-  vacant : (frame : ℕ) → Some (At m.target) ≡ Some (At frame) → has_frame z.words.lent frame ≡ false
-  vacant frame at = let here : m.target ≡ frame = cc in ap (has_frame z.words.lent) (sym here) ∙ free_unlent z v known.sound m.target (target_free v m known.sound.valid known.may_move)
+  vacant : (frame : ℕ) → takes_up (Some (At m.target)) frame ≡ true → has_frame z.words.lent frame ≡ false
+  vacant frame has = ap (has_frame z.words.lent) (eqb-true frame m.target has) ∙ free_unlent z v known.sound m.target (target_free v m known.sound.valid known.may_move)
 
-  rested : (frame : ℕ) → map.get (state_of z).placement m.page ≡ Some (At frame) → has_frame z.words.lent frame ≡ false
-  rested frame at = known.sound.lent.of_page m.page frame (sym (ap (λ (u : ZoneState). map.get u.placement m.page) known.view) ∙ at) ∙ back
+  rested : has_words_lent z.words.lent (map.get (state_of z).placement m.page) ≡ false
+  rested = ap (has_words_lent z.words.lent) (ap (λ (u : ZoneState). map.get u.placement m.page) known.view ∙ known.may_move.here) ∙ known.sound.lent.of_page m.page m.source (at_takes _ m.source known.may_move.here) ∙ back
 
   pub leaving_sound : IsSound changed after
   leaving_sound =
@@ -306,7 +307,7 @@ module _ {W : ℕ} {z changed : Inside W} {v : ZoneState} {m : Move} {note : Pag
   pages_new : (state_of changed).lent_pages ≡ (state_of z).lent_pages
   pages_new =
       (λ i. pages_lent (known.words i).lent (placement_new i) (512 * (known.rest_same i).size.blocks))
-      ∙ pages_put z.words.lent (state_of z).placement (512 * z.size.blocks) m.page (Some (At m.target)) (rests_here z.words.lent _ rested) (rests_here z.words.lent (Some (At m.target)) vacant)
+      ∙ pages_put z.words.lent (state_of z).placement (512 * z.size.blocks) m.page (Some (At m.target)) rested (vacant m.target (eq-eqb m.target m.target refl))
 
   -- a state after the page went, with its new place alone
   abbrev gone : ZoneState → ZoneState

@@ -4,7 +4,7 @@ use Rattle.std.specs.Prelude.{Option, Some, None, is_some, slice_get, slice_set,
 use Rattle.std.specs.Option.{option_and_then}
 use Rattle.std.specs.FinMap as map
 use Rattle.std.specs.FinSet as set
-use Rattle.std.proofs.lemmas.Bool.{eq-eqb, cases_Bool}
+use Rattle.std.proofs.lemmas.Bool.{eq-eqb, eqb-true, cases_Bool}
 use Rattle.std.proofs.lemmas.Bool.Decides.{eqb_tells}
 use Rattle.std.proofs.lemmas.List.{length-set, length-replicate}
 use Rattle.frame_core.proofs.Lists.{slice_get_set_same, slice_get_set_other, slice_get_replicate}
@@ -25,7 +25,7 @@ use Rattle.zone_tables.specs.declared.zone.ZoneTables.TheInside.{Inside}
 use Rattle.state_core.specs.declared.placement.Placement.{Placement}
 use Rattle.state_core.specs.declared.placement.Placement.TheVariants.{At}
 use Rattle.zone_tables.specs.Fits.{entry_for, FramesFit, EntriesFit, WordsFit, NotesFit, MovableFit, UnmovableFit}
-use Rattle.state_core.specs.ZoneState.{words_frame, ZoneState, placement_at}
+use Rattle.state_core.specs.ZoneState.{words_frame, ZoneState, placement_at, takes_up}
 use Rattle.state_core.specs.Pairs.{can_move}
 use Rattle.state_core.proofs.Places.{unheld_frame}
 use Rattle.state_core.proofs.Entries.{contains_insert_same, contains_insert_other}
@@ -45,10 +45,10 @@ use Rattle.zone_tables.proofs.UnmovablePages.{unmovable_come}
 use Rattle.zone_tables.proofs.Placement.{lent_fit, GetsPlace, LeavesOthers, frames_fit, movable_fit, words_fit, notes_fit}
 use Rattle.zone_tables.proofs.Facts.{Becomes, becomes}
 use Rattle.frame_core.specs.FrameSet.{has_frame}
-use Rattle.zone_tables.specs.LentPages.{pages_lent, rests_lent}
+use Rattle.zone_tables.specs.LentPages.{has_words_lent, pages_lent}
 use Rattle.zone_tables.proofs.LentBlocks.{free_unlent}
-use Rattle.zone_tables.proofs.LentPages.{pages_put, rests_here}
-use Rattle.state_core.proofs.Mapping.{can_map}
+use Rattle.zone_tables.proofs.LentPages.{pages_put}
+use Rattle.state_core.proofs.Mapping.{fresh_here}
 use Rattle.zone_tables.specs.Tabulated.{tabulated}
 use Rattle.scan_core.specs.Frames.{Frames}
 
@@ -193,8 +193,8 @@ module _ {W : ℕ} (z : Inside W) (v : ZoneState) (client : ℕ) (address : Addr
   notes_new = slice_set z.notes page (fresh_note unmovable frame)
 
   -- the frame of the fresh page isn't lent, and it was in none before
-  vacant : (g : ℕ) → Some (At frame) ≡ Some (At g) → has_frame z.words.lent g ≡ false
-  vacant g at = let is : frame ≡ g = cc in ap (has_frame z.words.lent) (sym is) ∙ free_unlent z v known.sound frame known.can.free
+  vacant : (g : ℕ) → takes_up (Some (At frame)) g ≡ true → has_frame z.words.lent g ≡ false
+  vacant g has = ap (has_frame z.words.lent) (eqb-true g frame has) ∙ free_unlent z v known.sound frame known.can.free
 
   place_sound : IsSound (after_place z unmovable page frame tables history) (placed v client address unmovable page frame)
   place_sound =
@@ -204,7 +204,7 @@ module _ {W : ℕ} (z : Inside W) (v : ZoneState) (client : ℕ) (address : Addr
         valid = placed_valid v client address unmovable page frame can;
         orders = sound.orders;
         cleared = sound.cleared;
-        lent = lent_fit v (placed v client address unmovable page frame) page None (Some (At frame)) (gets v client address unmovable page frame can) z.words.lent sound.lent (can_map v client address unmovable page frame can).here vacant;
+        lent = lent_fit v (placed v client address unmovable page frame) page None (Some (At frame)) (gets v client address unmovable page frame can) z.words.lent sound.lent (fresh_here v client address unmovable page frame can) vacant;
         tables = known.frames_same ∙ sound.tables;
         size = known.size_same ∙ sound.size;
         marks = sound.marks;
@@ -233,9 +233,9 @@ module _ {W : ℕ} (z : Inside W) (v : ZoneState) (client : ℕ) (address : Addr
   place_view =
       let u = unmovable_new unmovable refl in
       let placed_there = placements_put z.notes page (fresh_note unmovable frame) note_within in
-      let before : rests_lent z.words.lent (map.get (state_of z).placement page) ≡ false = ap (rests_lent z.words.lent) (ap (λ (u : ZoneState). map.get u.placement page) known.view ∙ known.can.unused) in
+      let before : has_words_lent z.words.lent (map.get (state_of z).placement page) ≡ false = ap (has_words_lent z.words.lent) (ap (λ (u : ZoneState). map.get u.placement page) known.view ∙ known.can.unused) in
       let lent_there : pages_lent z.words.lent (tabulated (placement_of notes_new) (length notes_new)) (512 * z.size.blocks) ≡ (state_of z).lent_pages =
-      (λ i. pages_lent z.words.lent (placed_there i) (512 * z.size.blocks)) ∙ pages_put z.words.lent (state_of z).placement (512 * z.size.blocks) page (Some (At frame)) before (rests_here z.words.lent (Some (At frame)) vacant) in
+      (λ i. pages_lent z.words.lent (placed_there i) (512 * z.size.blocks)) ∙ pages_put z.words.lent (state_of z).placement (512 * z.size.blocks) page (Some (At frame)) before (vacant frame (eq-eqb frame frame refl)) in
       let c = contents_kept z v known.sound known.view frame (blank_words W) (unheld_frame v frame known.can.free) in
       let here : state_of (after_place z unmovable page frame tables history) ≡ placed (state_of z) client address unmovable page frame =
       λ i. record (state_of z) { records = (known.history_is i).records; room = (known.history_is i).room; round = (known.history_is i).round; placement = placed_there i; unmovable = u i; contents = c i; lent_pages = lent_there i } in

@@ -19,11 +19,12 @@ use Rattle.scan_core.specs.Frames.{true_at}
 use Rattle.scan_core.specs.NumberSet.{gathered}
 use Rattle.state_core.specs.Contents.{contents_of}
 use Rattle.state_core.specs.Lending.{block_place, block_returned}
-use Rattle.state_core.specs.declared.placement.Placement.TheVariants.{At}
+use Rattle.state_core.specs.declared.placement.Placement.{Placement}
 use Rattle.state_core.specs.Valid.{IsValidZone}
-use Rattle.state_core.specs.ZoneState.{ZoneState, covers}
+use Rattle.state_core.specs.ZoneState.{ZoneState, covers, takes_up, words_frame}
 use Rattle.state_core.proofs.Contents.{length_contents, valid_contents_written}
 use Rattle.state_core.proofs.Entries.{contains_insert_same, contains_insert_other, contains_remove_same, contains_remove_other}
+use Rattle.state_core.proofs.Facts.{takes_own}
 use Rattle.state_core.proofs.HandingOut.{in_block}
 use Rattle.state_core.proofs.Lending.{valid_block_returned}
 use Rattle.zone_tables.specs.Contents.{contents_at, memory_of, words_held}
@@ -36,7 +37,7 @@ use Rattle.zone_tables.specs.declared.zone.ZoneTables.TheInside.{Inside}
 use Rattle.zone_tables.proofs.BlockWords.{put_whole}
 use Rattle.zone_tables.proofs.Facts.{Becomes, becomes}
 use Rattle.zone_tables.proofs.LentBlocks.{off_blocks}
-use Rattle.zone_tables.proofs.LentPages.{rests_same}
+use Rattle.zone_tables.proofs.LentPages.{lent_same}
 use Rattle.zone_tables.proofs.HeldWords.{block_sound, block_view, blocks_apart, held_contents, off_block, order_at, order_is}
 use Rattle.zone_tables.proofs.SearchesAndCounts.{order_past}
 use Rattle.zone_tables.proofs.Tabulating.{gathered_put, gathered_same}
@@ -66,8 +67,8 @@ module _ {W : ℕ} (z : Inside W) (v : ZoneState) (sound : IsSound z v) (view : 
   ]
 
   -- the frame of a page is lent if it was
-  page_frame : (page frame : ℕ) → map.get v.placement page ≡ Some (At frame) → has_frame given.lent frame ≡ has_frame z.words.lent frame
-  page_frame page frame rests = now.others frame (off_block first order frame (off_blocks z v sound page frame rests first order at))
+  page_frame : (page frame : ℕ) → takes_up (map.get v.placement page) frame ≡ true → has_frame given.lent frame ≡ has_frame z.words.lent frame
+  page_frame page frame has = now.others frame (off_block first order frame (off_blocks z v sound page frame has first order at))
 
   lent_fit : LentFit given.lent v.handed_out (away_then v.lent first goes) v.placement v.lent_pages
   lent_fit = record {
@@ -79,7 +80,7 @@ module _ {W : ℕ} (z : Inside W) (v : ZoneState) (sound : IsSound z v) (view : 
           ∙ sym (ap (set.contains (away_then v.lent first goes)) same.1 ∙ away_here v.lent first goes))
       | inr other ↦ other_frame q o frame held other.1 least most ∙ sound.lent.of_block q o held frame least most ∙ sym (away_there v.lent first goes q other.1)
     ];
-    of_page = λ page frame rests. page_frame page frame rests ∙ sound.lent.of_page page frame rests;
+    of_page = λ page frame has. page_frame page frame has ∙ sound.lent.of_page page frame has;
     others = λ frame off none. elim (cases_Bool (in_block first order frame)) [
       | inl here ↦ absurd (both_ways _ (off first) (ap (λ (o : Option ℕ). covers o first frame) at ∙ here))
       | inr there ↦ now.others frame (off_block first order frame there) ∙ sound.lent.others frame off none
@@ -98,7 +99,7 @@ module _ {W : ℕ} (z : Inside W) (v : ZoneState) (sound : IsSound z v) (view : 
         by q ne (Some o) held = ap (λ (lent : Bool). is_some (order_of z.handed_out q) && lent) (other_frame q o q (order_is z v sound view q o held) ne (omega arith) (omega (arith, pow_pos o)))
 
   pages_same : pages_lent given.lent (state_of z).placement (512 * z.size.blocks) ≡ (state_of z).lent_pages
-  pages_same = gathered_same _ _ (512 * z.size.blocks) (λ page. rests_same z.words.lent given.lent (map.get (state_of z).placement page) (λ frame rests. page_frame page frame (sym (ap (λ (u : ZoneState). map.get u.placement page) view) ∙ rests)))
+  pages_same = gathered_same _ _ (512 * z.size.blocks) (λ page. lent_same z.words.lent given.lent (map.get (state_of z).placement page) (λ place is. page_frame page (words_frame place) (ap (λ (o : Option Placement). takes_up o (words_frame place)) (sym (ap (λ (u : ZoneState). map.get u.placement page) view) ∙ is) ∙ takes_own place)))
 
   lent_view : state_of after ≡ record v { lent = away_then v.lent first goes }
   lent_view =

@@ -1,9 +1,9 @@
 -- The words of a page are lent, or come back: the tables still stand for the zone.
 use Rattle.std.proofs.Common.{◌≡◌, ◌≢◌, ℕ, suc, ◌++◌, get_or, take, drop, ◌+◌, ◌*◌, ◌^◌, ◌<◌, ◌≤◌, ◌⊎◌, Bool, true, false, List, [], ◌∷◌, length, inl, inr, refl, sym, ap, subst, ◌∙◌, arith}
-use Rattle.std.specs.Prelude.{Option, Some, None, IsTrue, is_none, is_some, slice_get, slice_set, unwrap_or, ◌&&◌, if◌then◌else◌}
+use Rattle.std.specs.Prelude.{Option, Some, None, IsTrue, is_none, is_some, slice_get, slice_set, unwrap_or, nat_eq, ◌&&◌, ◌||◌, if◌then◌else◌}
 use Rattle.std.specs.FinMap as map
 use Rattle.std.specs.FinSet as set
-use Rattle.std.proofs.lemmas.Bool.{both_ways, leb-true}
+use Rattle.std.proofs.lemmas.Bool.{both_ways, eq-eqb, eqb-true, false_from_ne_true, leb-true}
 use Rattle.std.proofs.lemmas.Bool.Decides.{eqb_tells, leb_tells}
 use Rattle.std.proofs.lemmas.Grind.{drop-set_at}
 use Rattle.std.proofs.lemmas.List.{append-nil, take_all, take-append-drop, take-set-le}
@@ -23,10 +23,10 @@ use Rattle.state_core.specs.Lending.{page_lent, page_returned}
 use Rattle.state_core.specs.Pinning.{pins_at}
 use Rattle.state_core.specs.Valid.{IsValidZone}
 use Rattle.state_core.specs.Bulk.{has_room_for, stored_all, values_at}
-use Rattle.state_core.specs.ZoneState.{ZoneState, placement_at}
+use Rattle.state_core.specs.ZoneState.{ZoneState, placement_at, takes_up, words_frame}
 use Rattle.state_core.specs.declared.placement.Placement.{Placement}
-use Rattle.state_core.specs.declared.placement.Placement.TheVariants.{At}
-use Rattle.state_core.proofs.Facts.{frame_within, not_none, page_named}
+use Rattle.state_core.specs.declared.placement.Placement.TheVariants.{At, Moving}
+use Rattle.state_core.proofs.Facts.{frame_within, not_none, page_named, takes_own}
 use Rattle.state_core.proofs.Holding.{at_takes}
 use Rattle.state_core.proofs.HandingOut.{in_block_from}
 use Rattle.state_core.proofs.Lending.{valid_page_back, valid_page_lent}
@@ -34,7 +34,7 @@ use Rattle.zone_tables.specs.Contents.{contents_at}
 use Rattle.zone_tables.specs.Fits.{LentFit, WordsFit}
 use Rattle.zone_tables.specs.HandedOut.{order_of, is_lent_at}
 use Rattle.zone_tables.specs.History.{History, told_stores}
-use Rattle.zone_tables.specs.LentPages.{pages_lent, rests_lent}
+use Rattle.zone_tables.specs.LentPages.{IsLentNow, has_words_lent, pages_lent}
 use Rattle.zone_tables.specs.Sound.{IsSound, state_of}
 use Rattle.zone_tables.specs.Tabulated.{tabulated}
 use Rattle.zone_tables.specs.declared.note.PageNote.{PageNote}
@@ -46,7 +46,7 @@ use Rattle.zone_tables.proofs.LendingBlocks.{away_then, away_here, away_there, i
 use Rattle.zone_tables.proofs.LentBlocks.{off_blocks}
 use Rattle.zone_tables.proofs.LoadsAndStores.{Resident}
 use Rattle.zone_tables.proofs.Tables.{note_is, note_of}
-use Rattle.zone_tables.proofs.LentPages.{rests_same}
+use Rattle.zone_tables.proofs.LentPages.{lent_same}
 use Rattle.zone_tables.proofs.Tabulating.{gathered_put, gathered_same}
 use Rattle.zone_tables.proofs.WordsAtOnce.{Writing, stored_at_once, stores_hold, words_read}
 
@@ -56,7 +56,7 @@ one_row rows frame within =
     ap (λ (rs : List (List ℕ)). joined (take 1 rs)) (drop-cons rows frame [] within)
     ∙ flat_map-cons (λ (r : List ℕ). r) (get_or rows frame []) [] ∙ append-nil (get_or rows frame []) ∙ sym (unwrap_or-slice_get rows frame [])
 
-one_changed : (old new : List (List ℕ)) (frame : ℕ) (words : List ℕ) → frame < length old → HasBlock old new frame 1 words → new ≡ with_words old frame words
+pub one_changed : (old new : List (List ℕ)) (frame : ℕ) (words : List ℕ) → frame < length old → HasBlock old new frame 1 words → new ≡ with_words old frame words
 one_changed old new frame words within is =
     let inside : frame < length new = omega (arith, within, is.count) in
     let row : get_or new frame [] ≡ words = sym (unwrap_or-slice_get new frame []) ∙ sym (one_row new frame inside) ∙ is.here in
@@ -68,10 +68,39 @@ one_changed old new frame words within is =
     ∙ sym (drop-set_at old frame frame words refl within))
     ∙ take-append-drop frame (with_words old frame words)
 
-beside : (g frame : ℕ) → g ≢ frame → (g < frame) ⊎ (frame + 1 ≤ g)
+pub beside : (g frame : ℕ) → g ≢ frame → (g < frame) ⊎ (frame + 1 ≤ g)
 beside g frame ne = elim (leb_tells (frame + 1) g) [ inl above ↦ inr above.1 | inr below ↦ inl (omega (arith, below.1, ne)) ]
 
-module _ {W : ℕ} (z : Inside W) (v : ZoneState) (sound : IsSound z v) (view : state_of z ≡ v) (page frame : ℕ) (at : map.get v.placement page ≡ Some (At frame)) (given : Words) (rows : given.rows ≡ z.words.rows) (place : (given.at ≡ z.words.at) × (given.given ≡ z.words.given)) (goes : Bool) (now : HasNow z.words.lent given.lent frame 1 goes) where
+-- the frame in which a page rests is lent, or comes back
+pub frame_now : {old new : List Bool} {frame : ℕ} {goes : Bool} → HasNow old new frame 1 goes → IsLentNow old new (At frame) goes
+frame_now {frame = frame} now = record {
+  taken = λ g has. (let same : g ≡ frame = eqb-true g frame has in now.each g (omega (arith, same)) (omega (arith, same)));
+  others = λ g off. now.others g (beside g frame (λ same. both_ways _ off (eq-eqb g frame same)));
+}
+
+-- the two frames of a moving page are lent, or come back, one after the other
+pub frames_now : {old between new : List Bool} {serial source target : ℕ} {goes : Bool} → HasNow old between source 1 goes → HasNow between new target 1 goes → IsLentNow old new (Moving serial source target) goes
+frames_now {source = source} {target = target} first second = record {
+  taken = λ g has. elim (eqb_tells g target) [
+    | inl same ↦ second.each g (omega (arith, same.1)) (omega (arith, same.1))
+    | inr other ↦
+        (let at_source : g ≡ source = eqb-true g source (or_left_of (nat_eq g source) (nat_eq g target) has other.0) in
+        second.others g (beside g target other.1) ∙ first.each g (omega (arith, at_source)) (omega (arith, at_source)))
+  ];
+  others = λ g off.
+      let neither = or_none (nat_eq g source) (nat_eq g target) off in
+      second.others g (beside g target (λ same. both_ways _ neither.1 (eq-eqb g target same)))
+      ∙ first.others g (beside g source (λ same. both_ways _ neither.0 (eq-eqb g source same)));
+} where
+  or_left_of : (a b : Bool) → (a || b) ≡ true → b ≡ false → a ≡ true
+  or_left_of true b e off = refl
+  or_left_of false b e off = absurd (both_ways _ off e)
+
+  or_none : (a b : Bool) → (a || b) ≡ false → (a ≡ false) × (b ≡ false)
+  or_none true b e = cc
+  or_none false b e = (refl, e)
+
+module _ {W : ℕ} (z : Inside W) (v : ZoneState) (sound : IsSound z v) (view : state_of z ≡ v) (page : ℕ) (place : Placement) (at : map.get v.placement page ≡ Some place) (given : Words) (rows : given.rows ≡ z.words.rows) (lies : (given.at ≡ z.words.at) × (given.given ≡ z.words.given)) (goes : Bool) (now : IsLentNow z.words.lent given.lent place goes) where
   -- the fields after that
   abbrev after : Inside W
   after = record z { words = given }
@@ -79,26 +108,24 @@ module _ {W : ℕ} (z : Inside W) (v : ZoneState) (sound : IsSound z v) (view : 
   abbrev next : ZoneState
   next = record v { lent_pages = away_then v.lent_pages page goes }
 
-  -- a frame that isn't the page's is lent if it was
-  other_frame : (g : ℕ) → g ≢ frame → has_frame given.lent g ≡ has_frame z.words.lent g
-  other_frame g ne = now.others g (beside g frame ne)
+  taken : (g : ℕ) → takes_up (Some place) g ≡ true → takes_up (map.get v.placement page) g ≡ true
+  taken g has = ap (λ (o : Option Placement). takes_up o g) at ∙ has
+
+  -- a frame of another page is lent if it was
+  other_frame : (q g : ℕ) → q ≢ page → takes_up (map.get v.placement q) g ≡ true → has_frame given.lent g ≡ has_frame z.words.lent g
+  other_frame q g ne has = now.others g (false_from_ne_true _ (λ mine. ne (sound.valid.pages.apart q page g has (taken g mine))))
 
   block_frame : (first order g : ℕ) → map.get v.handed_out first ≡ Some order → first ≤ g → g < first + 2 ^ order → has_frame given.lent g ≡ has_frame z.words.lent g
-  block_frame first order g held least most = other_frame g (λ same. both_ways _ (off_blocks z v sound page frame at first order held) (in_block_from first order frame (omega (arith, least, same)) (omega (arith, most, same))))
+  block_frame first order g held least most = now.others g (false_from_ne_true _ (λ mine. both_ways _ (off_blocks z v sound page g (taken g mine) first order held) (in_block_from first order g least most)))
 
   lent_fit : LentFit given.lent v.handed_out v.lent v.placement next.lent_pages
   lent_fit = record {
     of_block = λ first order held g least most. block_frame first order g held least most ∙ sound.lent.of_block first order held g least most;
-    of_page = λ q g rests. elim (eqb_tells q page) [
-      | inl same ↦
-          (let two : Some (At g) ≡ Some (At frame) = sym rests ∙ ap (map.get v.placement) same.1 ∙ at in
-          let here : g ≡ frame = cc in
-          ap (has_frame given.lent) here ∙ now.each frame (omega arith) (omega arith) ∙ sym (ap (set.contains next.lent_pages) same.1 ∙ away_here v.lent_pages page goes))
-      | inr other ↦
-          (let apart : g ≢ frame = λ e. other.1 (sound.valid.pages.apart q page frame (at_takes _ frame (rests ∙ ap (λ (f : ℕ). Some (At f)) e)) (at_takes _ frame at)) in
-          other_frame g apart ∙ sound.lent.of_page q g rests ∙ sym (away_there v.lent_pages page goes q other.1))
+    of_page = λ q g has. elim (eqb_tells q page) [
+      | inl same ↦ now.taken g (ap (λ (o : Option Placement). takes_up o g) (sym at ∙ ap (map.get v.placement) (sym same.1)) ∙ has) ∙ sym (ap (set.contains next.lent_pages) same.1 ∙ away_here v.lent_pages page goes)
+      | inr other ↦ other_frame q g other.1 has ∙ sound.lent.of_page q g has ∙ sym (away_there v.lent_pages page goes q other.1)
     ];
-    others = λ g off none. other_frame g (λ e. none page (at ∙ ap (λ (f : ℕ). Some (At f)) (sym e))) ∙ sound.lent.others g off none;
+    others = λ g off none. now.others g (ap (λ (o : Option Placement). takes_up o g) (sym at) ∙ none page) ∙ sound.lent.others g off none;
   }
 
   blocks_same : gathered (is_lent_at given.lent z.handed_out) (length z.handed_out) ≡ gathered (is_lent_at z.words.lent z.handed_out) (length z.handed_out)
@@ -111,26 +138,23 @@ module _ {W : ℕ} (z : Inside W) (v : ZoneState) (sound : IsSound z v) (view : 
   placed : (q : ℕ) → map.get (state_of z).placement q ≡ map.get v.placement q
   placed q = ap (λ (u : ZoneState). map.get u.placement q) view
 
-  past : (lent : List Bool) (q : ℕ) → 512 * z.size.blocks ≤ q → rests_lent lent (map.get (state_of z).placement q) ≡ false
+  past : (lent : List Bool) (q : ℕ) → 512 * z.size.blocks ≤ q → has_words_lent lent (map.get (state_of z).placement q) ≡ false
   past lent q h = by (map.get v.placement q) refl where
-    by : (o : Option Placement) → map.get v.placement q ≡ o → rests_lent lent (map.get (state_of z).placement q) ≡ false
-    by None none = ap (rests_lent lent) (placed q ∙ none)
+    by : (o : Option Placement) → map.get v.placement q ≡ o → has_words_lent lent (map.get (state_of z).placement q) ≡ false
+    by None none = ap (has_words_lent lent) (placed q ∙ none)
     by (Some placement) some = absurd (omega (arith, h, sound.valid.pages.numbered q (not_none _ placement some), ap (λ (u : ZoneState). 512 * u.blocks) view))
 
   pages_put : pages_lent given.lent (state_of z).placement (512 * z.size.blocks) ≡ away_then (state_of z).lent_pages page goes
   pages_put =
-      gathered_put (λ q. rests_lent z.words.lent (map.get (state_of z).placement q)) (λ q. rests_lent given.lent (map.get (state_of z).placement q)) (512 * z.size.blocks) page goes
+      gathered_put (λ q. has_words_lent z.words.lent (map.get (state_of z).placement q)) (λ q. has_words_lent given.lent (map.get (state_of z).placement q)) (512 * z.size.blocks) page goes
       (past z.words.lent) (past given.lent)
-      (ap (rests_lent given.lent) (placed page ∙ at) ∙ now.each frame (omega arith) (omega arith))
-      (λ q ne. ap (rests_lent given.lent) (placed q) ∙ by q ne (map.get v.placement q) refl ∙ sym (ap (rests_lent z.words.lent) (placed q)))
-    where
-      by : (q : ℕ) → q ≢ page → (o : Option Placement) → map.get v.placement q ≡ o → rests_lent given.lent (map.get v.placement q) ≡ rests_lent z.words.lent (map.get v.placement q)
-      by q ne o is = rests_same z.words.lent given.lent (map.get v.placement q) (λ g rests. other_frame g (λ e. ne (sound.valid.pages.apart q page frame (at_takes _ frame (rests ∙ ap (λ (f : ℕ). Some (At f)) e)) (at_takes _ frame at))))
+      (ap (has_words_lent given.lent) (placed page ∙ at) ∙ now.taken (words_frame place) (takes_own place))
+      (λ q ne. ap (has_words_lent given.lent) (placed q) ∙ lent_same z.words.lent given.lent (map.get v.placement q) (λ there is. other_frame q (words_frame there) ne (ap (λ (o : Option Placement). takes_up o (words_frame there)) is ∙ takes_own there)) ∙ sym (ap (has_words_lent z.words.lent) (placed q)))
 
   lent_view : state_of after ≡ next
   lent_view =
       let contents : tabulated (contents_at W given.rows z.cleared z.handed_out) (length z.handed_out) ≡ held_contents z = ap (λ (rs : List (List ℕ)). tabulated (contents_at W rs z.cleared z.handed_out) (length z.handed_out)) rows in
-      let here : state_of after ≡ record (state_of z) { lent_pages = away_then (state_of z).lent_pages page goes } = λ i. record (state_of z) { contents = contents i; lent = blocks_same i; lent_pages = pages_put i; memory = if place.1 i then Some (place.0 i) else None } in
+      let here : state_of after ≡ record (state_of z) { lent_pages = away_then (state_of z).lent_pages page goes } = λ i. record (state_of z) { contents = contents i; lent = blocks_same i; lent_pages = pages_put i; memory = if lies.1 i then Some (lies.0 i) else None } in
       here ∙ ap (λ (s : ZoneState). record s { lent_pages = away_then s.lent_pages page goes }) view
 
   lent_sound : IsValidZone next → IsSound after next
@@ -163,8 +187,8 @@ module _ {W : ℕ} {z : Inside W} {v : ZoneState} (view : state_of z ≡ v) (inv
       let page = page_named v address (At frame) at in
       let some : 0 < pins v.records page.0 = omega (arith, pinned, ap (λ (o : Option ℕ). pins v.records (unwrap_or o 0)) page.1) in
       subst (λ (o : Option ℕ). Becomes (record z { words = given }) (record v { lent_pages = set.insert v.lent_pages (unwrap_or o 0) })) (sym page.1)
-      (page_lent_holds z v sound view page.0 frame page.2 given rows place true now
-      (valid_page_lent v sound.valid page.0 (record { rest = (frame, page.2); pinned = some; lendable = is_given v.memory lies })))
+      (page_lent_holds z v sound view page.0 (At frame) page.2 given rows place true (frame_now now)
+      (valid_page_lent v sound.valid page.0 (record { used = not_none _ (At frame) page.2; pinned = λ other rests. some; lendable = is_given v.memory lies })))
 
   -- the row has the words of the page
   pub row_words : block_words z.words.rows frame 1 ≡ values_at v address 0 v.page_size
@@ -208,7 +232,7 @@ module _ {W : ℕ} (z : Inside W) (v : ZoneState) (client : ℕ) (address : Addr
   back = record v { lent_pages = set.remove v.lent_pages page }
 
   back_holds : Becomes (record z { words = back_words }) back
-  back_holds = page_lent_holds z v is.sound is.view page frame is.at back_words refl (refl, refl) false is.now (valid_page_back v is.sound.valid page)
+  back_holds = page_lent_holds z v is.sound is.view page (At frame) is.at back_words refl (refl, refl) false (frame_now is.now) (valid_page_back v is.sound.valid page)
 
   writing : Writing (record z { words = back_words }) back address page frame 0 note (length words)
   writing = record {
@@ -232,7 +256,7 @@ module _ {W : ℕ} (z : Inside W) (v : ZoneState) (client : ℕ) (address : Addr
 
   -- a page of no words comes back with no store
   pub none_returned_holds : length words ≡ 0 → Becomes (record z { words = given }) (page_returned v client address words)
-  none_returned_holds none = subst (Becomes (record z { words = given })) (stays words none ∙ returned_is) (page_lent_holds z v is.sound is.view page frame is.at given (rows_are ∙ same words none) is.place false is.now (valid_page_back v is.sound.valid page)) where
+  none_returned_holds none = subst (Becomes (record z { words = given })) (stays words none ∙ returned_is) (page_lent_holds z v is.sound is.view page (At frame) is.at given (rows_are ∙ same words none) is.place false (frame_now is.now) (valid_page_back v is.sound.valid page)) where
     stays : (ws : List ℕ) → length ws ≡ 0 → back ≡ stored_all back client address 0 ws
     stays [] e = refl
     stays (w ∷ ws) e = absurd (omega (arith, e))
@@ -260,4 +284,4 @@ returning {z = z} {v = v} view invariant {page = page} its room long place has n
 -- a page is lent whose frame was
 pub was_away : {W : ℕ} {z : Inside W} {v : ZoneState} → state_of z ≡ v → IsSound z (state_of z) → {address : Address} {page frame : ℕ} → Resident z v address frame page → has_frame z.words.lent frame ≡ true → is_page_lent v address ≡ true
 was_away {v = v} view invariant {page = page} {frame = frame} its away =
-    ap (λ (o : Option ℕ). set.contains v.lent_pages (unwrap_or o 0)) its.named ∙ sym ((is_sound view invariant).lent.of_page page frame its.at) ∙ away
+    ap (λ (o : Option ℕ). set.contains v.lent_pages (unwrap_or o 0)) its.named ∙ sym ((is_sound view invariant).lent.of_page page frame (at_takes _ frame its.at)) ∙ away

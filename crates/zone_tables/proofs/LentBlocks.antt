@@ -1,5 +1,5 @@
 -- Which frames of a zone are lent.
-use Rattle.std.proofs.Common.{◌≡◌, ◌≢◌, ℕ, ◌*◌, ◌^◌, ◌<◌, Bool, true, false, length, inl, inr, refl, sym, ap, ◌∙◌, arith}
+use Rattle.std.proofs.Common.{◌≡◌, ℕ, ◌*◌, ◌^◌, ◌<◌, Bool, true, false, length, inl, inr, refl, sym, ap, ◌∙◌, arith}
 use Rattle.std.specs.Prelude.{Option, Some, None, IsSome, is_some, nat_eq, slice_set, ◌&&◌}
 use Rattle.std.specs.FinMap as map
 use Rattle.std.specs.FinSet as set
@@ -9,52 +9,46 @@ use Rattle.std.proofs.lemmas.Bool.Decides.{eqb_tells}
 use Rattle.std.proofs.lemmas.List.{length-set}
 use Rattle.std.proofs.lemmas.Nat.{pow_pos}
 use Rattle.frame_core.proofs.Searches.{some_none, some_one}
-use Rattle.frame_core.specs.Below.{some_below}
 use Rattle.frame_core.specs.FrameSet.{has_frame}
 use Rattle.frame_core.specs.LentWords.{IsHere}
 use Rattle.scan_core.specs.NumberSet.{gathered}
 use Rattle.state_core.specs.HandingOut.{is_run, block_taken, block_given}
 use Rattle.state_core.specs.declared.placement.Placement.{Placement}
-use Rattle.state_core.specs.declared.placement.Placement.TheVariants.{At, Moving}
+use Rattle.state_core.specs.declared.placement.Placement.TheVariants.{Moving}
 use Rattle.state_core.specs.Lending.{LendsNone}
-use Rattle.state_core.specs.Pairs.{stands_in}
-use Rattle.state_core.specs.ZoneState.{ZoneState, covers, frame_count, is_free, is_held, is_handed_out, takes_up, words_frame}
+use Rattle.state_core.specs.ZoneState.{ZoneState, covers, frame_count, is_free, is_handed_out, is_used, takes_up, words_frame}
 use Rattle.state_core.proofs.Claiming.{handed_by}
 use Rattle.state_core.proofs.Entries.{get_insert_same, get_insert_other, get_remove_same, get_remove_other}
-use Rattle.state_core.proofs.Facts.{not_none, takes_own}
+use Rattle.state_core.proofs.Facts.{takes_own}
 use Rattle.state_core.proofs.HandingOut as blocks
 use Rattle.state_core.proofs.HandingOut.{in_block, in_block_from}
-use Rattle.state_core.proofs.Holding.{at_takes, stands_at}
 use Rattle.state_core.proofs.Places.{unheld_frame, untaken}
 use Rattle.zone_tables.specs.declared.zone.ZoneTables.TheInside.{Inside}
 use Rattle.zone_tables.specs.Fits.{LentFit}
 use Rattle.zone_tables.specs.HandedOut.{order_of, is_lent_at}
-use Rattle.zone_tables.specs.LentPages.{rests_lent}
+use Rattle.zone_tables.specs.LentPages.{has_words_lent}
 use Rattle.zone_tables.specs.Sound.{IsSound, state_of}
 use Rattle.zone_tables.proofs.BlockOrders.{order_there}
+use Rattle.zone_tables.proofs.LentPages.{lent_none}
 use Rattle.zone_tables.proofs.Tabulating.{gathered_none, gathered_same}
 
 module _ {W : ℕ} (z : Inside W) (v : ZoneState) (sound : IsSound z v) where
-  -- a frame that isn't held is in no block, so that it isn't lent where no page rests in it
-  unlent : (frame : ℕ) → is_held v frame ≡ false → ((page : ℕ) → map.get v.placement page ≢ Some (At frame)) → has_frame z.words.lent frame ≡ false
-  unlent frame free none = sound.lent.others frame (λ first. false_from_ne_true _ (λ covered. both_ways _ free (or_left (is_handed_out v frame) _ (handed_by v sound.valid first frame covered)))) none
-
+  -- a free frame isn't lent: it is in no block, and no page takes it up
   pub free_unlent : (frame : ℕ) → is_free v frame ≡ true → has_frame z.words.lent frame ≡ false
-  free_unlent frame free = unlent frame (unheld_frame v frame free) (λ page at. both_ways _ (untaken v sound.valid frame free page) (at_takes _ frame at))
+  free_unlent frame free = sound.lent.others frame
+      (λ first. false_from_ne_true _ (λ covered. both_ways _ (unheld_frame v frame free) (or_left (is_handed_out v frame) _ (handed_by v sound.valid first frame covered))))
+      (λ page. untaken v sound.valid frame free page)
 
-  -- neither frame of a moving page is lent
-  moving_unlent : (page serial source target frame : ℕ) → map.get v.placement page ≡ Some (Moving serial source target) → takes_up (Some (Moving serial source target)) frame ≡ true → has_frame z.words.lent frame ≡ false
-  moving_unlent page serial source target frame at taken =
-      let takes : takes_up (map.get v.placement page) frame ≡ true = ap (λ (o : Option Placement). takes_up o frame) at ∙ taken in
-      unlent frame (sound.valid.pages.clear page frame takes) (λ q rests.
-      (let same : q ≡ page = sound.valid.pages.apart q page frame (at_takes _ frame rests) takes in
-      let two : Some (Moving serial source target) ≡ Some (At frame) = sym at ∙ ap (map.get v.placement) (sym same) ∙ rests in
-      absurd (cc)))
+  -- nor is a frame that a page takes up whose words aren't lent
+  pub taken_unlent : (page : ℕ) (placement : Placement) (frame : ℕ) → map.get v.placement page ≡ Some placement → takes_up (Some placement) frame ≡ true → set.contains v.lent_pages page ≡ false → has_frame z.words.lent frame ≡ false
+  taken_unlent page placement frame at has back = sound.lent.of_page page frame (ap (λ (o : Option Placement). takes_up o frame) at ∙ has) ∙ back
 
-  -- nor is the frame that has the words of a page, where they aren't lent
-  words_unlent : (page : ℕ) (placement : Placement) → map.get v.placement page ≡ Some placement → set.contains v.lent_pages page ≡ false → has_frame z.words.lent (words_frame placement) ≡ false
-  words_unlent page (At frame) at back = sound.lent.of_page page frame at ∙ back
-  words_unlent page (Moving serial source target) at back = moving_unlent page serial source target source at (takes_own (Moving serial source target))
+  -- no page takes up a frame that isn't used
+  unused : (frame : ℕ) → is_used v frame ≡ false → (page : ℕ) → takes_up (map.get v.placement page) frame ≡ false
+  unused frame empty page = false_from_ne_true _ (λ has. both_ways _ (some_none (λ q. takes_up (map.get v.placement q) frame) (frame_count v) empty page (sound.valid.pages.numbered page (in_use _ has))) has) where
+    in_use : (o : Option Placement) → takes_up o frame ≡ true → IsSome o
+    in_use None has = cc
+    in_use (Some placement) has = refl
 
   one_here : (frame : ℕ) → has_frame z.words.lent frame ≡ false → IsHere z.words frame 1
   one_here frame back f least most = let same : f ≡ frame = omega (arith, least, most) in ap (has_frame z.words.lent) same ∙ back
@@ -62,24 +56,18 @@ module _ {W : ℕ} (z : Inside W) (v : ZoneState) (sound : IsSound z v) where
   pub free_here : (frame : ℕ) → is_free v frame ≡ true → IsHere z.words frame 1
   free_here frame free = one_here frame (free_unlent frame free)
 
-  pub source_unlent : (page serial source target : ℕ) → map.get v.placement page ≡ Some (Moving serial source target) → has_frame z.words.lent source ≡ false
-  source_unlent page serial source target at = moving_unlent page serial source target source at (takes_own (Moving serial source target))
-
-  pub target_unlent : (page serial source target : ℕ) → map.get v.placement page ≡ Some (Moving serial source target) → has_frame z.words.lent target ≡ false
-  target_unlent page serial source target at = moving_unlent page serial source target target at (or_right (nat_eq target source) _ (eq-eqb target target refl))
-
-  pub source_here : (page serial source target : ℕ) → map.get v.placement page ≡ Some (Moving serial source target) → IsHere z.words source 1
-  source_here page serial source target at = one_here source (source_unlent page serial source target at)
-
-  pub target_here : (page serial source target : ℕ) → map.get v.placement page ≡ Some (Moving serial source target) → IsHere z.words target 1
-  target_here page serial source target at = one_here target (target_unlent page serial source target at)
-
   pub words_here : (page : ℕ) (placement : Placement) → map.get v.placement page ≡ Some placement → set.contains v.lent_pages page ≡ false → IsHere z.words (words_frame placement) 1
-  words_here page placement at back = one_here (words_frame placement) (words_unlent page placement at back)
+  words_here page placement at back = one_here (words_frame placement) (taken_unlent page placement (words_frame placement) at (takes_own placement) back)
 
-  -- a frame in which a page rests is in no block
-  pub off_blocks : (page frame : ℕ) → map.get v.placement page ≡ Some (At frame) → (first order : ℕ) → map.get v.handed_out first ≡ Some order → in_block first order frame ≡ false
-  off_blocks page frame at first order held = false_from_ne_true _ (λ here. both_ways _ (sound.valid.pages.clear page frame (at_takes _ frame at)) (blocks.held_of v sound.valid first order frame held here))
+  pub source_here : (page serial source target : ℕ) → map.get v.placement page ≡ Some (Moving serial source target) → set.contains v.lent_pages page ≡ false → IsHere z.words source 1
+  source_here page serial source target = words_here page (Moving serial source target)
+
+  pub target_here : (page serial source target : ℕ) → map.get v.placement page ≡ Some (Moving serial source target) → set.contains v.lent_pages page ≡ false → IsHere z.words target 1
+  target_here page serial source target at back = one_here target (taken_unlent page (Moving serial source target) target at (or_right (nat_eq target source) _ (eq-eqb target target refl)) back)
+
+  -- a frame that a page takes up is in no block
+  pub off_blocks : (page frame : ℕ) → takes_up (map.get v.placement page) frame ≡ true → (first order : ℕ) → map.get v.handed_out first ≡ Some order → in_block first order frame ≡ false
+  off_blocks page frame has first order held = false_from_ne_true _ (λ here. both_ways _ (sound.valid.pages.clear page frame has) (blocks.held_of v sound.valid first order frame held here))
 
   -- the first frame of a block tells whether it is lent
   pub first_tells : (first : ℕ) → IsSome (map.get v.handed_out first) → has_frame z.words.lent first ≡ set.contains v.lent first
@@ -95,13 +83,12 @@ module _ {W : ℕ} (z : Inside W) (v : ZoneState) (sound : IsSound z v) where
   pub none_lent : LendsNone v → (frame : ℕ) → has_frame z.words.lent frame ≡ false
   none_lent none frame = elim (cases_Bool (is_handed_out v frame)) [
     | inl held ↦ (let at = some_one (λ first. covers (map.get v.handed_out first) first frame) (frame_count v) held in by at.0 (map.get v.handed_out at.0) refl at.2)
-    | inr free ↦ elim (cases_Bool (some_below (λ page. stands_in (map.get v.placement page) frame) (frame_count v))) [
-      | inl rests ↦
-          (let page = some_one (λ page. stands_in (map.get v.placement page) frame) (frame_count v) rests in
-          sound.lent.of_page page.0 frame (stands_at _ frame page.2) ∙ ap (λ (lent : set.FinSet nat_cmp). set.contains lent page.0) none.1 ∙ set.contains-empty nat_cmp page.0)
+    | inr free ↦ elim (cases_Bool (is_used v frame)) [
+      | inl used ↦
+          (let page = some_one (λ page. takes_up (map.get v.placement page) frame) (frame_count v) used in
+          sound.lent.of_page page.0 frame page.2 ∙ ap (λ (lent : set.FinSet nat_cmp). set.contains lent page.0) none.1 ∙ set.contains-empty nat_cmp page.0)
       | inr empty ↦ sound.lent.others frame (λ first. false_from_ne_true _ (λ covered. both_ways _ free (handed_by v sound.valid first frame covered)))
-          (λ page at. both_ways _ (some_none (λ q. stands_in (map.get v.placement q) frame) (frame_count v) empty page (sound.valid.pages.numbered page (not_none _ _ at)))
-          (ap (λ (o : Option Placement). stands_in o frame) at ∙ eq-eqb frame frame refl))
+          (unused frame empty)
     ]
   ] where
     by : (first : ℕ) (o : Option ℕ) → map.get v.handed_out first ≡ o → covers (map.get v.handed_out first) first frame ≡ true → has_frame z.words.lent frame ≡ false
@@ -114,17 +101,12 @@ module _ {W : ℕ} (z : Inside W) (v : ZoneState) (sound : IsSound z v) where
 pub lends_none : {W : ℕ} (z : Inside W) (v : ZoneState) → state_of z ≡ v → ((frame : ℕ) → has_frame z.words.lent frame ≡ false) → LendsNone v
 lends_none z v view none = (
   ap (λ (u : ZoneState). u.lent) (sym view) ∙ gathered_none (is_lent_at z.words.lent z.handed_out) (length z.handed_out) (λ q. both (is_some (order_of z.handed_out q)) (none q)),
-  ap (λ (u : ZoneState). u.lent_pages) (sym view) ∙ gathered_none (λ page. rests_lent z.words.lent (map.get (state_of z).placement page)) (512 * z.size.blocks) (λ page. rests (map.get (state_of z).placement page)),
+  ap (λ (u : ZoneState). u.lent_pages) (sym view) ∙ gathered_none (λ page. has_words_lent z.words.lent (map.get (state_of z).placement page)) (512 * z.size.blocks) (λ page. lent_none z.words.lent (map.get (state_of z).placement page) (λ place is. none (words_frame place))),
 )
   where
     both : (b : Bool) {c : Bool} → c ≡ false → (b && c) ≡ false
     both true is = is
     both false is = refl
-
-    rests : (o : Option Placement) → rests_lent z.words.lent o ≡ false
-    rests None = refl
-    rests (Some (At frame)) = none frame
-    rests (Some (Moving serial source target)) = refl
 
 -- a free block is handed out: none of it is lent
 module _ {W : ℕ} (z : Inside W) (v : ZoneState) (sound : IsSound z v) (view : state_of z ≡ v) (first order : ℕ) (run : is_run v order first ≡ true) where

@@ -11,6 +11,7 @@ pub mod HeldWords
 pub mod InUse
 pub mod Isolation
 pub mod LendingBlocks
+pub mod LendingMoves
 pub mod LendingPages
 pub mod LentBlocks
 pub mod LentPages

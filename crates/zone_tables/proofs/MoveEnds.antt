@@ -76,6 +76,15 @@ moved_words rows words serial source target within same sized = record {
   sized = λ g has. ap (λ (f : ℕ). length (words_of (with_words rows target words) f)) (eqb-true g target has) ∙ ap length (words_set_same rows target words within) ∙ sized;
 }
 
+-- the target has the words of the source already
+pub arrived_words : {size : ℕ} → (rows : List (List ℕ)) (serial source target : ℕ) → target < length rows → source ≢ target → length (words_of rows source) ≡ size → WordsSettled size (with_words rows target (words_of rows source)) (with_words rows target (words_of rows source)) (Moving serial source target) (At target)
+arrived_words rows serial source target within apart sized = record {
+  count = refl;
+  carried = words_set_same rows target (words_of rows source) within ∙ sym (words_set_other rows target source (words_of rows source) apart);
+  kept = λ g gone. refl;
+  sized = λ g has. ap (λ (f : ℕ). length (words_of (with_words rows target (words_of rows source)) f)) (eqb-true g target has) ∙ ap length (words_set_same rows target (words_of rows source) within) ∙ sized;
+}
+
 pub back_words : (rows : List (List ℕ)) (v : ZoneState) → WordsFit rows v → (serial source target : ℕ) → source < frame_count v → WordsSettled v.page_size rows rows (Moving serial source target) (At source)
 back_words rows v fit serial source target within = record {
   count = refl;

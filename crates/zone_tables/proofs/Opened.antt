@@ -10,7 +10,7 @@ use Rattle.std.proofs.lemmas.Bool.{both_ways}
 use Rattle.std.proofs.lemmas.List.{get_or_default, length-replicate}
 use Rattle.std.proofs.lemmas.Option.{unwrap_or-slice_get}
 use Rattle.frame_core.proofs.Searches.{count_none}
-use Rattle.state_core.specs.ZoneState.{ZoneState, is_in_block}
+use Rattle.state_core.specs.ZoneState.{ZoneState, is_in_block, takes_up, words_frame}
 use Rattle.frame_core.proofs.Lists.{slice_get_replicate}
 use Rattle.frame_core.specs.declared.state.FrameState.TheVariants.{Free}
 use Rattle.table_core.specs.Tables.{IsBlank}
@@ -40,7 +40,7 @@ use Rattle.zone_tables.specs.Tabulated.{tabulated}
 use Rattle.zone_tables.proofs.Tabulating.{tabulated_none, gathered_none}
 use Rattle.state_core.proofs.Opened.{unheld, opened_valid, opened_in_valid}
 use Rattle.zone_tables.specs.LentPages.{pages_lent}
-use Rattle.zone_tables.proofs.LentPages.{rests_here}
+use Rattle.zone_tables.proofs.LentPages.{lent_none}
 use Rattle.state_core.proofs.Placed.{clash}
 
 -- the fields of a zone that was just opened
@@ -87,7 +87,7 @@ opened_view {W} z number size places fresh =
     let p : tabulated (placement_of z.notes) (length z.notes) ≡ map.empty =
     tabulated_none (placement_of z.notes) (length z.notes) (λ page. ap (λ (ns : List PageNote). placement_of ns page) fresh.notes ∙ no_placement (512 * size.blocks) page) in
     let l_pages : pages_lent z.words.lent (tabulated (placement_of z.notes) (length z.notes)) (512 * z.size.blocks) ≡ set.empty =
-    gathered_none _ (512 * z.size.blocks) (λ page. rests_here z.words.lent _ (λ frame at. fresh.here frame)) in
+    gathered_none _ (512 * z.size.blocks) (λ page. lent_none z.words.lent _ (λ place is. fresh.here (words_frame place))) in
     λ i. record {
       number = fresh.number_is i;
       blocks = (fresh.size_is i).blocks;
@@ -152,7 +152,7 @@ opened_sound {W} z number size places fresh = record {
     sized = λ frame h. ap length (unwrap_or-slice_get z.words.rows frame []) ∙ fresh.sized frame [] (omega (arith, h, fresh.count));
     each = λ page placement word e h. (let bad : None ≡ Some placement = sym (map.get-empty nat_cmp page) ∙ e in cc);
   };
-  lent = record { of_block = λ first order e. (let bad : None ≡ Some order = sym (map.get-empty nat_cmp first) ∙ e in cc); of_page = λ page frame at. (let bad : None ≡ Some (At frame) = sym (map.get-empty nat_cmp page) ∙ at in cc); others = λ frame off none. fresh.here frame };
+  lent = record { of_block = λ first order e. (let bad : None ≡ Some order = sym (map.get-empty nat_cmp first) ∙ e in cc); of_page = λ page frame has. (let bad : false ≡ true = sym (ap (λ (o : Option Placement). takes_up o frame) (map.get-empty nat_cmp page)) ∙ has in cc); others = λ frame off none. fresh.here frame };
   notes = record {
     count = ap length fresh.notes ∙ length-replicate (512 * size.blocks) unused_note;
     each = λ page note e used. absurd (clash note.placement (sym (ap (option_and_then (λ (n : PageNote). n.placement)) e) ∙ ap (λ (ns : List PageNote). placement_of ns page) fresh.notes ∙ no_placement (512 * size.blocks) page) used);

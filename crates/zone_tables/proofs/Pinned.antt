@@ -11,6 +11,7 @@ use Rattle.frame_core.specs.History.{page_at, maps, pins}
 use Rattle.frame_core.specs.Moves.{out}
 use Rattle.scan_core.specs.Frames.{Frames}
 use Rattle.state_core.specs.declared.placement.Placement.{Placement}
+use Rattle.state_core.specs.declared.placement.Placement.TheVariants.{At}
 use Rattle.state_core.specs.Valid.{IsValidZone}
 use Rattle.state_core.specs.ZoneState.{ZoneState, noted}
 use Rattle.state_core.proofs.Pinning.{pins_one_more, pins_one_less, pinned_others, unpinned_others, valid_pinned, valid_unpinned}
@@ -72,7 +73,7 @@ module _ {W : ℕ} (z : Inside W) (v : ZoneState) (sound : IsSound z v) (view : 
         (omega (arith, (note_seen view sound used note_is).fits.pins, pins_one_more v client address page named))
         (frames_are ∙ ap (λ can. record z.frames { movable = movable_at z.frames.movable note.placement can }) (sym (pinned_stays note)))
 
-    pub unpinning : (set.contains v.lent_pages page ≡ true → 1 < pins v.records page) → frames ≡ record z.frames { movable = movable_at z.frames.movable note.placement (can_move_by (record note { pins = note.pins - 1 })) } → history ≡ told z.history (Unpin client address) → Noting z v page (Unpin client address) note (record note { pins = note.pins - 1 }) frames z.tables history
+    pub unpinning : ((frame : ℕ) → map.get v.placement page ≡ Some (At frame) → set.contains v.lent_pages page ≡ true → 1 < pins v.records page) → frames ≡ record z.frames { movable = movable_at z.frames.movable note.placement (can_move_by (record note { pins = note.pins - 1 })) } → history ≡ told z.history (Unpin client address) → Noting z v page (Unpin client address) note (record note { pins = note.pins - 1 }) frames z.tables history
     unpinning keeps = noting_pins (Unpin client address) (note.pins - 1) frames history (valid_unpinned v client address page named sound.valid spare keeps)
         (record { last = λ q w. refl; dirty = λ q. refl; pins = unpinned_others v client address page named; maps = λ q ne. refl }) refl
         (record { isolated = sound.moves.isolated; moved = sound.moves.moved; back = sound.moves.back }) (record { each = sound.entries.each })

@@ -3,7 +3,7 @@ use Rattle.std.proofs.Common.{◌≡◌, ◌≢◌, ℕ, ◌*◌, ◌<◌, Bool,
 use Rattle.std.specs.Prelude.{Option, Some, None, IsSome, is_some, slice_get, slice_set, nat_eq, ◌&&◌, ◌||◌, if◌then◌else◌}
 use Rattle.std.specs.FinMap as map
 use Rattle.std.specs.FinSet as set
-use Rattle.std.proofs.lemmas.Bool.{both_ways, eq-eqb, false_from_ne_true, cases_Bool}
+use Rattle.std.proofs.lemmas.Bool.{eq-eqb, false_from_ne_true, cases_Bool}
 use Rattle.std.proofs.lemmas.Bool.Decides.{eqb_tells}
 use Rattle.std.proofs.lemmas.List.{length-set}
 use Rattle.frame_core.proofs.Lists.{slice_get_set_same, slice_get_set_other}
@@ -15,12 +15,11 @@ use Rattle.frame_core.specs.declared.state.FrameState.TheVariants.{Free, Holds, 
 use Rattle.frame_core.specs.History.{last, dirty, pins, maps}
 use Rattle.frame_core.specs.Words.{words_of}
 use Rattle.state_core.proofs.Facts.{takes_own}
-use Rattle.state_core.proofs.Holding.{stands_at}
 use Rattle.state_core.proofs.Placed.{untrue}
 use Rattle.state_core.specs.declared.placement.Placement.{Placement}
 use Rattle.state_core.specs.declared.placement.Placement.TheVariants.{At, Moving}
 use Rattle.state_core.specs.Valid.{IsValidZone}
-use Rattle.state_core.specs.Pairs.{can_move, stands_in}
+use Rattle.state_core.specs.Pairs.{can_move}
 use Rattle.state_core.specs.ZoneState.{ZoneState, words_frame, frame_count, takes_up, covers, is_held, is_free}
 use Rattle.zone_tables.specs.declared.note.PageNote.{PageNote}
 use Rattle.zone_tables.specs.Notes.{movable_at}
@@ -147,19 +146,19 @@ module _ (v w : ZoneState) (page : ℕ) (old new : Option Placement) (gets : Get
     ];
   }
 
-  -- a page whose words aren't lent leaves its frame, and the one that it comes to isn't lent
-  pub lent_fit : (lent : List Bool) → LentFit lent v.handed_out v.lent v.placement v.lent_pages → set.contains v.lent_pages page ≡ false → ((frame : ℕ) → new ≡ Some (At frame) → has_frame lent frame ≡ false) → LentFit lent v.handed_out v.lent w.placement v.lent_pages
+  -- a page whose words aren't lent leaves its frames, and those that it comes to aren't lent
+  pub lent_fit : (lent : List Bool) → LentFit lent v.handed_out v.lent v.placement v.lent_pages → set.contains v.lent_pages page ≡ false → ((frame : ℕ) → takes_up new frame ≡ true → has_frame lent frame ≡ false) → LentFit lent v.handed_out v.lent w.placement v.lent_pages
   lent_fit lent fit back vacant = record {
     of_block = fit.of_block;
-    of_page = λ q g at. elim (eqb_tells q page) [
-      | inl same ↦ vacant g (sym gets.now ∙ ap (map.get w.placement) (sym same.1) ∙ at) ∙ sym (ap (set.contains v.lent_pages) same.1 ∙ back)
-      | inr other ↦ fit.of_page q g (sym (gets.others q other.1) ∙ at)
+    of_page = λ q g has. elim (eqb_tells q page) [
+      | inl same ↦ vacant g (ap (λ (o : Option Placement). takes_up o g) (sym gets.now ∙ ap (map.get w.placement) (sym same.1)) ∙ has) ∙ sym (ap (set.contains v.lent_pages) same.1 ∙ back)
+      | inr other ↦ fit.of_page q g (ap (λ (o : Option Placement). takes_up o g) (sym (gets.others q other.1)) ∙ has)
     ];
-    others = λ g off none. elim (cases_Bool (stands_in (map.get v.placement page) g)) [
-      | inl was ↦ fit.of_page page g (stands_at _ g was) ∙ back
-      | inr gone ↦ fit.others g off (λ q at. elim (eqb_tells q page) [
-        | inl same ↦ both_ways _ gone (ap (λ (o : Option Placement). stands_in o g) (ap (map.get v.placement) (sym same.1) ∙ at) ∙ eq-eqb g g refl)
-        | inr other ↦ none q (gets.others q other.1 ∙ at)
+    others = λ g off none. elim (cases_Bool (takes_up (map.get v.placement page) g)) [
+      | inl was ↦ fit.of_page page g was ∙ back
+      | inr gone ↦ fit.others g off (λ q. elim (eqb_tells q page) [
+        | inl same ↦ ap (λ (p : ℕ). takes_up (map.get v.placement p) g) same.1 ∙ gone
+        | inr other ↦ ap (λ (o : Option Placement). takes_up o g) (sym (gets.others q other.1)) ∙ none q
       ])
     ];
   }

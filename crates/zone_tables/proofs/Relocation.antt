@@ -41,8 +41,9 @@ use Rattle.zone_tables.proofs.NotedPages.{unmovable_kept, placements_put}
 use Rattle.zone_tables.proofs.UnmovablePages.{unmovable_moved}
 use Rattle.zone_tables.proofs.Placement.{lent_fit, GetsPlace, LeavesOthers, FramesPlaced, MovablePlaced, WordsPlaced, frames_fit, movable_fit, words_fit, notes_fit}
 use Rattle.frame_core.specs.FrameSet.{has_frame}
-use Rattle.zone_tables.specs.LentPages.{pages_lent}
-use Rattle.zone_tables.proofs.LentPages.{pages_put, rests_here}
+use Rattle.zone_tables.specs.LentPages.{has_words_lent, pages_lent}
+use Rattle.zone_tables.proofs.LentBlocks.{free_unlent}
+use Rattle.zone_tables.proofs.LentPages.{pages_put}
 use Rattle.state_core.proofs.Settled.{CanSettle, IsRecorded, IsStill, at_page, at_other, not_old, valid_settled}
 
 -- how the states of frames change with the place of a page in use, and what is noted of whether it may be taken
@@ -136,8 +137,6 @@ pub record Settling {W : ℕ} (z changed : Inside W) (v : ZoneState) (page : ℕ
   pub size_same : changed.tables.entries.size ≡ z.tables.entries.size
   pub rest_same : record changed { frames = z.frames; tables = z.tables; words = z.words; notes = z.notes; moves = z.moves; fingers = z.fingers; history = z.history } ≡ z
   pub lent_same : changed.words.lent ≡ z.words.lent
-  -- the frame that the page rests in isn't lent
-  pub vacant : (frame : ℕ) → Some new ≡ Some (At frame) → has_frame z.words.lent frame ≡ false
   pub memory_same : memory_of changed.words ≡ memory_of z.words
   pub contents_same : held_contents changed ≡ held_contents z
 
@@ -192,6 +191,13 @@ module _ {W : ℕ} {z changed : Inside W} {v : ZoneState} {page : ℕ} {old new 
       let still = known.recorded.still in
       record { dirty = was.dirty ∙ sym (still.dirty page); pins = was.pins ∙ sym (still.pins page); maps = was.maps ∙ sym (still.maps page) }
 
+  -- no frame of the page is lent, before and after
+  had : (frame : ℕ) → takes_up (Some old) frame ≡ true → has_frame z.words.lent frame ≡ false
+  had frame has = known.sound.lent.of_page page frame (ap (λ (o : Option Placement). takes_up o frame) known.can.at ∙ has) ∙ known.recorded.here
+
+  vacant : (frame : ℕ) → takes_up (Some new) frame ≡ true → has_frame z.words.lent frame ≡ false
+  vacant frame has = elim (known.can.takes frame has) [ inl was ↦ had frame was | inr free ↦ free_unlent z v known.sound frame free.0 ]
+
   pub settle_sound : IsSound changed after
   settle_sound =
       let sound = known.sound in
@@ -210,7 +216,7 @@ module _ {W : ℕ} {z changed : Inside W} {v : ZoneState} {page : ℕ} {old new 
             (unmovable_moved v after page z.frames.unmovable sound.unmovable refl (λ q ne. refl) (at_other v page old new known.can entry) known.fixed known.fixed);
         entries = record { each = entries.each };
         words = words_fit v after page (Some old) (Some new) gets z.words.rows changed.words.rows sound.words words_changed leaves;
-        lent = subst (λ (l : List Bool). LentFit l v.handed_out v.lent after.placement v.lent_pages) (sym known.lent_same) (lent_fit v after page (Some old) (Some new) gets z.words.lent sound.lent known.can.here known.vacant);
+        lent = subst (λ (l : List Bool). LentFit l v.handed_out v.lent after.placement v.lent_pages) (sym known.lent_same) (lent_fit v after page (Some old) (Some new) gets z.words.lent sound.lent known.recorded.here vacant);
         notes = subst (λ (ns : List PageNote). NotesFit ns after) (sym known.notes)
             (notes_fit v after page (Some old) (Some new) gets z.notes settled_note (slice_get_within z.notes page note known.note_is) sound.notes (λ used. note_fits) leaves);
         moves = known.moves;
@@ -228,13 +234,12 @@ module _ {W : ℕ} {z changed : Inside W} {v : ZoneState} {page : ℕ} {old new 
       ∙ unmovable_kept z.notes page settled_note note_within (sym (ap says_unmovable known.note_is ∙ ap (λ (o : Option Placement). is_some o && note.unmovable) note_placed))
 
   -- the same pages are lent: this one isn't, before and after
-  rested : (frame : ℕ) → map.get (state_of z).placement page ≡ Some (At frame) → has_frame z.words.lent frame ≡ false
-  rested frame at = known.sound.lent.of_page page frame (sym (ap (λ (u : ZoneState). map.get u.placement page) known.view) ∙ at) ∙ known.can.here
-
   pages_new : (state_of changed).lent_pages ≡ (state_of z).lent_pages
   pages_new =
       (λ i. pages_lent (known.lent_same i) (placement_new i) (512 * (known.rest_same i).size.blocks))
-      ∙ pages_put z.words.lent (state_of z).placement (512 * z.size.blocks) page (Some new) (rests_here z.words.lent _ rested) (rests_here z.words.lent (Some new) known.vacant)
+      ∙ pages_put z.words.lent (state_of z).placement (512 * z.size.blocks) page (Some new)
+      (ap (has_words_lent z.words.lent) (ap (λ (u : ZoneState). map.get u.placement page) known.view ∙ known.can.at) ∙ had (words_frame old) (takes_own old))
+      (vacant (words_frame new) (takes_own new))
 
   pub settle_view : state_of changed ≡ after
   settle_view =

@@ -3,7 +3,7 @@ use Rattle.std.proofs.Common.{get_or, ◌≡◌, ℕ, zero, suc, ◌+◌, ◌<�
 use Rattle.std.specs.Prelude.{Option, Some, None, IfSome, IsSome, IsTrue, is_some, slice_get, slice_set, nat_eq, map as each, ◌&&◌, if◌then◌else◌}
 use Rattle.std.specs.FinMap as map
 use Rattle.std.specs.FinSet as set
-use Rattle.std.proofs.lemmas.Bool.{eq-eqb, eqb-true, and_parts}
+use Rattle.std.proofs.lemmas.Bool.{eq-eqb, eqb-true, and_parts, not-true}
 use Rattle.std.proofs.lemmas.Bool.Decides.{eqb_tells}
 use Rattle.std.proofs.lemmas.Option.{cond_some, same_Some, slice_get-get_or, slice_get_within}
 use Rattle.frame_core.proofs.Lists.{slice_get_set_same}
@@ -285,21 +285,26 @@ under_is (Some (At frame)) serial e = cc
 under_is (Some (Moving s source target)) serial e =
     (source, target, ap (λ (n : ℕ). Some (Moving n source target)) (eqb-true s serial e))
 
-pub own_when : (zone number serial : ℕ) (o : Option Placement) (under source target : ℕ) → zone ≡ number →
-    o ≡ Some (Moving under source target) → under ≡ serial → (nat_eq zone number && is_under o serial) ≡ true
-own_when zone number serial o under source target here at same =
-    (λ i. eq-eqb zone number here i && is_under (at i) serial) ∙ eq-eqb under serial same
+pub own_when : (zone number serial : ℕ) (o : Option Placement) (under source target : ℕ) (lent : Bool) → zone ≡ number →
+    o ≡ Some (Moving under source target) → under ≡ serial → lent ≡ false → IsTrue (nat_eq zone number && is_under o serial && not lent)
+own_when zone number serial o under source target lent here at same back =
+    (λ i. eq-eqb zone number here i && is_under (at i) serial && not (back i)) ∙ ap (λ b. b && true) (eq-eqb under serial same)
 
-pub not_own : (zone number serial : ℕ) (o : Option Placement) (some : Bool) → some ≡ false →
-    ((source target : ℕ) → o ≡ Some (Moving serial source target) → ⊥) →
-    (some ≡ true → IsTrue (nat_eq zone number && is_under o serial)) × (IsTrue (nat_eq zone number && is_under o serial) →
+pub not_own : (zone number serial : ℕ) (o : Option Placement) (lent some : Bool) → some ≡ false →
+    ((source target : ℕ) → o ≡ Some (Moving serial source target) → lent ≡ false → ⊥) →
+    (some ≡ true → IsTrue (nat_eq zone number && is_under o serial && not lent)) × (IsTrue (nat_eq zone number && is_under o serial && not lent) →
     some ≡ true)
-not_own zone number serial o some e none = (
+not_own zone number serial o lent some e none = (
   λ is. absurd (untrue some e is),
-  λ own. (let way = under_is o serial ((and_parts (nat_eq zone number) (is_under o serial) own).1) in
-      absurd (none way.0 way.1 way.2)),
+  λ own. (let parts = and_parts (nat_eq zone number && is_under o serial) (not lent) own in
+      let way = under_is o serial (and_parts (nat_eq zone number) (is_under o serial) parts.0).1 in
+      absurd (none way.0 way.1 way.2 (not-true lent parts.1))),
 )
 
 pub other_serial : (o : Option Placement) (under serial source target : ℕ) → o ≡ Some (Moving under source target) →
     (under ≡ serial → ⊥) → (s t : ℕ) → o ≡ Some (Moving serial s t) → ⊥
 other_serial o under serial source target at ne s t e = let same : under ≡ serial = cc in ne same
+
+-- the note of a page tells where it is
+pub noted_at : {W : ℕ} (z : Inside W) {v : ZoneState} → state_of z ≡ v → {number page : ℕ} → number ≡ page → {o : Option Placement} → o ≡ placement_of z.notes number → map.get v.placement page ≡ o
+noted_at z {v} view {page = page} is at = sym (at ∙ ap (placement_of z.notes) is ∙ placement_seen z v view page)

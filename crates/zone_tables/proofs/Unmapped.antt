@@ -20,6 +20,7 @@ use Rattle.state_core.specs.Unmapping.{without_page}
 use Rattle.state_core.specs.ZoneState.{ZoneState, noted, placement_at}
 use Rattle.state_core.proofs.Entries.{get_remove_same, get_remove_other, contains_remove_other, contains_remove_same}
 use Rattle.state_core.proofs.Facts.{unpinned_here, not_none, frame_within}
+use Rattle.state_core.proofs.Holding.{at_takes}
 use Rattle.state_core.proofs.Placed.{untrue}
 use Rattle.state_core.proofs.Unmapping.{CanUnmap, named_here, named_there, maps_one_less, maps_others, none_left, valid_still, valid_gone}
 use Rattle.zone_tables.specs.declared.note.PageNote.{PageNote}
@@ -34,9 +35,8 @@ use Rattle.zone_tables.proofs.UnmovablePages.{unmovable_gone}
 use Rattle.zone_tables.proofs.Placement.{lent_fit, GetsPlace, LeavesOthers, frames_fit, movable_fit, words_fit, notes_fit}
 use Rattle.zone_tables.proofs.Tables.{note_seen}
 use Rattle.zone_tables.proofs.NotedPages.{placements_put, unmovable_put}
-use Rattle.frame_core.specs.FrameSet.{has_frame}
-use Rattle.zone_tables.specs.LentPages.{pages_lent}
-use Rattle.zone_tables.proofs.LentPages.{pages_put, rests_here}
+use Rattle.zone_tables.specs.LentPages.{has_words_lent, pages_lent}
+use Rattle.zone_tables.proofs.LentPages.{pages_put}
 use Rattle.zone_tables.specs.Tabulated.{tabulated}
 use Rattle.zone_tables.proofs.Facts.{Becomes, becomes}
 
@@ -124,10 +124,10 @@ module _ {W : ℕ} (z : Inside W) (v : ZoneState) (client : ℕ) (address : Addr
 
     -- the words of the page aren't lent, so that its frame isn't
     back : set.contains v.lent_pages page ≡ false
-    back = unpinned_here v can.valid page (can.unpinned one)
+    back = unpinned_here v can.valid page frame can.at (can.unpinned one)
 
-    rested : (g : ℕ) → map.get (state_of z).placement page ≡ Some (At g) → has_frame z.words.lent g ≡ false
-    rested g at = known.sound.lent.of_page page g (sym (ap (λ (u : ZoneState). map.get u.placement page) known.view) ∙ at) ∙ back
+    rested : has_words_lent z.words.lent (map.get (state_of z).placement page) ≡ false
+    rested = ap (has_words_lent z.words.lent) (ap (λ (u : ZoneState). map.get u.placement page) known.view ∙ can.at) ∙ known.sound.lent.of_page page frame (at_takes _ frame can.at) ∙ back
 
     pub last_sound : IsSound (after_last z unmovable page frame tables history) gone
     last_sound =
@@ -138,7 +138,7 @@ module _ {W : ℕ} (z : Inside W) (v : ZoneState) (client : ℕ) (address : Addr
           valid = gets.after;
           orders = sound.orders;
           cleared = sound.cleared;
-          lent = lent_fit v gone page (Some (At frame)) None gets z.words.lent sound.lent back (λ g at. cc);
+          lent = lent_fit v gone page (Some (At frame)) None gets z.words.lent sound.lent back (λ g has. cc);
           tables = known.frames_same ∙ sound.tables;
           size = known.size_same ∙ sound.size;
           marks = sound.marks;
@@ -165,7 +165,7 @@ module _ {W : ℕ} (z : Inside W) (v : ZoneState) (client : ℕ) (address : Addr
         let p = placements_put z.notes page unused_note note_within in
         let u = unmovable_put z.notes page unused_note note_within false refl in
         let lent_then : pages_lent z.words.lent (tabulated (placement_of (slice_set z.notes page unused_note)) (length (slice_set z.notes page unused_note))) (512 * z.size.blocks) ≡ (state_of z).lent_pages =
-        (λ i. pages_lent z.words.lent (p i) (512 * z.size.blocks)) ∙ pages_put z.words.lent (state_of z).placement (512 * z.size.blocks) page None (rests_here z.words.lent _ rested) refl in
+        (λ i. pages_lent z.words.lent (p i) (512 * z.size.blocks)) ∙ pages_put z.words.lent (state_of z).placement (512 * z.size.blocks) page None rested refl in
         let here : state_of (after_last z unmovable page frame tables history) ≡ without_page (noted (state_of z) (Unmap client address)) page =
         λ i. record (state_of z) { records = (known.history_is i).records; room = (known.history_is i).room; round = (known.history_is i).round; placement = p i; unmovable = u i; lent_pages = lent_then i } in
         here ∙ ap (λ (s : ZoneState). without_page (noted s (Unmap client address)) page) known.view

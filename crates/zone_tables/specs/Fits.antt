@@ -23,7 +23,7 @@ use Rattle.zone_tables.specs.declared.note.PageNote.{PageNote}
 use Rattle.state_core.specs.declared.placement.Placement.{Placement}
 use Rattle.state_core.specs.declared.placement.Placement.TheVariants.{At, Moving}
 use Rattle.state_core.specs.Pairs.{can_move}
-use Rattle.state_core.specs.ZoneState.{ZoneState, covers, frame_count, is_free, is_held, is_unmovable_in, placement_at, words_frame}
+use Rattle.state_core.specs.ZoneState.{ZoneState, covers, frame_count, is_free, is_held, is_unmovable_in, placement_at, takes_up, words_frame}
 
 -- the state that a page with this number and placement gives to a frame, if it takes the frame up
 abbrev pub state_by : ℕ → Option Placement → ℕ → Option (FrameState ℕ)
@@ -59,11 +59,11 @@ pub record WordsFit (rows : List (List ℕ)) (v : ZoneState) : Type 0 where
   pub sized : (frame : ℕ) → frame < frame_count v → length (words_of rows frame) ≡ v.page_size
   pub each : (page : ℕ) (placement : Placement) (word : ℕ) → map.get v.placement page ≡ Some placement → word < v.page_size → slice_get (words_of rows (words_frame placement)) word ≡ Some (last v.records page word)
 
--- the frames of a block are lent where its words are away, and so is the frame in which a page rests; no other frame is lent
+-- the frames of a block are lent where its words are away, and so is each frame that a page takes up; no other frame is lent
 pub record LentFit (lent : List Bool) (handed_out : map.FinMap nat_cmp ℕ) (away : set.FinSet nat_cmp) (placement : map.FinMap nat_cmp Placement) (away_pages : set.FinSet nat_cmp) : Type 0 where
   pub of_block : (first order : ℕ) → map.get handed_out first ≡ Some order → HasEach lent first (2 ^ order) (set.contains away first)
-  pub of_page : (page frame : ℕ) → map.get placement page ≡ Some (At frame) → has_frame lent frame ≡ set.contains away_pages page
-  pub others : (frame : ℕ) → ((first : ℕ) → covers (map.get handed_out first) first frame ≡ false) → ((page : ℕ) → map.get placement page ≢ Some (At frame)) → has_frame lent frame ≡ false
+  pub of_page : (page frame : ℕ) → takes_up (map.get placement page) frame ≡ true → has_frame lent frame ≡ set.contains away_pages page
+  pub others : (frame : ℕ) → ((first : ℕ) → covers (map.get handed_out first) first frame ≡ false) → ((page : ℕ) → takes_up (map.get placement page) frame ≡ false) → has_frame lent frame ≡ false
 
 -- each frame has its place in the list of cleared blocks, and a block whose words are away was cleared
 pub record ClearedFit (cleared : List Bool) (frames : ℕ) (away : set.FinSet nat_cmp) : Type 0 where

@@ -1,3 +1,4 @@
+pub mod Carried
 pub mod Contents
 pub mod Fits
 pub mod Fresh

@@ -1,7 +1,8 @@
 //! Rounds, and the page that a round isolates next.
 
-ghost use Rattle.std.specs.Prelude.{◌≡◌, ◌+◌, ◌<◌, ℕ, length, IsSome, IfSome, IfNone, None, Some, true};
+ghost use Rattle.std.specs.Prelude.{◌≡◌, ◌+◌, ◌<◌, ℕ, length, IsSome, IfSome, IfNone, None, Some, true, false};
 ghost use Rattle.std.specs.FinMap as map;
+ghost use Rattle.std.specs.FinSet as set;
 ghost use Rattle.frame_core.specs.Moves.{isolated, out};
 ghost use Rattle.state_core.specs.Valid.{IsValidZone};
 ghost use Rattle.state_core.specs.Rounds.{round_begun};
@@ -79,6 +80,7 @@ impl<const W: usize> ZoneTables<W> {
         requires pair { IsPair self.old pair.page pair.source pair.target }
         requires accepted { isolate_refusal self.old ≡ None }
         ensures way { result ≡ record { page = pair.page; serial = isolated self.old.records; source = pair.source; target = pair.target } }
+        ensures here { set.contains self.new.lent_pages pair.page ≡ false }
         ensures step { self.new ≡ isolated_next self.old pair }
         ensures valid { IsValidZone self.new }
     {

@@ -9,9 +9,9 @@ ghost use Rattle.frame_core.specs.History.{page_at};
 ghost use Rattle.state_core.specs.Access.{is_page_lent};
 ghost use Rattle.state_core.specs.Bulk.{has_room_for, values_at};
 ghost use Rattle.state_core.specs.Lending.{block_place, page_place, lend_page_refusal, page_return_refusal, page_lent, page_returned};
-ghost use Rattle.state_core.specs.Pinning.{pins_at};
+ghost use Rattle.state_core.specs.Pinning.{pins_at, rests_lent};
 ghost use Rattle.state_core.specs.Valid.{IsValidZone};
-ghost use Rattle.state_core.specs.ZoneState.{placement_at};
+ghost use Rattle.state_core.specs.ZoneState.{placement_at, takes_up};
 ghost use Rattle.state_core.specs.declared.placement.Placement.TheVariants.{At};
 
 use crate::zone::ZoneTables;
@@ -21,10 +21,10 @@ use state_core::ZoneError;
 use table_core::Entry;
 
 impl<const W: usize> ZoneTables<W> {
-    /// Whether the words are lent of the page that an address names.
-    pub fn is_page_lent(&self, address: &Address) -> bool
+    /// Whether the page that an address names rests in a frame, and its words are lent.
+    pub fn rests_lent(&self, address: &Address) -> bool
         requires { IsSome (page_at self.now.records address.now) }
-        ensures { result ≡ is_page_lent self.now address.now }
+        ensures { result ≡ rests_lent self.now address.now }
     {
         match self.tables.entry(*address) {
             Entry::Present(frame) => self.is_lent_in(frame),
@@ -82,10 +82,10 @@ impl<const W: usize> ZoneTables<W> {
         }
     }
 
-    /// Whether the words of the page that rests in a frame are lent. In a zone with memory of its own none are, and it looks no further.
+    /// Whether the words of the page that takes a frame up are lent. In a zone with memory of its own none are, and it looks no further.
     pub(crate) fn is_lent_in(&self, frame: FrameNo) -> bool
-        requires { (page : ℕ) × (map.get self.now.placement page ≡ Some (At frame)) }
-        ensures { (page : ℕ) → map.get self.now.placement page ≡ Some (At frame) → result ≡ set.contains self.now.lent_pages page }
+        requires { (page : ℕ) × (takes_up (map.get self.now.placement page) frame ≡ true) }
+        ensures { (page : ℕ) → takes_up (map.get self.now.placement page) frame ≡ true → result ≡ set.contains self.now.lent_pages page }
     {
         !self.owns_memory() && self.words.is_lent(frame)
     }

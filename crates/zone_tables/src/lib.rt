@@ -20,7 +20,9 @@ mod isolating;
 mod kept_note;
 mod kept_order;
 mod lending;
+mod lending_moves;
 mod lending_pages;
+mod lent_move;
 mod looking;
 mod mapping;
 mod marking;
@@ -35,6 +37,7 @@ mod unmapping;
 mod zone;
 
 pub use ending::Move;
+pub use lent_move::{CopiedMove, LentMove};
 pub use looking::Uses;
 pub use moving::MovingPage;
 pub use zone::ZoneTables;

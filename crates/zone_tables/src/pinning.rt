@@ -3,9 +3,8 @@
 ghost use Rattle.std.specs.Prelude.{◌≡◌, ◌<◌, ℕ, true, Some, IsTrue};
 ghost use Rattle.scan_core.specs.Frames.{holds_at};
 ghost use Rattle.frame_core.specs.History.{page_at};
-ghost use Rattle.state_core.specs.Access.{is_page_lent};
 ghost use Rattle.state_core.specs.Valid.{IsValidZone};
-ghost use Rattle.state_core.specs.Pinning.{pins_at, pinned, unpinned};
+ghost use Rattle.state_core.specs.Pinning.{pins_at, pinned, rests_lent, unpinned};
 ghost use Rattle.state_core.specs.ZoneState.{has_room};
 ghost use Rattle.state_core.specs.declared.placement.Placement.TheVariants.{At};
 ghost use Rattle.zone_tables.specs.Notes.{movable_at};
@@ -35,7 +34,7 @@ impl<const W: usize> ZoneTables<W> {
         requires room { IsTrue (has_room self.old) }
         requires named { page_at self.old.records address ≡ Some page }
         requires some { 0 < pins_at self.old address }
-        requires keeps { is_page_lent self.old address ≡ true → 1 < pins_at self.old address }
+        requires keeps { rests_lent self.old address ≡ true → 1 < pins_at self.old address }
         ensures step { self.new ≡ unpinned self.old client address }
         ensures valid { IsValidZone self.new }
     {

@@ -9,6 +9,7 @@ mod draws;
 mod emptying;
 mod keeping;
 mod lending;
+mod lent_moves;
 mod lists;
 mod many_addresses;
 mod many_pageblocks;

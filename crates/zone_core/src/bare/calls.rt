@@ -247,7 +247,7 @@ impl<const W: usize> BareZone<W> {
         if uses.pins == 0 {
             return Err(ZoneError::NotPinned);
         }
-        if uses.pins == 1 && self.tables.is_page_lent(&address) {
+        if uses.pins == 1 && self.tables.rests_lent(&address) {
             return Err(ZoneError::Lent);
         }
         self.tables.unpin(client, address, uses.page);

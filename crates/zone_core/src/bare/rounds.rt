@@ -62,7 +62,7 @@ impl<const W: usize> BareZone<W> {
     ///
     /// Refused as `isolate_next` is.
     #[inline(always)]
-    fn next_pair(&self) -> Result<Option<Pair>, ZoneError>
+    pub(crate) fn next_pair(&self) -> Result<Option<Pair>, ZoneError>
         ensures refused { result_err result ≡ isolate_refusal self.now }
         ensures pair { IfOk result (λ found. found ≡ next_pair self.now) }
         ensures is_pair { IfOk result (λ found. IfSome found (λ pair. IsPair self.now pair.page pair.source pair.target)) }

@@ -9,11 +9,11 @@ use std::process::Abort;
 use zone_core::{BareZone, ZoneError, ZoneSize};
 
 /// The words of a pageblock whose pages have 8.
-const WORDS: usize = 512 * 8;
+pub(super) const WORDS: usize = 512 * 8;
 
 /// A row of memory whose words aren't 0.
 #[tactic(auto, using(row_core::proofs::Lists::part_here))]
-fn memory(rt: &(impl Abort + AllocGlobal), words: usize) -> Row {
+pub(super) fn memory(rt: &(impl Abort + AllocGlobal), words: usize) -> Row {
     let mut ground = Ground::open(rt.alloc(), words).expect(rt, "memory");
     let mut row = ground.lend(0, words);
     row.words_mut().fill(7);
@@ -21,7 +21,7 @@ fn memory(rt: &(impl Abort + AllocGlobal), words: usize) -> Row {
 }
 
 /// A zone of so many pageblocks in this memory.
-fn open_in(
+pub(super) fn open_in(
     rt: &(impl Abort + AllocGlobal),
     blocks: u32,
     memory: Row,
@@ -130,5 +130,6 @@ fn memory_of_its_own_is_not_lent(rt: HostRuntime) {
     let first = zone.take_order(order).expect(&rt, "a block");
     assert!(&rt; zone.owns_memory());
     assert!(&rt; zone.lend_block(first, order).err() == Some(ZoneError::OwnMemory));
+    assert!(&rt; zone.lend_move().err() == Some(ZoneError::OwnMemory));
     assert!(&rt; zone.give_order(first, order).is_ok());
 }

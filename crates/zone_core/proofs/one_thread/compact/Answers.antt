@@ -1,4 +1,4 @@
-use Rattle.std.proofs.Common.{rules, ◌≡◌, ℕ, ◌+◌, arith, sym, ap, subst, ◌∙◌}
+use Rattle.std.proofs.Common.{rules, ◌≡◌, ℕ, ◌+◌, refl, arith, sym, ap, subst, ◌∙◌}
 use Rattle.frame_core.specs.History.{pins}
 use Rattle.frame_core.specs.Moves.{isolated}
 use Rattle.zone_core.specs.Alone.{IsAtRest}
@@ -37,7 +37,7 @@ carry-requires g c =
     let start = c.args.zone.now in
     let z = c.loop-page.zone in
     let is = page_scanned z c.isolate_next.new.self c.in-Ok-Page.page (next_pair z) (sym c.in-Ok-Page.field-0-is ∙ c.in-Ok-Page.ensures.answer) c.in-Ok-Page.ensures.ok in
-    let own = own_isolated z c.isolate_next.new.self c.in-Ok-Page.page (next_pair z) (sym c.in-Ok-Page.field-0-is ∙ c.in-Ok-Page.ensures.answer) c.in-Ok-Page.ensures.ok in
+    let own = own_isolated z c.isolate_next.new.self c.in-Ok-Page.page (next_pair z) c.loop-page.invariant.between.valid refl (sym c.in-Ok-Page.field-0-is ∙ c.in-Ok-Page.ensures.answer) c.in-Ok-Page.ensures.ok in
     let none : pins c.isolate_next.new.self.records c.in-Ok-Page.page.page.number ≡ 0 =
     (λ i. pins (is.left i).records (is.page i).page.number) ∙ unpinned start z c.loop-page.invariant.between is.pair (sym c.in-Ok-Page.ensures.refused) is.found in
     (search rules, (search rules, (own, none)))

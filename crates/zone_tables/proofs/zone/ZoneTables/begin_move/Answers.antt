@@ -1,5 +1,7 @@
 use Rattle.std.proofs.Common.{◌≡◌, ◌∙◌, ◌+◌, ◌∷◌, ℕ, refl, ap, subst, sym, arith}
 use Rattle.std.specs.Prelude.{Some, false, is_some, slice_get, slice_set, unwrap_or}
+use Rattle.std.specs.FinSet as set
+use Rattle.state_core.specs.ZoneState.{ZoneState}
 use Rattle.frame_core.specs.declared.state.FrameState.TheVariants.{Source, Target}
 use Rattle.frame_core.specs.declared.record.Record.TheVariants.{Isolate}
 use Rattle.frame_core.specs.Moves.{isolated}
@@ -17,7 +19,7 @@ use Rattle.zone_tables.specs.Moves.{Moves}
 use Rattle.state_core.proofs.Facts.{isolated_bound, not_none, room_for_two}
 use Rattle.zone_tables.proofs.Tables.{note_is, note_of, placement_seen}
 use Rattle.zone_tables.proofs.Isolation.{isolated_frames, isolated_words, isolated_movable}
-use Rattle.state_core.proofs.Settled.{can_isolate, isolate_recorded, target_within, swept_if_isolated}
+use Rattle.state_core.proofs.Settled.{can_isolate, isolate_recorded, pair_here, target_within, swept_if_isolated}
 use Rattle.zone_tables.proofs.UnmovablePages.{movable_only}
 use Rattle.zone_tables.proofs.Relocation.{Settling, FramesSettled, MovableSettled, settle_invariant, settle_view}
 use Rattle.zone_tables.proofs.zone.ZoneTables.begin_move.Given.{Over}
@@ -99,7 +101,6 @@ settling c =
       size_same = c.to_migration.ensures.size;
       rest_same = refl;
       lent_same = refl;
-      vacant = λ frame e. cc;
       memory_same = refl;
       contents_same = refl;
     }
@@ -130,3 +131,8 @@ returns-clause-way g c =
     let sound = is_sound c.self.view_is c.self.invariant in
     let serial = c.isolate-serial.ensures.serial ∙ sound.moves.isolated in
     λ i. record { page = c.args.pair.page; serial = serial i; source = c.args.pair.source; target = c.args.pair.target }
+
+pub returns-clause-here : goal.returns-clause-here
+returns-clause-here g c =
+    let sound = is_sound c.self.view_is c.self.invariant in
+    ap (λ (u : ZoneState). set.contains u.lent_pages c.args.pair.page) (returns-clause-step g c) ∙ pair_here c.args.self.now c.args.pair sound.valid c.requires.pair

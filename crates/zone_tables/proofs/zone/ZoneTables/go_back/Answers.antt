@@ -2,7 +2,6 @@ use Rattle.std.proofs.Common.{◌≡◌, ◌∙◌, ◌+◌, ◌∷◌, ℕ, ref
 use Rattle.std.specs.Prelude.{is_some, slice_set}
 use Rattle.frame_core.specs.declared.state.FrameState.TheVariants.{Free, Holds}
 use Rattle.frame_core.specs.declared.record.Record.TheVariants.{Back}
-use Rattle.frame_core.specs.FrameSet.{has_frame}
 use Rattle.scan_core.specs.Frames.{Frames}
 use Rattle.state_core.specs.Pairs.{can_move}
 use Rattle.zone_tables.proofs.Facts.{is_sound}
@@ -16,7 +15,6 @@ use Rattle.state_core.specs.Ending.{IsSettled, source_of}
 use Rattle.state_core.specs.ZoneState.{ZoneState}
 use Rattle.state_core.proofs.Facts.{not_none}
 use Rattle.state_core.proofs.Settled.{can_go_back, back_recorded, frames_apart, source_within, target_in, swept_if_put_back}
-use Rattle.zone_tables.proofs.LentBlocks.{source_unlent}
 use Rattle.zone_tables.proofs.MoveEnds.{back_frames, back_words, kept_movable, left_settled, source_still, target_on_way, source_left, source_listed, back_settled, some_on_the_way, ending_room}
 use Rattle.zone_tables.proofs.UnmovablePages.{moving_movable}
 use Rattle.zone_tables.proofs.Relocation.{Settling, FramesSettled, MovableSettled, settle_invariant, settle_view}
@@ -66,7 +64,7 @@ settling c =
       sound = sound;
       view = c.self.view_is;
       can = can_go_back v way.page way.serial way.source way.target law at;
-      recorded = back_recorded v way.page way.serial way.source way.target law at c.args.cause c.requires.cause;
+      recorded = back_recorded v way.page way.serial way.source way.target law at c.requires.here c.args.cause c.requires.cause;
       spare = omega (arith, ending_room c.self.view_is c.self.invariant c.args.way.now.page c.requires.placed, ap (λ (u : ZoneState). u.room) c.self.view_is);
       note_is = c.get-note.ensures;
       frames = subst (λ (fs : Frames). FramesSettled z.frames.states fs.states way.page (Moving way.serial way.source way.target) (At way.source)) (sym (frames_are c))
@@ -89,7 +87,6 @@ settling c =
       size_same = c.to_present.ensures.size;
       rest_same = refl;
       lent_same = refl;
-      vacant = λ frame e. (let here : way.source ≡ frame = cc in ap (has_frame z.words.lent) (sym here) ∙ source_unlent z v sound way.page way.serial way.source way.target at);
       memory_same = refl;
       contents_same = refl;
     }

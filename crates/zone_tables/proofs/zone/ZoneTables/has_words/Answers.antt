@@ -12,8 +12,8 @@ pub same-requires : goal.same-requires
 same-requires g c =
     let sound = is_sound c.self.view_is c.self.invariant in
     let within = frame_within c.args.self.now sound.valid c.args.way.now.page
-    (Moving c.args.way.now.serial c.args.way.now.source c.args.way.now.target) c.requires in
-    let here = source_here c.self.inside c.args.self.now sound c.args.way.now.page c.args.way.now.serial c.args.way.now.source c.args.way.now.target c.requires in
+    (Moving c.args.way.now.serial c.args.way.now.source c.args.way.now.target) c.requires.placed in
+    let here = source_here c.self.inside c.args.self.now sound c.args.way.now.page c.args.way.now.serial c.args.way.now.source c.args.way.now.target c.requires.placed c.requires.here in
     (omega arith, (omega arith, (omega (arith, within, sound.words.count), here)))
 
 pub returns : goal.returns
@@ -21,5 +21,5 @@ returns g c =
     let sound = is_sound c.self.view_is c.self.invariant in
     let seen : words_of c.self.inside.words.rows c.args.way.now.source ≡ words_now c.args.self.now c.args.way.now.page =
     words_seen c.self.inside.words.rows c.args.self.now sound.words sound.valid c.args.way.now.page
-    (Moving c.args.way.now.serial c.args.way.now.source c.args.way.now.target) c.requires in
+    (Moving c.args.way.now.serial c.args.way.now.source c.args.way.now.target) c.requires.placed in
     (λ same. sym (c.same.ensures.0 same) ∙ seen, λ same. c.same.ensures.1 (seen ∙ sym same))

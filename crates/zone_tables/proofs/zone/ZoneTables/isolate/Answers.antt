@@ -31,7 +31,7 @@ read_out-carried-requires g c =
     let step = c.begin_move-way.ensures.step in
     let sound = is_sound c.self.view_is c.self.invariant in
     let source = ap (λ (way : Move). way.source) c.begin_move-way.ensures.way in
-    let here = subst (λ (way : Move). IsHere c.self.inside.words way.source 1) (sym c.begin_move-way.ensures.way) (source_here c.self.inside new sound pair.page (isolated z.records) pair.source pair.target (placed z new pair step)) in
+    let here = subst (λ (way : Move). IsHere c.self.inside.words way.source 1) (sym c.begin_move-way.ensures.way) (source_here c.self.inside new sound pair.page (isolated z.records) pair.source pair.target (placed z new pair step) c.begin_move-way.ensures.here) in
     (omega arith, (omega arith, (omega (arith, source, frame_within new sound.valid pair.page (Moving (isolated z.records) pair.source pair.target) (placed z new pair step), sound.words.count), here)))
 
 pub returns-clause-page : goal.returns-clause-page

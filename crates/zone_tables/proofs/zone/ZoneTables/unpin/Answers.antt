@@ -1,6 +1,11 @@
 use Rattle.std.proofs.Common.{◌≡◌, ◌∙◌, length, ℕ, ◌-◌, ap, sym, arith}
-use Rattle.std.specs.Prelude.{Option, unwrap_or}
+use Rattle.std.specs.Prelude.{Option, is_some, unwrap_or}
+use Rattle.std.specs.Option.{option_and_then}
+use Rattle.std.specs.FinMap as map
 use Rattle.std.specs.FinSet as set
+use Rattle.std.proofs.lemmas.Bool.{and_from}
+use Rattle.state_core.specs.declared.placement.Placement.{Placement}
+use Rattle.state_core.specs.Packed.{frame_of}
 use Rattle.std.proofs.lemmas.List.{length-set}
 use Rattle.std.proofs.lemmas.Option.{slice_get_within}
 use Rattle.frame_core.specs.declared.record.Record.TheVariants.{Unpin}
@@ -50,7 +55,7 @@ known : {g : Over} (c : After-note g) → Noting c.self.inside c.args.self.now c
 known c =
     unpinning c.self.inside c.args.self.now (is_sound c.self.view_is c.self.invariant) c.self.view_is c.args.page (named_in_use c.self.view_is c.self.invariant c.args.address c.args.page c.requires.named) _ (named_note c.self.view_is c.self.invariant c.args.address c.args.page c.requires.named)
     c.args.client c.args.address c.requires.named (spare c.args.self.now c.requires.room) c.say_movable.new.frames c.note.new.self
-    (λ lent. (let more = c.requires.keeps (ap (λ (o : Option ℕ). set.contains c.args.self.now.lent_pages (unwrap_or o 0)) c.requires.named ∙ lent) in omega (arith, more, ap (λ (o : Option ℕ). pins c.args.self.now.records (unwrap_or o 0)) c.requires.named)))
+    (λ frame rests lent. (let more = c.requires.keeps (and_from _ _ (ap (λ (o : Option ℕ). is_some (frame_of (option_and_then (map.get c.args.self.now.placement) o))) c.requires.named ∙ ap (λ (o : Option Placement). is_some (frame_of o)) rests) (ap (λ (o : Option ℕ). set.contains c.args.self.now.lent_pages (unwrap_or o 0)) c.requires.named ∙ lent)) in omega (arith, more, ap (λ (o : Option ℕ). pins c.args.self.now.records (unwrap_or o 0)) c.requires.named)))
     (c.say_movable.ensures
     ∙ ap (λ can. record c.self.inside.frames { movable = movable_at c.self.inside.frames.movable c.get-current.result.placement can }) c.can_move.ensures
     ∙ ap (λ (n : PageNote). record c.self.inside.frames { movable = movable_at c.self.inside.frames.movable n.placement (can_move_by n) }) (read c.before.before.before.before.before.before.before))

@@ -1,0 +1,163 @@
+//! A zone in memory of its caller, which lends the words of moving pages.
+
+ghost use Rattle.std.specs.Prelude.{◌≡◌, ◌≢◌, ◌<◌, ◌≤◌, ℕ, true, length, None, Some, IfErr, IfNone, IfOk, IfSome, OnErr, OnOk};
+ghost use Rattle.std.specs.FinMap as map;
+ghost use Rattle.std.specs.Result.{result_err};
+ghost use Rattle.compactd_c.specs.LentMoves.{end_move_refusal, held_committed, held_put_back, move_of, HasNone, HasNumbers, HoldsNext, IsKept};
+ghost use Rattle.frame_core.specs.Moves.{out};
+ghost use Rattle.state_core.specs.Ending.{ended_as};
+ghost use Rattle.state_core.specs.LentMoves.{IsLentMove, is_lent_move, lend_move_refusal, next_lent};
+ghost use Rattle.state_core.specs.Packed.{IsPacked};
+ghost use Rattle.state_core.specs.Pairs.{HaveMet, next_pair};
+ghost use Rattle.state_core.specs.ZoneState.{is_quiet};
+ghost use Rattle.state_core.specs.declared.placement.Placement.TheVariants.{Moving};
+
+use super::{Kind, Zone, page_no};
+use crate::lent_moves::HeldMove;
+use frame_core::FrameNo;
+use state_core::{Ended, Next, Stranger, ZoneError};
+use zone_core::{BareZone, CopiedMove, LentMove};
+use zone_tables::Move;
+
+impl Zone {
+    /// Isolates the next page of a round, and lends the words of both frames of its move, if there is such a page.
+    pub(crate) fn lend_move(&mut self) -> Result<Option<HeldMove>, ZoneError>
+        ensures refused { result_err result ≡ lend_move_refusal self.old }
+        ensures err { OnErr result (self.new ≡ self.old) }
+        ensures ok { OnOk result (self.new ≡ next_lent self.old (next_pair self.old)) }
+        ensures lent { IfOk result (HoldsNext self.old self.new) }
+        ensures met { result ≡ Ok None → HaveMet self.old }
+        ensures packed { result ≡ Ok None → is_quiet self.new ≡ true → length (out self.new.records) ≡ 0 → IsPacked self.new }
+    {
+        of_zone!(&mut self.kind, zone => lend_move(zone))
+    }
+
+    /// Takes the words of a move back that were copied, and ends it.
+    pub(crate) fn commit_lent(&mut self, held: &mut HeldMove) -> Result<Ended, ZoneError>
+        requires copied { IfSome (move_of held.old) (λ m. m.to.words ≡ m.from.words) }
+        requires rows { IfSome (move_of held.old) (λ m. is_lent_move self.old m ≡ true → IsLentMove self.old m) }
+        ensures refused { result_err result ≡ end_move_refusal (move_of held.old) self.old }
+        ensures err { OnErr result ((self.new ≡ self.old) × IsKept held.old held.new) }
+        ensures ended { IfOk result (λ ended. ended ≡ ended_as self.old held.old.page) }
+        ensures ok { OnOk result (self.new ≡ held_committed (move_of held.old) self.old) }
+        ensures taken { OnOk result (HasNone held.new) }
+    {
+        of_zone!(&mut self.kind, zone => commit_lent(zone, held))
+    }
+
+    /// Takes the words of a move back that isn't to be made, and ends it.
+    pub(crate) fn put_back_lent(&mut self, held: &mut HeldMove) -> Result<(), ZoneError>
+        requires rows { IfSome (move_of held.old) (λ m. is_lent_move self.old m ≡ true → IsLentMove self.old m) }
+        ensures refused { result_err result ≡ end_move_refusal (move_of held.old) self.old }
+        ensures err { OnErr result ((self.new ≡ self.old) × IsKept held.old held.new) }
+        ensures ok { OnOk result (self.new ≡ held_put_back (move_of held.old) self.old) }
+        ensures taken { OnOk result (HasNone held.new) }
+    {
+        of_zone!(&mut self.kind, zone => put_back_lent(zone, held))
+    }
+}
+
+fn lend_move<const W: usize>(zone: &mut BareZone<W>) -> Result<Option<HeldMove>, ZoneError>
+    requires size { (0 < W) × (W ≤ 65536) }
+    ensures refused { result_err result ≡ lend_move_refusal zone.old }
+    ensures err { OnErr result (zone.new ≡ zone.old) }
+    ensures ok { OnOk result (zone.new ≡ next_lent zone.old (next_pair zone.old)) }
+    ensures lent { IfOk result (HoldsNext zone.old zone.new) }
+    ensures met { result ≡ Ok None → HaveMet zone.old }
+    ensures packed { result ≡ Ok None → is_quiet zone.new ≡ true → length (out zone.new.records) ≡ 0 → IsPacked zone.new }
+{
+    match zone.lend_move() {
+        Ok(Next::Page(lent)) => Ok(Some(HeldMove::of(lent))),
+        Ok(Next::Met) => Ok(None),
+        Err(error) => Err(error),
+    }
+}
+
+fn commit_lent<const W: usize>(
+    zone: &mut BareZone<W>,
+    held: &mut HeldMove,
+) -> Result<Ended, ZoneError>
+    requires size { W ≤ 65536 }
+    requires copied { IfSome (move_of held.old) (λ m. m.to.words ≡ m.from.words) }
+    requires rows { IfSome (move_of held.old) (λ m. is_lent_move zone.old m ≡ true → IsLentMove zone.old m) }
+    ensures refused { result_err result ≡ end_move_refusal (move_of held.old) zone.old }
+    ensures err { OnErr result ((zone.new ≡ zone.old) × IsKept held.old held.new) }
+    ensures ended { IfOk result (λ ended. ended ≡ ended_as zone.old held.old.page) }
+    ensures ok { OnOk result (zone.new ≡ held_committed (move_of held.old) zone.old) }
+    ensures taken { OnOk result (HasNone held.new) }
+{
+    let lent = bring(zone, held)?;
+    match zone.commit_lent(CopiedMove::of(lent)) {
+        Ok(ended) => Ok(ended),
+        Err(Stranger(copied)) => {
+            let (_, from, to) = copied.into_lent().into_parts();
+            held.put(from, to);
+            Err(ZoneError::Stranger)
+        }
+    }
+}
+
+fn put_back_lent<const W: usize>(
+    zone: &mut BareZone<W>,
+    held: &mut HeldMove,
+) -> Result<(), ZoneError>
+    requires size { W ≤ 65536 }
+    requires rows { IfSome (move_of held.old) (λ m. is_lent_move zone.old m ≡ true → IsLentMove zone.old m) }
+    ensures refused { result_err result ≡ end_move_refusal (move_of held.old) zone.old }
+    ensures err { OnErr result ((zone.new ≡ zone.old) × IsKept held.old held.new) }
+    ensures ok { OnOk result (zone.new ≡ held_put_back (move_of held.old) zone.old) }
+    ensures taken { OnOk result (HasNone held.new) }
+{
+    let lent = bring(zone, held)?;
+    match zone.put_back_lent(lent) {
+        Ok(()) => Ok(()),
+        Err(Stranger(lent)) => {
+            let (_, from, to) = lent.into_parts();
+            held.put(from, to);
+            Err(ZoneError::Stranger)
+        }
+    }
+}
+
+/// The move that C brings back, if the zone may have such a move.
+fn bring<const W: usize>(zone: &BareZone<W>, held: &mut HeldMove) -> Result<LentMove, ZoneError>
+    ensures refused { IfErr result (λ error. end_move_refusal (move_of held.old) zone.now ≡ Some error) }
+    ensures kept { OnErr result (IsKept held.old held.new) }
+    ensures ok { IfOk result (λ lent. move_of held.old ≡ Some lent) }
+    ensures even { IfOk result (λ lent. (length lent.from.words ≡ length lent.to.words) × (0 < length lent.from.words)) }
+    ensures taken { OnOk result (HasNone held.new) }
+    ensures numbers { HasNumbers held.old held.new }
+{
+    let Some((from, to)) = held.take() else {
+        return Err(ZoneError::Range);
+    };
+    let Some(way) = way_of(zone, held) else {
+        held.put(from, to);
+        return Err(ZoneError::Stranger);
+    };
+    Ok(LentMove::of(way, from, to))
+}
+
+/// The move with these numbers, if the zone may have such a move.
+fn way_of<const W: usize>(zone: &BareZone<W>, held: &HeldMove) -> Option<Move>
+    ensures some { IfSome result (λ way. way ≡ record { page = held.now.page; serial = held.now.serial; source = held.now.source; target = held.now.target }) }
+    ensures none { result ≡ None → ¬ (map.get zone.now.placement held.now.page ≡ Some (Moving held.now.serial held.now.source held.now.target)) }
+{
+    Some(Move {
+        page: page_no(zone, held.page)?,
+        serial: held.serial,
+        source: frame_no(zone, held.source)?,
+        target: frame_no(zone, held.target)?,
+    })
+}
+
+/// The number of a frame, if the zone has it.
+fn frame_no<const W: usize>(zone: &BareZone<W>, number: u32) -> Option<FrameNo>
+    ensures number { IfSome result (λ frame. frame ≡ number) }
+    ensures none { result ≡ None → (page serial source target : ℕ) → map.get zone.now.placement page ≡ Some (Moving serial source target) → (number ≢ source) × (number ≢ target) }
+{
+    if number >= 512 * zone.blocks() {
+        return None;
+    }
+    FrameNo::in_any_zone(number)
+}
