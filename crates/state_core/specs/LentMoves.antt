@@ -68,7 +68,7 @@ pub record IsLentMove (z : ZoneState) (m : LentMove) : Type 0 where
   pub sizes : (length m.from.words ≡ z.page_size) × (length m.to.words ≡ z.page_size)
   pub words : m.from.words ≡ words_now z m.page
 
--- and so does the second one
+-- and the second row has the words of the first
 pub record IsCopiedMove (z : ZoneState) (m : LentMove) : Type 0 where
   pub lent : IsLentMove z m
   pub copied : m.to.words ≡ m.from.words

@@ -35,7 +35,7 @@ impl<const W: usize> ZoneTables<W> {
         LentMove::of(way, from, to)
     }
 
-    /// Whether a page is moving so, and its words are lent. It doesn't look at the rows.
+    /// Whether this move is one of the zone's, and its words are lent. It doesn't look at the rows.
     pub fn has_lent(&self, lent: &LentMove) -> bool
         ensures { result ≡ is_lent_move self.now lent.now }
     {

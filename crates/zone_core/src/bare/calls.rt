@@ -232,7 +232,8 @@ impl<const W: usize> BareZone<W> {
 
     /// Takes a pin off the page that an address names, also while the page is moving.
     ///
-    /// Refused as JournalFull, Unmapped or NotPinned, or as Lent where it is the only pin of a page whose words are lent.
+    /// Refused as JournalFull, Unmapped or NotPinned, or as Lent where it is the only pin of a page that rests in a frame and whose words are
+    /// lent.
     #[inline(always)]
     pub fn unpin(&mut self, client: ClientNo, address: Address) -> Result<(), ZoneError>
         ensures made { IsMade {W = W} (call.Unpin address) client self.old self.new result }
