@@ -22,7 +22,7 @@ use row_core::Row;
 use state_core::{Audit, Placement};
 
 /// A moving page, with its serial and its two frames.
-#[derive(Clone, Copy)]
+#[derive(Clone, Copy, PartialEq, Eq)]
 pub struct Move {
     pub page: PageNo,
     pub serial: Serial,
