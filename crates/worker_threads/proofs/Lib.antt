@@ -1,0 +1,4 @@
+pub mod Called
+pub mod Meeting
+pub mod Places
+pub mod Rooms

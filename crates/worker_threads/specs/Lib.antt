@@ -1,0 +1,4 @@
+pub mod Hands
+pub mod Kept
+pub mod Rooms
+pub mod Working

@@ -1,0 +1,154 @@
+//! A round on threads.
+
+ghost use Rattle.std.specs.Prelude.{◌≡◌, ◌+◌, ◌<◌, ◌≤◌, All, IfOk, [], vec_len, vec_capacity};
+ghost use Rattle.worker_threads.specs.Hands.{AreEmpty};
+ghost use Rattle.worker_threads.specs.Working.{WasSettled};
+
+use crate::compacting_zone::CompactingZone;
+use crate::error::WorkError;
+use crate::gate::Gate;
+use crate::identity::MemoryIdentity;
+use crate::round::Round;
+use crate::worker::{Hands, work};
+use std::alloc::{AllocError, Global};
+use std::sync::Wait;
+use std::thread;
+use std::thread::{JoinHandle, Scope, Threads};
+
+/// The workers of a round: the one that the caller's thread is, and the others, with room for the handles of their threads.
+#[derive(Drop)]
+struct Crew<K: MemoryIdentity, const W: usize> {
+    own: Hands<K, W>,
+    others: Vec<Hands<K, W>>,
+    threads: Vec<JoinHandle<bool>>,
+}
+
+/// Moves what can be moved, with so many workers, 1 to 64, of which the thread of the caller is one. Where a thread can't be started, fewer
+/// workers do it.
+///
+/// Refused as Memory where there isn't enough, else as Busy where a page is moving, and then no round was begun; as Broken where a page
+/// is still moving when the workers have ended.
+pub fn compact<K: MemoryIdentity + Send + Sync, const W: usize, G: Gate, R: Threads + Wait + Sync>(
+    rt: &R,
+    alloc: Global,
+    shared: &CompactingZone<K, W>,
+    workers: usize,
+    gate: &G,
+) -> Result<Round, WorkError>
+    requires { (0 < workers) × (workers ≤ 64) }
+    ensures { IfOk result (WasSettled K.number K.blocks K.memory W) }
+{
+    let Ok(crew) = reserve(alloc, workers) else {
+        return Err(WorkError::Memory);
+    };
+    begin(rt, shared)?;
+    let whole = in_scope(rt, shared, crew, gate);
+    let settled = shared.lock(rt).settled();
+    match settled {
+        Some(round) if whole => Ok(round),
+        _ => Err(WorkError::Broken),
+    }
+}
+
+/// Takes the memory of so many workers.
+fn reserve<K: MemoryIdentity, const W: usize>(
+    alloc: Global,
+    workers: usize,
+) -> Result<Crew<K, W>, AllocError>
+    requires { (0 < workers) × (workers ≤ 64) }
+    ensures { IfOk result (λ crew. AreEmpty crew.own × All AreEmpty crew.others.items × (vec_len crew.others ≤ vec_capacity crew.threads) × (crew.threads.items ≡ [])) }
+{
+    let own = Hands::new(alloc, 0)?;
+    let threads = Vec::with_capacity(alloc, workers - 1)?;
+    let mut others = Vec::with_capacity(alloc, workers - 1)?;
+    for worker in 1..workers {
+        others.push_reserved(Hands::new(alloc, worker)?);
+    }
+    Ok(Crew {
+        own,
+        others,
+        threads,
+    })
+}
+
+/// Begins a round.
+fn begin<K: MemoryIdentity, const W: usize, R: Wait>(
+    rt: &R,
+    shared: &CompactingZone<K, W>,
+) -> Result<(), WorkError> {
+    let mut room = shared.lock(rt);
+    if !room.is_settled() {
+        return Err(WorkError::Busy);
+    }
+    room.begin();
+    Ok(())
+}
+
+/// Runs the workers. The answer is whether each copy was taken back.
+fn in_scope<K: MemoryIdentity + Send + Sync, const W: usize, G: Gate, R: Threads + Wait + Sync>(
+    rt: &R,
+    shared: &CompactingZone<K, W>,
+    crew: Crew<K, W>,
+    gate: &G,
+) -> bool
+    requires { AreEmpty crew.own × All AreEmpty crew.others.items × (vec_len crew.others ≤ vec_capacity crew.threads) × (crew.threads.items ≡ []) }
+{
+    thread::scope(
+        thread::scope_env(),
+        rt,
+        move |scope| -> bool
+            requires { AreEmpty crew.own × All AreEmpty crew.others.items × (vec_len crew.others ≤ vec_capacity crew.threads) × (crew.threads.items ≡ []) }
+        {
+            let Crew {
+                mut own,
+                others,
+                threads,
+            } = crew;
+            let threads = start_workers(scope, rt, shared, others, threads, gate);
+            let whole = work(rt, shared, &mut own, gate);
+            join_workers(rt, threads) && whole
+        },
+    )
+}
+
+/// Starts a thread for each of these workers, until one can't be started.
+fn start_workers<
+    's,
+    'e,
+    K: MemoryIdentity + Send + Sync,
+    const W: usize,
+    G: Gate,
+    R: Threads + Wait + Sync,
+>(
+    scope: &'s Scope<'s, &'e ()>,
+    rt: &'e R,
+    shared: &'e CompactingZone<K, W>,
+    mut others: Vec<Hands<K, W>>,
+    mut threads: Vec<JoinHandle<bool>>,
+    gate: &'e G,
+) -> Vec<JoinHandle<bool>>
+    requires hands { All AreEmpty others.items }
+    requires room { vec_len threads + vec_len others ≤ vec_capacity threads }
+{
+    while let Some(mut hands) = others.pop() {
+        let started = scope.spawn(
+            move || -> bool
+                requires { AreEmpty hands }
+            { work(rt, shared, &mut hands, gate) },
+        );
+        let Ok(thread) = started else {
+            break;
+        };
+        threads.push_reserved(thread);
+    }
+    threads
+}
+
+/// Waits until each of these threads has ended. The answer is whether each copy was taken back.
+fn join_workers<R: Threads>(rt: &R, threads: Vec<JoinHandle<bool>>) -> bool {
+    let mut whole = true;
+    for thread in threads {
+        whole &= thread.join(rt);
+    }
+    whole
+}

@@ -1,0 +1,15 @@
+use thiserror::Error;
+
+/// Why a round wasn't begun, or didn't come to its end.
+#[derive(Clone, Copy, Debug, PartialEq, Eq, Error)]
+pub enum WorkError {
+    /// No round was begun.
+    #[error("out of memory")]
+    Memory,
+    /// A page is moving: another round is under way. No round was begun.
+    #[error("a page is moving")]
+    Busy,
+    /// A page was still moving when the workers had ended, or a copy wasn't the zone's.
+    #[error("a page was still moving after the round")]
+    Broken,
+}

@@ -1,0 +1,28 @@
+//! Rounds on threads over a zone in memory of its caller, with pages of any size.
+//!
+//! A [`CompactingZone`] is a zone under one lock, whose pages workers move. A worker isolates up to [`SLICE`] pages in the hold of the lock
+//! in which it gives its last ones back, and copies them without the lock: it has the words of both frames. Contracts see what is under the
+//! lock by the definitions in `specs/Rooms.antt`.
+#![tactic(auto)]
+
+mod compacting;
+mod compacting_zone;
+mod error;
+mod gate;
+mod identity;
+mod page;
+mod room;
+mod round;
+mod worker;
+
+pub use compacting::compact;
+pub use compacting_zone::CompactingZone;
+pub use error::WorkError;
+pub use gate::{Gate, NoGate};
+pub use identity::MemoryIdentity;
+pub use page::{CopiedPage, PageInHand};
+pub use room::Room;
+pub use round::{Round, Stop};
+
+/// How many pages a worker has at most.
+pub const SLICE: usize = 32;

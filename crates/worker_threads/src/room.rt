@@ -1,0 +1,248 @@
+//! What is under the lock of a zone that workers compact.
+
+ghost use Rattle.std.specs.Prelude.{◌≡◌, false, ◌↔◌, ◌+◌, Some, None, [], IsOk, IfOk, IfErr, IfSome, IfNone, IsSome, OnOk, OnErr, OnSome, IsTrue, length, is_none, replicate, slice_get, slice_set};
+ghost use Rattle.std.specs.Result.{result_err};
+ghost use Rattle.frame_core.specs.Ends.{AreEndedOnce};
+ghost use Rattle.frame_core.specs.Moves.{out};
+ghost use Rattle.row_core.specs.Seen.{Half as Seen};
+ghost use Rattle.state_core.specs.Ending.{ended_as};
+ghost use Rattle.state_core.specs.Isolating.{isolate_refusal};
+ghost use Rattle.state_core.specs.Valid.{IsValidZone};
+ghost use Rattle.worker_threads.specs.Kept.{IsRoom};
+ghost use Rattle.worker_threads.specs.Rooms.{GetsNext, counted, fresh_round, in_hand, page_committed, page_put_back, round_opened, stopped, way_at};
+ghost use Rattle.worker_threads.specs.Working.{WasSettled};
+ghost use Rattle.zone_core.specs.Made.{IsMade};
+ghost use Rattle.zone_core.specs.ZoneIdentity.{HasIdentity};
+
+use crate::identity::MemoryIdentity;
+use crate::page::{CopiedPage, PageInHand};
+use crate::round::{Round, Stop};
+use frame_core::ClientNo;
+use row_core::Half;
+use std::marker::{Model, PhantomData};
+use zone_core::{
+    BareZone, CopiedMove, Ended, LentMove, Next, Stranger, ZoneAnswer, ZoneCallOf as Call,
+    ZoneError,
+};
+use zone_tables::Move;
+
+/// The half that the zone keeps of the right to the words of a moving page, while a worker has the other one.
+#[derive(Drop)]
+pub(crate) struct KeptHalf {
+    pub(crate) way: Move,
+    pub(crate) half: Half,
+}
+
+/// A zone that workers compact, as whoever has the lock sees it.
+#[derive(Drop)]
+pub struct Room<K: MemoryIdentity, const W: usize> {
+    zone: BareZone<W>,
+    kept: Vec<Option<KeptHalf>>,
+    round: Round,
+    of: PhantomData<K>,
+}
+
+impl<K: MemoryIdentity, const W: usize> Model for Room<K, W> {
+    ghost use Rattle.std.specs.Coded.{codes};
+    ghost use Rattle.row_core.specs.Seen.{half_code};
+    ghost use Rattle.state_core.specs.ZoneCode.{coded_zone};
+    ghost use Rattle.worker_threads.specs.Kept.{IsRoom};
+    ghost use Rattle.worker_threads.specs.Rooms.{Room as Seen};
+
+    ghost Value = { Seen };
+
+    ghost coded = { Prim.hlevel (codes, coded_zone, half_code) };
+
+    ghost view = { λ r. record { zone = r.zone; kept = r.kept.items; round = r.round } };
+
+    ghost invariant = { λ r. IsRoom K.number K.blocks K.memory W (record { zone = r.zone; kept = r.kept.items; round = r.round }) };
+}
+
+impl<K: MemoryIdentity, const W: usize> Room<K, W> {
+    /// A zone with so many places for pages that workers have, each of them free.
+    pub(crate) fn new(zone: BareZone<W>, kept: Vec<Option<KeptHalf>>) -> Self
+        requires valid { IsValidZone zone }
+        requires identity { HasIdentity K.number K.blocks zone }
+        requires memory { (zone.memory ≡ K.memory) × (is_none K.memory ≡ false) }
+        requires free { kept.items ≡ replicate (length kept.items) None }
+        ensures { result ≡ record { zone = zone.entry; kept = kept.items; round = fresh_round } }
+    {
+        Room {
+            zone,
+            kept,
+            round: Round::new(),
+            of: PhantomData,
+        }
+    }
+
+    /// The zone, to be read.
+    pub fn zone(&self) -> &BareZone<W>
+        ensures zone { result.now ≡ self.now.zone }
+        ensures identity { HasIdentity K.number K.blocks result.now }
+    {
+        &self.zone
+    }
+
+    /// What the latest round did so far.
+    pub fn round(&self) -> Round
+        ensures round { result ≡ self.now.round }
+        ensures sum { result.isolated ≡ result.moved + result.back + in_hand self.now.kept }
+    {
+        self.round
+    }
+
+    /// Makes a call of a client, as `BareZone::make` does.
+    pub fn make(&mut self, client: ClientNo, call: Call<W>) -> Result<ZoneAnswer, ZoneError>
+        ensures made { IsMade call.entry client self.old.zone self.new.zone result }
+        ensures others { self.new ≡ record self.old { zone = self.new.zone } }
+    {
+        self.zone.make(client, call)
+    }
+
+    /// Begins a round, which has done nothing yet. No page may be on its way.
+    pub(crate) fn begin(&mut self)
+        requires { in_hand self.old.kept ≡ 0 }
+        ensures { self.new ≡ round_opened self.old }
+    {
+        self.zone.begin_round();
+        self.round = Round::new();
+    }
+
+    /// Whether no page is on its way: each that was ever isolated was moved or put back, once.
+    pub fn is_settled(&self) -> bool
+        ensures none { IsTrue result ↔ (out self.now.zone.records ≡ []) }
+        ensures once { IsTrue result → AreEndedOnce self.now.zone.records }
+        ensures hands { IsTrue result → in_hand self.now.kept ≡ 0 }
+    {
+        self.zone.audit().is_ok()
+    }
+
+    /// What the latest round did, if no page is on its way.
+    pub fn settled(&self) -> Option<Round>
+        ensures some { IsSome result ↔ (out self.now.zone.records ≡ []) }
+        ensures round { IfSome result (λ round. round ≡ self.now.round) }
+        ensures settled { IfSome result (WasSettled K.number K.blocks K.memory W) }
+    {
+        if self.is_settled() {
+            Some(self.round)
+        } else {
+            None
+        }
+    }
+
+    /// Whether a place is free.
+    pub(crate) fn is_free(&self, place: usize) -> bool
+        ensures { IsTrue result ↔ (slice_get self.now.kept place ≡ Some None) }
+    {
+        matches!(self.kept.get(place), Some(None))
+    }
+
+    /// Isolates the next page and hands it to a worker, with the rows of both its frames. The zone keeps half of the right to its words
+    /// at a free place.
+    ///
+    /// Refused as JournalFull where `isolate_next` is. A refusal changes nothing but that the round notes it, as it notes Met.
+    pub(crate) fn take_page(&mut self, place: usize) -> Result<Next<PageInHand<K, W>>, ZoneError>
+        requires free { slice_get self.old.kept place ≡ Some None }
+        ensures refused { result_err result ≡ isolate_refusal self.old.zone }
+        ensures err { OnErr result (self.new ≡ stopped self.old Stop.JournalFull) }
+        ensures ok { IfOk result (GetsNext place self.old self.new) }
+    {
+        let next = self.zone.lend_move();
+        self.round.note(&next);
+        let Next::Page(lent) = next? else {
+            return Ok(Next::Met);
+        };
+        let (way, from, to) = lent.into_parts();
+        let (half, from) = from.halve();
+        let page = PageInHand::new(place, way, from, to);
+        let way = page.way();
+        self.kept[place] = Some(KeptHalf { way, half });
+        Ok(Next::Page(page))
+    }
+
+    /// Takes the copy of a page back from a worker, and ends its move: the page is in its new frame afterwards, or in its old one where it
+    /// has a pin. Both halves are put together, which shows that nobody wrote the words that the page left. A copy is handed back
+    /// unless the zone keeps the other half at its place.
+    pub(crate) fn commit(
+        &mut self,
+        copied: CopiedPage<K, W>,
+    ) -> Result<Ended, Stranger<CopiedPage<K, W>>>
+        ensures own { IsOk result ↔ (way_at self.old.kept copied.place ≡ Some copied.way) }
+        ensures back { IfErr result (λ stranger. stranger.0 ≡ copied) }
+        ensures err { OnErr result (self.new ≡ self.old) }
+        ensures ended { IfOk result (λ ended. ended ≡ ended_as self.old.zone copied.way.page) }
+        ensures ok { OnOk result (self.new ≡ page_committed self.old copied.place copied.way) }
+    {
+        let way = copied.page().way();
+        let Some(half) = take_half(&mut self.kept, copied.page().place(), &way) else {
+            return Err(Stranger(copied));
+        };
+        let (from, to) = copied.into_page().into_rows();
+        let moved = CopiedMove::of(LentMove::of(way, half.rejoin(from), to));
+        let Ok(ended) = self.zone.commit_lent(moved) else {
+            unreachable!()
+        };
+        self.round.count(ended);
+        Ok(ended)
+    }
+
+    /// Takes a page back from a worker that didn't copy it: it is in its old frame afterwards. It is handed back unless the zone keeps the
+    /// other half at its place.
+    pub(crate) fn put_back(
+        &mut self,
+        page: PageInHand<K, W>,
+    ) -> Result<(), Stranger<PageInHand<K, W>>>
+        ensures own { IsOk result ↔ (way_at self.old.kept page.place ≡ Some page.way) }
+        ensures back { IfErr result (λ stranger. stranger.0 ≡ page) }
+        ensures err { OnErr result (self.new ≡ self.old) }
+        ensures ok { OnOk result (self.new ≡ page_put_back self.old page.place page.way) }
+    {
+        let way = page.way();
+        let Some(half) = take_half(&mut self.kept, page.place(), &way) else {
+            return Err(Stranger(page));
+        };
+        let (from, to) = page.into_rows();
+        let Ok(()) = self
+            .zone
+            .put_back_lent(LentMove::of(way, half.rejoin(from), to))
+        else {
+            unreachable!()
+        };
+        self.round.count(Ended::Back);
+        Ok(())
+    }
+
+    /// Takes the zone out, with what the latest round did.
+    pub(crate) fn into_parts(self) -> (BareZone<W>, Round)
+        ensures parts { (result.0 ≡ self.zone) × (result.1 ≡ self.round) }
+        ensures identity { HasIdentity K.number K.blocks result.0 }
+        ensures memory { result.0.memory ≡ K.memory }
+    {
+        (self.zone, self.round)
+    }
+}
+
+/// Takes the half out that is kept at a place, if it is that of this move.
+fn take_half(kept: &mut Vec<Option<KeptHalf>>, place: usize, way: &Move) -> Option<Half>
+    ensures own { IsSome result ↔ (way_at kept.old.items place ≡ Some way.now) }
+    ensures half { IfSome result (λ half. slice_get kept.old.items place ≡ Some (Some (record { way = way.now; half = half }))) }
+    ensures taken { OnSome result (kept.new.items ≡ slice_set kept.old.items place None) }
+    ensures none { IfNone result (kept.new.items ≡ kept.old.items) }
+{
+    if !is_kept(kept.as_slice(), place, way) {
+        return None;
+    }
+    let kept = kept[place].take()?;
+    Some(kept.half)
+}
+
+/// Whether the half of this move is kept at a place.
+fn is_kept(kept: &[Option<KeptHalf>], place: usize, way: &Move) -> bool
+    ensures own { IsTrue result ↔ (way_at kept.now place ≡ Some way.now) }
+    ensures half { IsTrue result → (half : Seen) × (slice_get kept.now place ≡ Some (Some (record { way = way.now; half = half }))) }
+{
+    let Some(Some(kept)) = kept.get(place) else {
+        return false;
+    };
+    kept.way == *way
+}
