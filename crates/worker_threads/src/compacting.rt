@@ -17,7 +17,7 @@ use std::thread::{JoinHandle, Scope, Threads};
 
 /// The workers of a round: the one that the caller's thread is, and the others, with room for the handles of their threads.
 #[derive(Drop)]
-struct Crew<K: MemoryIdentity, const W: usize> {
+struct Hired<K: MemoryIdentity, const W: usize> {
     own: Hands<K, W>,
     others: Vec<Hands<K, W>>,
     threads: Vec<JoinHandle<bool>>,
@@ -43,36 +43,29 @@ pub fn compact<K: MemoryIdentity + Send + Sync, const W: usize, G: Gate, R: Thre
     };
     begin(rt, shared)?;
     let whole = in_scope(rt, shared, crew, gate);
-    let settled = shared.lock(rt).settled();
-    match settled {
-        Some(round) if whole => Ok(round),
-        _ => Err(WorkError::Broken),
-    }
+    settle(rt, shared, whole)
 }
 
 /// Takes the memory of so many workers.
 fn reserve<K: MemoryIdentity, const W: usize>(
     alloc: Global,
     workers: usize,
-) -> Result<Crew<K, W>, AllocError>
+) -> Result<Hired<K, W>, AllocError>
     requires { (0 < workers) × (workers ≤ 64) }
     ensures { IfOk result (λ crew. AreEmpty crew.own × All AreEmpty crew.others.items × (vec_len crew.others ≤ vec_capacity crew.threads) × (crew.threads.items ≡ [])) }
 {
     let own = Hands::new(alloc, 0)?;
+    let others = Hands::of_workers(alloc, 1, workers)?;
     let threads = Vec::with_capacity(alloc, workers - 1)?;
-    let mut others = Vec::with_capacity(alloc, workers - 1)?;
-    for worker in 1..workers {
-        others.push_reserved(Hands::new(alloc, worker)?);
-    }
-    Ok(Crew {
+    Ok(Hired {
         own,
         others,
         threads,
     })
 }
 
-/// Begins a round.
-fn begin<K: MemoryIdentity, const W: usize, R: Wait>(
+/// Begins a round. Refused as Busy where a page is moving.
+pub(crate) fn begin<K: MemoryIdentity, const W: usize, R: Wait>(
     rt: &R,
     shared: &CompactingZone<K, W>,
 ) -> Result<(), WorkError> {
@@ -84,11 +77,25 @@ fn begin<K: MemoryIdentity, const W: usize, R: Wait>(
     Ok(())
 }
 
+/// What a round did whose workers have ended. Refused as Broken where a page is still moving, or a copy wasn't taken back.
+pub(crate) fn settle<K: MemoryIdentity, const W: usize, R: Wait>(
+    rt: &R,
+    shared: &CompactingZone<K, W>,
+    whole: bool,
+) -> Result<Round, WorkError>
+    ensures { IfOk result (WasSettled K.number K.blocks K.memory W) }
+{
+    if !whole {
+        return Err(WorkError::Broken);
+    }
+    shared.lock(rt).settled().ok_or(WorkError::Broken)
+}
+
 /// Runs the workers. The answer is whether each copy was taken back.
 fn in_scope<K: MemoryIdentity + Send + Sync, const W: usize, G: Gate, R: Threads + Wait + Sync>(
     rt: &R,
     shared: &CompactingZone<K, W>,
-    crew: Crew<K, W>,
+    crew: Hired<K, W>,
     gate: &G,
 ) -> bool
     requires { AreEmpty crew.own × All AreEmpty crew.others.items × (vec_len crew.others ≤ vec_capacity crew.threads) × (crew.threads.items ≡ []) }
@@ -99,7 +106,7 @@ fn in_scope<K: MemoryIdentity + Send + Sync, const W: usize, G: Gate, R: Threads
         move |scope| -> bool
             requires { AreEmpty crew.own × All AreEmpty crew.others.items × (vec_len crew.others ≤ vec_capacity crew.threads) × (crew.threads.items ≡ []) }
         {
-            let Crew {
+            let Hired {
                 mut own,
                 others,
                 threads,

@@ -6,6 +6,9 @@ pub enum WorkError {
     /// No round was begun.
     #[error("out of memory")]
     Memory,
+    /// The crew has no worker. No round was begun.
+    #[error("no worker stands")]
+    NoWorker,
     /// A page is moving: another round is under way. No round was begun.
     #[error("a page is moving")]
     Busy,

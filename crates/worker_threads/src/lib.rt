@@ -7,6 +7,7 @@
 
 mod compacting;
 mod compacting_zone;
+mod crew;
 mod error;
 mod gate;
 mod identity;
@@ -17,6 +18,7 @@ mod worker;
 
 pub use compacting::compact;
 pub use compacting_zone::CompactingZone;
+pub use crew::{Crew, start};
 pub use error::WorkError;
 pub use gate::{Gate, NoGate};
 pub use identity::MemoryIdentity;

@@ -1,6 +1,6 @@
 //! A worker, which moves pages of a zone.
 
-ghost use Rattle.std.specs.Prelude.{◌≡◌, ◌<◌, [], true, length, IfOk};
+ghost use Rattle.std.specs.Prelude.{◌≡◌, ◌+◌, ◌<◌, ◌≤◌, [], true, All, length, vec_len, IfOk};
 ghost use Rattle.worker_threads.specs.Hands.{AreEmpty};
 ghost use Rattle.worker_threads.specs.Working.{GotPages, all_committed, all_copied};
 
@@ -51,6 +51,23 @@ impl<K: MemoryIdentity, const W: usize> Hands<K, W> {
             pages: VecDeque::with_capacity(alloc, SLICE)?,
             copies: VecDeque::with_capacity(alloc, SLICE)?,
         })
+    }
+
+    /// The empty hands of each of so many workers, from this one on.
+    pub(crate) fn of_workers(
+        alloc: Global,
+        first: usize,
+        workers: usize,
+    ) -> Result<Vec<Self>, AllocError>
+        requires { (first ≤ workers) × (workers ≤ 64) }
+        ensures empty { IfOk result (λ hands. All AreEmpty hands.items) }
+        ensures count { IfOk result (λ hands. vec_len hands + first ≡ workers) }
+    {
+        let mut hands = Vec::with_capacity(alloc, workers - first)?;
+        for worker in first..workers {
+            hands.push_reserved(Hands::new(alloc, worker)?);
+        }
+        Ok(hands)
     }
 
     /// Copies each page.

@@ -1,0 +1,12 @@
+use Rattle.std.proofs.Common.{◌+◌, ◌≤◌, All, vec_len, vec_capacity}
+use Rattle.worker_threads.specs.Hands.{AreEmpty}
+use Rattle.worker_threads.proofs.crew.start_all.Given as goal
+
+abbrev pub invariant-loop-hands : goal.invariant-loop-hands
+invariant-loop-hands g l = record {
+  empty : All AreEmpty l.all.items;
+  room : vec_len l.threads + vec_len l.all ≤ vec_capacity l.threads;
+}
+
+abbrev pub decreases-loop-hands : goal.decreases-loop-hands
+decreases-loop-hands g l = vec_len l.all
