@@ -12,20 +12,19 @@ import runs
 
 CRATE = "other_seat"
 LIBRARIES = "frame_core zone_core"
-WANTED = "error[mismatched-types]: expected `&mut EndSeat<M, B>`, found `&mut EndSeat<P, Q>`"
+WANTED = "error[mismatched-types]: expected `&mut EndSeat<MovedPages<Y>, PagesBack<Y>>`, found `&mut EndSeat<MovedPages<Z>, PagesBack<Z>>`"
 
 HEAD = """//! Ends a move in one of two zones.
 #![tactic(auto)]
 
 use frame_core::Copied;
-use std::sync::ledger::Ledger;
-use zone_core::{EndSeat, Ended, Stranger, Zone};
+use zone_core::{EndSeatIn, Ended, Opening, Stranger, ZoneIn};
 """
 FUNCTION = """
 /// Ends a move in the first zone.
-pub fn NAME<I: Ledger, M: Ledger, B: Ledger, J: Ledger, P: Ledger, Q: Ledger>(
-    zone: &mut Zone<I, M, B>,
-    _other: &mut Zone<J, P, Q>,
+pub fn NAME<Y: Opening, Z: Opening>(
+    zone: &mut ZoneIn<Y>,
+    _other: &mut ZoneIn<Z>,
     seat: &mut SEAT,
     copied: Copied,
 ) -> Result<Ended, Stranger<Copied>> {
@@ -52,7 +51,7 @@ def main():
     runs.need_proof("a proof of the crates up to zone_core")
     with tempfile.TemporaryDirectory() as folder:
         crate = copy_repository(pathlib.Path(folder))
-        both = function("end", "EndSeat<M, B>") + function("end_elsewhere", "EndSeat<P, Q>")
+        both = function("end", "EndSeatIn<Y>") + function("end_elsewhere", "EndSeatIn<Z>")
         (crate / "src/lib.rt").write_text(HEAD + both)
         checked = runs.finished([runs.rt(), "check"], cwd=crate)
     log = (checked.output + checked.error).decode(errors="replace")

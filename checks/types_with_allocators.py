@@ -90,6 +90,7 @@ MAY_BRING_IN = {
     "std::fmt",
     "std::fmt::{Display, Formatter}",
     "std::marker::Model",
+    "std::marker::{Brand, PhantomData}",
     "std::marker::{Model, PhantomData}",
     "std::marker::{Move, Owns}",
     "std::mem::ManuallyDrop",

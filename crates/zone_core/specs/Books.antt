@@ -8,18 +8,12 @@ use Rattle.zone_core.specs.declared.seats.Answered.{Answered}
 use Rattle.zone_core.specs.declared.seats.Answered.TheVariants as answered
 use Rattle.zone_core.specs.declared.seats.Blanks.{Blanks}
 
--- a blank is made for the ledger with this name and this many parts
-pub record IsFor (blank_name blank_parts name parts : ℕ) : Type 0 where
-  pub name_is : blank_name ≡ name
-  pub parts_are : blank_parts ≡ parts
-
--- four blanks are made for the ledgers with these names and parts: of the scanner, of the rounds, of the pages moved
--- and of the pages put back
-pub record AreFor (blanks : Blanks) (isolated isolated_parts rounds rounds_parts moved moved_parts back back_parts : ℕ) : Type 0 where
-  pub isolated_is : IsFor blanks.isolated.name blanks.isolated.parts isolated isolated_parts
-  pub rounds_is : IsFor blanks.rounds.name blanks.rounds.parts rounds rounds_parts
-  pub moved_is : IsFor blanks.moved.name blanks.moved.parts moved moved_parts
-  pub back_is : IsFor blanks.back.name blanks.back.parts back back_parts
+-- four blanks are made for the ledgers with these names: of the scanner, of the rounds, of the pages moved and of the pages put back
+pub record AreFor (blanks : Blanks) (isolated rounds moved back : ℕ) : Type 0 where
+  pub isolated_is : blanks.isolated.name ≡ isolated
+  pub rounds_is : blanks.rounds.name ≡ rounds
+  pub moved_is : blanks.moved.name ≡ moved
+  pub back_is : blanks.back.name ≡ back
 
 -- the ledger of the scanner has one part, and those of moved pages and of pages put back have 64, so that up to 64 seats may
 -- end moves at once

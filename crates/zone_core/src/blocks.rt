@@ -8,12 +8,11 @@ ghost use Rattle.state_core.specs.Marking.{mark_refusal, unmark_refusal, block_m
 ghost use Rattle.state_core.specs.ZoneState.{is_whole};
 ghost use Rattle.zone_core.specs.ZoneIdentity.{HasIdentity};
 
-use crate::zone::Zone;
+use crate::opening::{Opening, ZoneInOf};
 use frame_core::{BlockNo, FrameNo, Order, block_of, first_frame};
 use state_core::ZoneError;
-use std::sync::ledger::Ledger;
 
-impl<const W: usize, I: Ledger, M: Ledger, B: Ledger> Zone<W, I, M, B> {
+impl<const W: usize, Z: Opening> ZoneInOf<W, Z> {
     /// Hands out the lowest free block of an order, 3 to 9, and answers its first frame. The block has 2^order frames, of
     /// which no page has one, and its first frame is a multiple of 2^order. Marks don't count here.
     ///

@@ -7,12 +7,11 @@ ghost use Rattle.state_core.specs.Valid.{IsValidZone};
 ghost use Rattle.state_core.specs.Pairs.{HaveMet};
 ghost use Rattle.zone_core.specs.ZoneIdentity.{HasIdentity};
 
-use crate::zone::Zone;
+use crate::opening::{Opening, ZoneInOf};
 use frame_core::{Address, ClientNo, WordOf};
 use state_core::ZoneError;
-use std::sync::ledger::Ledger;
 
-impl<const W: usize, I: Ledger, M: Ledger, B: Ledger> Zone<W, I, M, B> {
+impl<const W: usize, Z: Opening> ZoneInOf<W, Z> {
     /// Reads words of the page that an address names, from one on, into `values`: as loads of these words do, one after the
     /// other.
     ///

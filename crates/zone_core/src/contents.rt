@@ -1,4 +1,4 @@
-//! Reading and writing the words of blocks that are handed out.
+//! Reading and writing the words of blocks that a `Zone` handed out.
 
 ghost use Rattle.std.specs.Prelude.{◌≡◌, ◌*◌, ◌^◌, ℕ, List, length, IsTrue, IfOk, OnOk, OnErr};
 ghost use Rattle.std.specs.FinMap as map;
@@ -10,12 +10,11 @@ ghost use Rattle.state_core.specs.Valid.{IsValidZone};
 ghost use Rattle.state_core.specs.Pairs.{HaveMet};
 ghost use Rattle.zone_core.specs.ZoneIdentity.{HasIdentity};
 
-use crate::zone::Zone;
+use crate::opening::{Opening, ZoneInOf};
 use frame_core::{FrameNo, Order};
 use state_core::ZoneError;
-use std::sync::ledger::Ledger;
 
-impl<const W: usize, I: Ledger, M: Ledger, B: Ledger> Zone<W, I, M, B> {
+impl<const W: usize, Z: Opening> ZoneInOf<W, Z> {
     /// Reads words of a block that is handed out, from one on, into `values`. The block is named by its first frame and its
     /// order.
     ///

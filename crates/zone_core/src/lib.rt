@@ -7,7 +7,8 @@
 //! counters. The clauses of each call say when it is refused and which step that machine makes, by the definitions of that
 //! crate. Seats are seen as the records of `specs/Seats.antt`.
 //!
-//! A `ZoneOf<W, ..>` has pages of `W` words, at most 65,536. A `Zone<..>` has pages of eight.
+//! A `ZoneOf<W, ..>` has pages of `W` words, at most 65,536. A `Zone<..>` has pages of eight. A type `Z` with the trait `Opening` names an opened
+//! zone, which is a `ZoneInOf<W, Z>` or a `ZoneIn<Z>` then, and its seats.
 //!
 //! The words (zone, pageblock, order, isolate, put back, pin) are those of the Linux kernel's memory management. What they
 //! mean here is this project's own profile.
@@ -26,6 +27,7 @@ mod bulk;
 mod contents;
 mod making;
 mod one_thread;
+mod opening;
 mod outcome;
 mod rounds;
 mod seats;
@@ -40,6 +42,10 @@ pub use frame_core::{
     Order, PageFlags, PageNo, Record, Serial, SpaceNo, VPage, WordNo, WordOf, ZoneNo,
 };
 pub use one_thread::compact;
+pub use opening::{
+    EndSeatIn, IsolatedPages, MovedPages, Opening, PagesBack, Rounds, ScanSeatIn, SeatsIn, ZoneIn,
+    ZoneInOf,
+};
 pub use outcome::{comes_to_by_hand, each_step_keeps, packs_a_calm_zone};
 pub use seats::{Answered, Blanks, EndSeat, ScanSeat, Seats};
 pub use state_core::{

@@ -7,12 +7,11 @@ ghost use Rattle.state_core.specs.Valid.{IsValidZone};
 ghost use Rattle.state_core.specs.Pairs.{HaveMet};
 ghost use Rattle.zone_core.specs.ZoneIdentity.{HasIdentity};
 
-use crate::zone::Zone;
+use crate::opening::{Opening, ZoneInOf};
 use frame_core::ClientNo;
 use state_core::{ZoneAnswer, ZoneCallOf as Call, ZoneError};
-use std::sync::ledger::Ledger;
 
-impl<const W: usize, I: Ledger, M: Ledger, B: Ledger> Zone<W, I, M, B> {
+impl<const W: usize, Z: Opening> ZoneInOf<W, Z> {
     /// Makes a call of a client: the method of its name does it, and may refuse it. A call that names no address is the same
     /// whichever client makes it.
     #[inline(always)]

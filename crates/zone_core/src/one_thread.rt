@@ -10,19 +10,18 @@ ghost use Rattle.state_core.specs.Pairs.{is_calm};
 ghost use Rattle.zone_core.specs.Seats.{audit_refusal};
 ghost use Rattle.zone_core.specs.OneThread.{last_by_hand};
 
-use crate::seats::{Answered, EndSeat, Seats};
-use crate::zone::Zone as ZoneOf;
+use crate::opening::{EndSeatIn, Opening, SeatsIn, ZoneInOf};
+use crate::seats::Answered;
 use frame_core::IsolatedOf;
 use state_core::{Next, ZoneError};
-use std::sync::ledger::Ledger;
 
 /// Runs one round on the thread that calls, and tells why its scanner stopped: `Met`, or `JournalFull`. No other thread is
 /// needed, and no memory.
 ///
 /// Refused as Missing where a part of the end seat is missing, else as Out where a page is moving.
-pub fn compact<const W: usize, I: Ledger, N: Ledger, M: Ledger, B: Ledger>(
-    zone: &mut ZoneOf<W, I, M, B>,
-    seats: &mut Seats<I, N, M, B>,
+pub fn compact<const W: usize, Z: Opening>(
+    zone: &mut ZoneInOf<W, Z>,
+    seats: &mut SeatsIn<Z>,
 ) -> Result<Answered, ZoneError>
     requires size { W ≤ 65536 }
     ensures refused { result_err result ≡ audit_refusal zone.old seats.old.ends }
@@ -51,9 +50,9 @@ pub fn compact<const W: usize, I: Ledger, N: Ledger, M: Ledger, B: Ledger>(
 }
 
 /// Copies an isolated page and moves it.
-fn carry<const W: usize, I: Ledger, M: Ledger, B: Ledger>(
-    zone: &mut ZoneOf<W, I, M, B>,
-    ends: &mut EndSeat<M, B>,
+fn carry<const W: usize, Z: Opening>(
+    zone: &mut ZoneInOf<W, Z>,
+    ends: &mut EndSeatIn<Z>,
     page: IsolatedOf<W>,
 )
     requires own { IsOwnCopy zone.old page }

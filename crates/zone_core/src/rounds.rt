@@ -13,16 +13,15 @@ ghost use Rattle.state_core.specs.Pairs.{HaveMet, is_calm, next_pair};
 ghost use Rattle.std.specs.Result.{result_err};
 ghost use Rattle.state_core.specs.ZoneState.{is_quiet};
 
-use crate::seats::{Answered, EndSeat, ScanSeat};
-use crate::zone::Zone;
+use crate::opening::{EndSeatIn, Opening, ScanSeatIn, ZoneInOf};
+use crate::seats::Answered;
 use frame_core::{Cause, CopiedOf, IsolatedOf};
 use state_core::{Audit, Ended, Next, Stranger, ZoneError};
-use std::sync::ledger::Ledger;
 
-impl<const W: usize, I: Ledger, M: Ledger, B: Ledger> Zone<W, I, M, B> {
+impl<const W: usize, Z: Opening> ZoneInOf<W, Z> {
     /// Begins a round: the migrate finger is set to the bottom of the zone, and the free finger above its top. The seat
     /// counts the round. A round may begin while pages are moving, but then it isn't quiet.
-    pub fn begin_round<N: Ledger>(&mut self, seat: &mut ScanSeat<I, N>)
+    pub fn begin_round(&mut self, seat: &mut ScanSeatIn<Z>)
         ensures zone { self.new ≡ round_begun self.old }
         ensures seat { seat.new ≡ seat_begun seat.old }
         ensures quiet { is_quiet self.new ≡ is_calm self.old }
@@ -36,7 +35,7 @@ impl<const W: usize, I: Ledger, M: Ledger, B: Ledger> Zone<W, I, M, B> {
     }
 
     /// Shows that the seat has counted the pages that were isolated, and changes nothing.
-    pub fn show_count<N: Ledger>(&mut self, seat: &mut ScanSeat<I, N>)
+    pub fn show_count(&mut self, seat: &mut ScanSeatIn<Z>)
         ensures serial { seat.old.count ≡ isolated self.old.records }
         ensures same { (self.new ≡ self.old) × (seat.new ≡ seat.old) }
         ensures valid { IsValidZone self.new }
@@ -50,9 +49,9 @@ impl<const W: usize, I: Ledger, M: Ledger, B: Ledger> Zone<W, I, M, B> {
     /// Refused as JournalFull unless the journal has at least two places more than pages are moving. The seat notes
     /// this too.
     #[inline(always)]
-    pub fn isolate_next<N: Ledger>(
+    pub fn isolate_next(
         &mut self,
-        seat: &mut ScanSeat<I, N>,
+        seat: &mut ScanSeatIn<Z>,
     ) -> Result<Next<IsolatedOf<W>>, ZoneError>
         ensures refused { result_err result ≡ isolate_refusal self.old }
         ensures err { OnErr result (self.new ≡ self.old) }
@@ -86,7 +85,7 @@ impl<const W: usize, I: Ledger, M: Ledger, B: Ledger> Zone<W, I, M, B> {
     #[inline(always)]
     pub fn commit(
         &mut self,
-        seat: &mut EndSeat<M, B>,
+        seat: &mut EndSeatIn<Z>,
         copied: CopiedOf<W>,
     ) -> Result<Ended, Stranger<CopiedOf<W>>>
         ensures own { IsOk result ↔ IsOwnCopy self.old copied.entry }
@@ -116,7 +115,7 @@ impl<const W: usize, I: Ledger, M: Ledger, B: Ledger> Zone<W, I, M, B> {
     /// handed back unless it is moving in this zone under its serial.
     pub fn put_back(
         &mut self,
-        seat: &mut EndSeat<M, B>,
+        seat: &mut EndSeatIn<Z>,
         isolated: IsolatedOf<W>,
     ) -> Result<(), Stranger<IsolatedOf<W>>>
         ensures own { IsOk result ↔ (is_own self.old isolated.entry ≡ true) }
@@ -144,10 +143,10 @@ impl<const W: usize, I: Ledger, M: Ledger, B: Ledger> Zone<W, I, M, B> {
     /// The counts of pages isolated, moved and put back, which are those of the two seats.
     ///
     /// Refused as Missing where a part of the end seat is missing, else as Out where a page is moving.
-    pub fn audit<N: Ledger>(
+    pub fn audit(
         &mut self,
-        scan: &mut ScanSeat<I, N>,
-        ends: &mut EndSeat<M, B>,
+        scan: &mut ScanSeatIn<Z>,
+        ends: &mut EndSeatIn<Z>,
     ) -> Result<Audit, ZoneError>
         ensures refused { result_err result ≡ audit_refusal self.old ends.old }
         ensures ok { IfOk result (λ audit. IsAudited self.old scan.old ends.old audit) }

@@ -1,6 +1,9 @@
 ghost use Rattle.std.specs.Prelude.{◌≡◌, ◌+◌, ◌-◌, ◌<◌, ◌≤◌, ◌↔◌, nat_eq, Some, None, IsSome, IfSome, OnSome, IfNone};
 ghost use Rattle.zone_core.specs.Seats.{fresh_scan_seat, fresh_end_seat, met_mark, scan_amount, seat_begun};
 
+use crate::opening::{
+    EndSeatIn, IsolatedPages, MovedPages, Opening, PagesBack, Rounds, ScanSeatIn,
+};
 use std::marker::Model;
 use std::sync::ledger::{Blank, Book, Ledger, Share};
 
@@ -110,16 +113,16 @@ pub struct Seats<I: Ledger, N: Ledger, M: Ledger, B: Ledger> {
     pub ends: EndSeat<M, B>,
 }
 
-impl<I: Ledger, N: Ledger> ScanSeat<I, N> {
+impl<Z: Opening> ScanSeatIn<Z> {
     /// The scan seat of a zone that was just opened.
-    pub(crate) fn opened(isolated: Share<I>, rounds: Blank) -> Self
+    pub(crate) fn opened(isolated: Share<IsolatedPages<Z>>, rounds: Blank) -> Self
         requires whole { isolated.parts ≡ 1 }
         requires unused { isolated.amount ≡ 0 }
-        requires name { rounds.name ≡ N.name }
-        requires parts { (rounds.parts ≡ N.parts) × (rounds.parts ≡ 1) }
+        requires name { rounds.name ≡ Z.rounds }
+        requires parts { rounds.parts ≡ 1 }
         ensures { result ≡ fresh_scan_seat }
     {
-        let (rounds, begun) = rounds.open::<N>();
+        let (rounds, begun) = rounds.open::<Rounds<Z>>();
         ScanSeat {
             isolated,
             rounds,
@@ -127,12 +130,9 @@ impl<I: Ledger, N: Ledger> ScanSeat<I, N> {
             last: None,
         }
     }
-}
 
-impl<I: Ledger, N: Ledger> ScanSeat<I, N> {
     /// Tells that the book's total is what the seat has in it.
-    pub(crate) fn tell(&mut self, book: &mut Book<I>)
-        requires { I.parts ≡ 1 }
+    pub(crate) fn tell(&mut self, book: &mut Book<IsolatedPages<Z>>)
         ensures total { book.old.total ≡ scan_amount self.old.count self.old.last }
         ensures seat { self.new ≡ self.old }
         ensures book { book.new.total ≡ book.old.total }
@@ -141,8 +141,7 @@ impl<I: Ledger, N: Ledger> ScanSeat<I, N> {
     }
 
     /// Counts one page more, and notes that the last answer was a page.
-    pub(crate) fn count(&mut self, book: &mut Book<I>)
-        requires { I.parts ≡ 1 }
+    pub(crate) fn count(&mut self, book: &mut Book<IsolatedPages<Z>>)
         ensures seat { self.new ≡ record self.old { count = self.old.count + 1; last = Some Answered.Page } }
         ensures book { book.new.total ≡ scan_amount (self.old.count + 1) (Some Answered.Page) }
     {
@@ -151,8 +150,7 @@ impl<I: Ledger, N: Ledger> ScanSeat<I, N> {
     }
 
     /// Notes an answer that isn't a page.
-    pub(crate) fn note(&mut self, book: &mut Book<I>, answer: Answered)
-        requires { I.parts ≡ 1 }
+    pub(crate) fn note(&mut self, book: &mut Book<IsolatedPages<Z>>, answer: Answered)
         ensures seat { self.new ≡ record self.old { last = Some answer } }
         ensures book { book.new.total ≡ scan_amount self.old.count (Some answer) }
     {
@@ -160,8 +158,7 @@ impl<I: Ledger, N: Ledger> ScanSeat<I, N> {
     }
 
     /// Counts one round more, in which there was no answer yet.
-    pub(crate) fn begin(&mut self, book: &mut Book<I>)
-        requires { I.parts ≡ 1 }
+    pub(crate) fn begin(&mut self, book: &mut Book<IsolatedPages<Z>>)
         ensures seat { self.new ≡ seat_begun self.old }
         ensures book { book.new.total ≡ scan_amount self.old.count None }
     {
@@ -170,8 +167,7 @@ impl<I: Ledger, N: Ledger> ScanSeat<I, N> {
     }
 
     // Sets the last answer, and its mark in the ledger.
-    fn set_last(&mut self, book: &mut Book<I>, last: Option<Answered>)
-        requires { I.parts ≡ 1 }
+    fn set_last(&mut self, book: &mut Book<IsolatedPages<Z>>, last: Option<Answered>)
         ensures seat { self.new ≡ record self.old { last = last } }
         ensures book { book.new.total ≡ scan_amount self.old.count last }
     {
@@ -189,9 +185,9 @@ fn met_mark(last: Option<Answered>) -> u64
     u64::from(last == Some(Answered::Met))
 }
 
-impl<M: Ledger, B: Ledger> EndSeat<M, B> {
+impl<Z: Opening> EndSeatIn<Z> {
     /// Counts one more page that was moved.
-    pub(crate) fn count_moved(&mut self, book: &mut Book<M>)
+    pub(crate) fn count_moved(&mut self, book: &mut Book<MovedPages<Z>>)
         ensures seat { self.new ≡ record self.old { moved = self.old.moved + 1 } }
         ensures book { book.new.total ≡ book.old.total + 1 }
     {
@@ -199,7 +195,7 @@ impl<M: Ledger, B: Ledger> EndSeat<M, B> {
     }
 
     /// Counts one more page that was put back.
-    pub(crate) fn count_back(&mut self, book: &mut Book<B>)
+    pub(crate) fn count_back(&mut self, book: &mut Book<PagesBack<Z>>)
         ensures seat { self.new ≡ record self.old { back = self.old.back + 1 } }
         ensures book { book.new.total ≡ book.old.total + 1 }
     {
@@ -207,7 +203,7 @@ impl<M: Ledger, B: Ledger> EndSeat<M, B> {
     }
 
     /// Tells that the books' counts are the seat's where no part of the seat is missing.
-    pub(crate) fn tell(&mut self, moved: &mut Book<M>, back: &mut Book<B>)
+    pub(crate) fn tell(&mut self, moved: &mut Book<MovedPages<Z>>, back: &mut Book<PagesBack<Z>>)
         ensures moved { self.old.parts ≡ 64 → self.old.moved ≡ moved.old.total }
         ensures back { self.old.parts ≡ 64 → self.old.back ≡ back.old.total }
         ensures seat { self.new ≡ self.old }
@@ -226,7 +222,7 @@ impl<M: Ledger, B: Ledger> EndSeat<M, B> {
     }
 
     /// Gives off one part, as a seat with which nothing was counted. None where this seat has only one part.
-    pub fn split(&mut self) -> Option<EndSeat<M, B>>
+    pub fn split(&mut self) -> Option<EndSeatIn<Z>>
         ensures some { IsSome result ↔ (1 < self.old.parts) }
         ensures part { IfSome result (λ part. part ≡ record { parts = 1; moved = 0; back = 0 }) }
         ensures rest { OnSome result (self.new ≡ record self.old { parts = self.old.parts - 1 }) }
@@ -246,7 +242,7 @@ impl<M: Ledger, B: Ledger> EndSeat<M, B> {
     }
 
     /// Adds the parts of another seat of the same zone, and what was counted with it.
-    pub fn join(&mut self, other: EndSeat<M, B>)
+    pub fn join(&mut self, other: EndSeatIn<Z>)
         ensures sum { self.new ≡ record {
           parts = self.old.parts + other.parts;
           moved = self.old.moved + other.moved;
@@ -261,8 +257,7 @@ impl<M: Ledger, B: Ledger> EndSeat<M, B> {
     }
 
     /// The end seat of a zone that was just opened.
-    pub(crate) fn opened(moved: Share<M>, back: Share<B>) -> Self
-        requires ledgers { (M.parts ≡ 64) × (B.parts ≡ 64) }
+    pub(crate) fn opened(moved: Share<MovedPages<Z>>, back: Share<PagesBack<Z>>) -> Self
         requires whole { (moved.parts ≡ 64) × (back.parts ≡ 64) }
         requires unused { (moved.amount ≡ 0) × (back.amount ≡ 0) }
         ensures { result ≡ fresh_end_seat }

@@ -8,12 +8,11 @@ ghost use Rattle.state_core.specs.Unmapping.{unmap_refusal, unmapped};
 ghost use Rattle.state_core.specs.Pinning.{pin_refusal, pinned, unpin_refusal, unpinned};
 ghost use Rattle.zone_core.specs.ZoneIdentity.{HasIdentity};
 
-use crate::zone::Zone;
+use crate::opening::{Opening, ZoneInOf};
 use frame_core::{Address, ClientNo};
 use state_core::ZoneError;
-use std::sync::ledger::Ledger;
 
-impl<const W: usize, I: Ledger, M: Ledger, B: Ledger> Zone<W, I, M, B> {
+impl<const W: usize, Z: Opening> ZoneInOf<W, Z> {
     /// Makes an alias name the page of an address too. A page has at most 4 addresses.
     ///
     /// Refused as Range where the zone has no such alias, as JournalFull, as Unmapped or Moving for the address, as Occupied for the alias, or as

@@ -8,13 +8,12 @@ ghost use Rattle.state_core.specs.ZoneState.{frame_count, words_frame};
 ghost use Rattle.state_core.specs.declared.placement.Placement.{Placement};
 ghost use Rattle.frame_core.specs.Words.{word_of};
 
-use crate::zone::Zone;
+use crate::opening::{Opening, ZoneInOf};
 use frame_core::WordsOf;
 use scan_core::Frames;
-use std::sync::ledger::Ledger;
 use table_core::Tables;
 
-impl<const W: usize, I: Ledger, M: Ledger, B: Ledger> Zone<W, I, M, B> {
+impl<const W: usize, Z: Opening> ZoneInOf<W, Z> {
     /// The entry of each address, and the addresses that are listed under each frame.
     pub fn tables(&self) -> &Tables
         ensures entries { EntriesFit result.now.entries self.now }

@@ -19,6 +19,9 @@ ghost use Rattle.frame_core.specs.PageFlags.{is_unmovable};
 ghost use Rattle.state_core.specs.ZoneState.{frame_count, frame_for, noted, keeps_quiet, is_quiet};
 
 use crate::bare::BareZone;
+use crate::opening::{
+    EndSeatIn, IsolatedPages, MovedPages, Opening, PagesBack, ScanSeatIn, ZoneInOf,
+};
 use crate::seats::{Blanks, EndSeat, ScanSeat};
 use frame_core::{Address, ClientNo, FrameNo, Journal, PageFlags, WordOf, ZoneNo};
 use state_core::{Info, Look, ZoneError, ZoneSize};
@@ -69,18 +72,27 @@ impl<const W: usize, I: Ledger, M: Ledger, B: Ledger> Model for Zone<W, I, M, B>
 }
 
 impl<const W: usize, I: Ledger, M: Ledger, B: Ledger> Zone<W, I, M, B> {
-    /// An empty zone with this many pageblocks and this many places in its journal, and its two seats. The blanks are those
-    /// of the ledgers that the types name. They are dropped where the call is refused.
+    /// The zone without its ledgers, to be asked what only a bare zone answers.
+    pub fn bare(&self) -> &BareZone<W>
+        ensures { result.now ≡ self.now }
+    {
+        &self.bare
+    }
+}
+
+impl<const W: usize, Z: Opening> ZoneInOf<W, Z> {
+    /// An empty zone with this many pageblocks and this many places in its journal, and its two seats. The blanks
+    /// have the names of `Z`. They are dropped where the call is refused.
     ///
     /// Refused as Range unless there are 1 to 8 pageblocks and 1 to 65,536 places, else as Memory where there isn't enough.
-    pub fn open<N: Ledger>(
+    pub fn open(
         alloc: Global,
         number: ZoneNo,
         blocks: u32,
         places: u32,
         blanks: Blanks,
-    ) -> Result<(Zone<W, I, M, B>, ScanSeat<I, N>, EndSeat<M, B>), ZoneError>
-        requires blanks { AreFor blanks I.name I.parts N.name N.parts M.name M.parts B.name B.parts }
+    ) -> Result<(ZoneInOf<W, Z>, ScanSeatIn<Z>, EndSeatIn<Z>), ZoneError>
+        requires blanks { AreFor blanks Z.isolated Z.rounds Z.moved Z.back }
         requires size { W ≤ 65536 }
         ensures range { ¬ (IsOpenable blocks places) → result ≡ Err ZoneError.Range }
         ensures memory { IsOpenable blocks places → IfErr result (λ error. error ≡ ZoneError.Memory) }
@@ -97,13 +109,13 @@ impl<const W: usize, I: Ledger, M: Ledger, B: Ledger> Zone<W, I, M, B> {
     /// there is room for 2^53.
     ///
     /// Refused as Range unless there are 1 to 32,768 pageblocks, else as Memory where there isn't enough.
-    pub fn open_unrecorded<N: Ledger>(
+    pub fn open_unrecorded(
         alloc: Global,
         number: ZoneNo,
         blocks: u32,
         blanks: Blanks,
-    ) -> Result<(Zone<W, I, M, B>, ScanSeat<I, N>, EndSeat<M, B>), ZoneError>
-        requires blanks { AreFor blanks I.name I.parts N.name N.parts M.name M.parts B.name B.parts }
+    ) -> Result<(ZoneInOf<W, Z>, ScanSeatIn<Z>, EndSeatIn<Z>), ZoneError>
+        requires blanks { AreFor blanks Z.isolated Z.rounds Z.moved Z.back }
         requires size { W ≤ 65536 }
         ensures range { ¬ (IsSize blocks) → result ≡ Err ZoneError.Range }
         ensures memory { IsSize blocks → IfErr result (λ error. error ≡ ZoneError.Memory) }
@@ -119,14 +131,14 @@ impl<const W: usize, I: Ledger, M: Ledger, B: Ledger> Zone<W, I, M, B> {
     /// An empty zone of any size, and its two seats. Its journal keeps its records in so many places, or is unrecorded where that is none.
     ///
     /// Refused as `BareZone::open_sized` is.
-    pub fn open_sized<N: Ledger>(
+    pub fn open_sized(
         alloc: Global,
         number: ZoneNo,
         size: ZoneSize,
         places: Option<u32>,
         blanks: Blanks,
-    ) -> Result<(Zone<W, I, M, B>, ScanSeat<I, N>, EndSeat<M, B>), ZoneError>
-        requires blanks { AreFor blanks I.name I.parts N.name N.parts M.name M.parts B.name B.parts }
+    ) -> Result<(ZoneInOf<W, Z>, ScanSeatIn<Z>, EndSeatIn<Z>), ZoneError>
+        requires blanks { AreFor blanks Z.isolated Z.rounds Z.moved Z.back }
         requires words { W ≤ 65536 }
         ensures range { ¬ (IsAllowed size places) → result ≡ Err ZoneError.Range }
         ensures memory { IsAllowed size places → IfErr result (λ error. error ≡ ZoneError.Memory) }
@@ -140,13 +152,10 @@ impl<const W: usize, I: Ledger, M: Ledger, B: Ledger> Zone<W, I, M, B> {
     }
 
     /// The zone with its ledgers and seats.
-    fn seated<N: Ledger>(
-        bare: BareZone<W>,
-        blanks: Blanks,
-    ) -> (Zone<W, I, M, B>, ScanSeat<I, N>, EndSeat<M, B>)
+    fn seated(bare: BareZone<W>, blanks: Blanks) -> (ZoneInOf<W, Z>, ScanSeatIn<Z>, EndSeatIn<Z>)
         requires fresh { (number : ℕ) × (size : Size) × (places : ℕ) × (bare ≡ opened_sized W number size places) }
         requires valid { IsValidZone bare }
-        requires blanks { AreFor blanks I.name I.parts N.name N.parts M.name M.parts B.name B.parts }
+        requires blanks { AreFor blanks Z.isolated Z.rounds Z.moved Z.back }
         ensures zone { result.0 ≡ bare.entry }
         ensures valid { IsValidZone result.0 }
         ensures scan { result.1 ≡ fresh_scan_seat }
@@ -158,9 +167,9 @@ impl<const W: usize, I: Ledger, M: Ledger, B: Ledger> Zone<W, I, M, B> {
             moved,
             back,
         } = blanks;
-        let (isolated, isolated_share) = isolated.open::<I>();
-        let (moved, moved_share) = moved.open::<M>();
-        let (back, back_share) = back.open::<B>();
+        let (isolated, isolated_share) = isolated.open::<IsolatedPages<Z>>();
+        let (moved, moved_share) = moved.open::<MovedPages<Z>>();
+        let (back, back_share) = back.open::<PagesBack<Z>>();
         let zone = Zone {
             bare,
             isolated,
@@ -282,13 +291,6 @@ impl<const W: usize, I: Ledger, M: Ledger, B: Ledger> Zone<W, I, M, B> {
         ensures swept { result ≡ true → IsSwept self.now }
     {
         self.bare.quiet()
-    }
-
-    /// The zone without its ledgers, to be asked what only a bare zone answers.
-    pub fn bare(&self) -> &BareZone<W>
-        ensures { result.now ≡ self.now }
-    {
-        &self.bare
     }
 
     /// The number that the zone was opened with.

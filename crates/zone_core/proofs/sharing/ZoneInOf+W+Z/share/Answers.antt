@@ -1,0 +1,5 @@
+use Rattle.zone_core.proofs.StaysBooked.{booked_made}
+use Rattle.zone_core.proofs.sharing.ZoneInOf+W+Z.share.Goals as goal
+
+pub invariant_of-self : goal.invariant_of-self
+invariant_of-self g c = (booked_made c.share.ensures.made c.self.invariant.2 c.self.invariant.0, c.self.invariant.1, c.share.ensures.made.valid)

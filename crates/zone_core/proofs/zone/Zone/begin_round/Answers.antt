@@ -1,5 +1,0 @@
-use Rattle.zone_core.proofs.StaysBooked.{seat_counted}
-use Rattle.zone_core.proofs.zone.Zone.begin_round.Goals as goal
-
-pub returns-clause-serial : goal.returns-clause-serial
-returns-clause-serial g c = rw (← c.self.view_is) (seat_counted c.args.seat.now.count c.args.seat.now.last c.self.invariant.0 c.tell.ensures.total)

@@ -1,8 +1,0 @@
-use Rattle.zone_core.proofs.StaysBooked.{booked_made}
-use Rattle.zone_core.proofs.zone.Zone.map.Goals as goal
-
-pub invariant_of-self : goal.invariant_of-self
-invariant_of-self g c = (booked_made c.map.ensures.made c.self.invariant.2 c.self.invariant.0, c.self.invariant.1, c.map.ensures.made.valid)
-
-pub invariant_of-self-2 : goal.invariant_of-self-2
-invariant_of-self-2 g c = (booked_made c.map.ensures.made c.self.invariant.2 c.self.invariant.0, c.self.invariant.1, c.map.ensures.made.valid)

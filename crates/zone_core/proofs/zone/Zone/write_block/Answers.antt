@@ -1,4 +1,0 @@
-use Rattle.zone_core.proofs.zone.Zone.write_block.Goals as goal
-
-pub returns-clause-met : goal.returns-clause-met
-returns-clause-met g c = rw (← c.self.view_is) c.write_block.ensures.met
