@@ -15,32 +15,24 @@ use crate::error::RoundError;
 use crate::gate::Gate;
 use crate::keeping::Keeping;
 use crate::round::{Round, Stop};
-use crate::shared_zone::KeptZone;
+use crate::shared_zone::KeptIn;
 use std::alloc::Global;
 use std::marker::Brand;
 use std::sync::Wait;
-use std::sync::ledger::Ledger;
 use std::thread::Threads;
-use zone_core::{Seats, Zone};
+use zone_core::{Opening, SeatsIn, ZoneIn};
 
 /// Runs one round over a zone that nobody else uses meanwhile, and hands the zone back with the round's answer. Its
 /// conditions and its refusals are those of `compact`.
-pub fn compact_alone<
-    I: Ledger + Send + Sync,
-    N: Ledger,
-    M: Ledger + Send + Sync,
-    B: Ledger + Send + Sync,
-    G: Gate,
-    R: Threads + Wait + Sync,
->(
+pub fn compact_alone<Z: Opening + Send + Sync, G: Gate, R: Threads + Wait + Sync>(
     rt: &R,
     alloc: Global,
-    mut zone: Zone<I, M, B>,
-    seats: &mut Seats<I, N, M, B>,
+    mut zone: ZoneIn<Z>,
+    seats: &mut SeatsIn<Z>,
     copiers: usize,
     cap: usize,
     gate: &G,
-) -> (Zone<I, M, B>, Result<Round, RoundError>)
+) -> (ZoneIn<Z>, Result<Round, RoundError>)
     requires copiers { (0 < copiers) × (copiers ≤ 4) }
     requires cap { (0 < cap) × (cap ≤ 64) }
     // In every schedule the zone is the one after a round by hand, but for the order in which moves ended.
@@ -67,7 +59,7 @@ pub fn compact_alone<
 {
     // The audits are for contracts: they say how many pages were isolated and how many moves have ended, before the round and after it.
     let _ = zone.audit(&mut seats.scan, &mut seats.ends);
-    let (mut zone, round) = compact_shared::<Brand, I, N, M, B, G, R>(
+    let (mut zone, round) = compact_shared::<Brand, Z, G, R>(
         rt, alloc, zone, seats, copiers, cap, gate,
     );
     let _ = zone.audit(&mut seats.scan, &mut seats.ends);
@@ -77,21 +69,18 @@ pub fn compact_alone<
 /// Runs the round over a zone with the number and the pageblocks that the type names.
 fn compact_shared<
     K: Keeping + Send + Sync,
-    I: Ledger + Send + Sync,
-    N: Ledger,
-    M: Ledger + Send + Sync,
-    B: Ledger + Send + Sync,
+    Z: Opening + Send + Sync,
     G: Gate,
     R: Threads + Wait + Sync,
 >(
     rt: &R,
     alloc: Global,
-    zone: Zone<I, M, B>,
-    seats: &mut Seats<I, N, M, B>,
+    zone: ZoneIn<Z>,
+    seats: &mut SeatsIn<Z>,
     copiers: usize,
     cap: usize,
     gate: &G,
-) -> (Zone<I, M, B>, Result<Round, RoundError>)
+) -> (ZoneIn<Z>, Result<Round, RoundError>)
     requires copiers { (0 < copiers) × (copiers ≤ 4) }
     requires cap { (0 < cap) × (cap ≤ 64) }
     requires identity { HasIdentity K.number K.blocks zone }
@@ -108,7 +97,7 @@ fn compact_shared<
     ensures round { IfOk result.1 (λ r. IsRound seats.old.scan seats.new.scan seats.old.ends seats.new.ends r) }
     ensures early { IsRefusedEarly seats.old.scan seats.new.scan seats.old.ends seats.new.ends result.1 }
 {
-    let shared = KeptZone::<K, I, M, B>::new(zone);
+    let shared = KeptIn::<K, Z>::new(zone);
     let round = compact(rt, alloc, &shared, seats, copiers, cap, gate);
     (shared.into_zone(), round)
 }

@@ -4,22 +4,21 @@ ghost use Rattle.hand_core.specs.CopyEnds.{has_ended};
 use crate::gate::{COMMITTER, Gate, Point, tell_all};
 use crate::keeping::Keeping;
 use crate::memory::{CopierParts, Copies};
-use crate::shared_zone::KeptZone;
+use crate::shared_zone::KeptIn;
 use crate::stack::stack;
 use crate::under_lock::commit_copies;
 use frame_core::Serial;
 use hand_core::Came;
 use std::marker::PhantomData;
 use std::sync::Wait;
-use std::sync::ledger::Ledger;
 use std::thread::{Promise, PromisedHandle, Scope, Threads};
-use zone_core::EndSeat;
+use zone_core::{EndSeatIn, Opening};
 
 /// What the committer hands back: its part of the end seat, the least serial that was refused, and whether it came to
 /// the end of the copies.
 #[derive(Drop)]
-pub(crate) struct Committed<M: Ledger, B: Ledger> {
-    pub(crate) seat: EndSeat<M, B>,
+pub(crate) struct Committed<Z: Opening> {
+    pub(crate) seat: EndSeatIn<Z>,
     pub(crate) stranger: Option<Serial>,
     pub(crate) whole: bool,
 }
@@ -32,13 +31,13 @@ enum Following {
 }
 
 /// Commits all copies that come, with one part of the end seat, as many at once as the list has room for.
-fn commit_all<K: Keeping, I: Ledger, M: Ledger, B: Ledger, G: Gate, R: Wait>(
+fn commit_all<K: Keeping, Z: Opening, G: Gate, R: Wait>(
     rt: &R,
-    shared: &KeptZone<K, I, M, B>,
+    shared: &KeptIn<K, Z>,
     mut copies: Copies,
-    mut seat: EndSeat<M, B>,
+    mut seat: EndSeatIn<Z>,
     gate: &G,
-) -> Committed<M, B>
+) -> Committed<Z>
     requires { has_ended copies.taker ≡ false }
     ensures parts { result.seat.parts ≡ seat.parts }
     ensures back { K.unpinned → result.seat.back ≡ seat.back }
@@ -92,13 +91,13 @@ pub(crate) struct HandsPartBack<K: Keeping> {
     of: PhantomData<K>,
 }
 
-impl<K: Keeping, M: Ledger, B: Ledger> Promise<Committed<M, B>> for HandsPartBack<K> {
+impl<K: Keeping, Z: Opening> Promise<Committed<Z>> for HandsPartBack<K> {
     ghost use Rattle.std.specs.Prelude.{◌≡◌};
 
     ghost kept_by = { λ _ r. (r.seat.parts ≡ 1) × (K.unpinned → r.seat.back ≡ 0) };
 }
 
-pub(crate) type Committer<K, M, B> = PromisedHandle<Committed<M, B>, HandsPartBack<K>>;
+pub(crate) type Committer<K, Z> = PromisedHandle<Committed<Z>, HandsPartBack<K>>;
 
 /// Starts the committer. Where no thread can be started, the committer's body runs on this thread. The copiers' parts are dropped
 /// then, and the senders with them, so that the body ends at once.
@@ -106,20 +105,18 @@ pub(crate) fn start_committer<
     's,
     'e,
     K: Keeping + Send + Sync,
-    I: Ledger + Send + Sync,
-    M: Ledger + Send + Sync,
-    B: Ledger + Send + Sync,
+    Z: Opening + Send + Sync,
     G: Gate,
     R: Threads + Wait + Sync,
 >(
     scope: &'s Scope<'s, &'e ()>,
     rt: &'e R,
-    shared: &'e KeptZone<K, I, M, B>,
+    shared: &'e KeptIn<K, Z>,
     copier_parts: CopierParts,
     copies: Copies,
-    seat: EndSeat<M, B>,
+    seat: EndSeatIn<Z>,
     gate: &'e G,
-) -> Result<(CopierParts, Committer<K, M, B>), EndSeat<M, B>>
+) -> Result<(CopierParts, Committer<K, Z>), EndSeatIn<Z>>
     requires { (has_ended copies.taker ≡ false) × (seat.parts ≡ 1) × (seat.back ≡ 0) }
     ensures copier_parts { IfOk result (λ started. started.0 ≡ copier_parts) }
     ensures part { IfErr result (λ seat. seat.parts ≡ 1) }
@@ -127,7 +124,7 @@ pub(crate) fn start_committer<
     let started = stack().spawn_scoped_with(
         scope,
         HandsPartBack::<K> { of: PhantomData },
-        move || -> Committed<M, B>
+        move || -> Committed<Z>
             requires { (has_ended copies.taker ≡ false) × (seat.parts ≡ 1) × (seat.back ≡ 0) }
             ensures { (result.seat.parts ≡ 1) × (K.unpinned → result.seat.back ≡ 0) }
         { commit_all(rt, shared, copies, seat, gate) },

@@ -10,15 +10,14 @@ use crate::gate::Gate;
 use crate::keeping::Keeping;
 use crate::memory::{CopierResults, Memory, reserve};
 use crate::round::{Round, Stop};
-use crate::shared_zone::KeptZone;
+use crate::shared_zone::KeptIn;
 use frame_core::Serial;
 use hand_core::settle;
 use std::alloc::Global;
 use std::sync::Wait;
-use std::sync::ledger::Ledger;
 use std::thread;
 use std::thread::Threads;
-use zone_core::{Audit, Seats};
+use zone_core::{Audit, Opening, SeatsIn};
 
 /// Moves what can be moved, with 1 to 4 copiers, over queues with room for `cap` pages and for `cap` copies, 1 to 64. Under one hold of
 /// the lock as many pages are isolated as a queue has room for, or as there are in a batch for each copier where that is more. A
@@ -31,17 +30,14 @@ use zone_core::{Audit, Seats};
 /// round refuses.
 pub fn compact<
     K: Keeping + Send + Sync,
-    I: Ledger + Send + Sync,
-    N: Ledger,
-    M: Ledger + Send + Sync,
-    B: Ledger + Send + Sync,
+    Z: Opening + Send + Sync,
     G: Gate,
     R: Threads + Wait + Sync,
 >(
     rt: &R,
     alloc: Global,
-    shared: &KeptZone<K, I, M, B>,
-    seats: &mut Seats<I, N, M, B>,
+    shared: &KeptIn<K, Z>,
+    seats: &mut SeatsIn<Z>,
     copiers: usize,
     cap: usize,
     gate: &G,
@@ -64,17 +60,14 @@ pub fn compact<
 /// half the zone's frames where these are fewer. Refused as `compact` is.
 pub fn compact_at_most<
     K: Keeping + Send + Sync,
-    I: Ledger + Send + Sync,
-    N: Ledger,
-    M: Ledger + Send + Sync,
-    B: Ledger + Send + Sync,
+    Z: Opening + Send + Sync,
     G: Gate,
     R: Threads + Wait + Sync,
 >(
     rt: &R,
     alloc: Global,
-    shared: &KeptZone<K, I, M, B>,
-    seats: &mut Seats<I, N, M, B>,
+    shared: &KeptIn<K, Z>,
+    seats: &mut SeatsIn<Z>,
     copiers: usize,
     cap: usize,
     most: u32,
@@ -98,19 +91,11 @@ pub fn compact_at_most<
 }
 
 /// Runs a round, with a limit if there is one.
-fn run_round<
-    K: Keeping + Send + Sync,
-    I: Ledger + Send + Sync,
-    N: Ledger,
-    M: Ledger + Send + Sync,
-    B: Ledger + Send + Sync,
-    G: Gate,
-    R: Threads + Wait + Sync,
->(
+fn run_round<K: Keeping + Send + Sync, Z: Opening + Send + Sync, G: Gate, R: Threads + Wait + Sync>(
     rt: &R,
     alloc: Global,
-    shared: &KeptZone<K, I, M, B>,
-    seats: &mut Seats<I, N, M, B>,
+    shared: &KeptIn<K, Z>,
+    seats: &mut SeatsIn<Z>,
     copiers: usize,
     cap: usize,
     most: Option<u32>,
@@ -139,10 +124,10 @@ fn run_round<
 }
 
 /// Why a round is refused whose threads couldn't all be started. The audit shows that no move has ended.
-fn not_started<K: Keeping, I: Ledger, N: Ledger, M: Ledger, B: Ledger, R: Wait>(
+fn not_started<K: Keeping, Z: Opening, R: Wait>(
     rt: &R,
-    shared: &KeptZone<K, I, M, B>,
-    seats: &mut Seats<I, N, M, B>,
+    shared: &KeptIn<K, Z>,
+    seats: &mut SeatsIn<Z>,
 ) -> RoundError
     requires whole { seats.old.ends.parts ≡ 64 }
     requires ended { seats.old.scan.count ≤ seats.old.ends.moved + seats.old.ends.back }
@@ -157,10 +142,10 @@ fn not_started<K: Keeping, I: Ledger, N: Ledger, M: Ledger, B: Ledger, R: Wait>(
 }
 
 /// Audits the zone under the lock, with its seats.
-fn audit<K: Keeping, I: Ledger, N: Ledger, M: Ledger, B: Ledger, R: Wait>(
+fn audit<K: Keeping, Z: Opening, R: Wait>(
     rt: &R,
-    shared: &KeptZone<K, I, M, B>,
-    seats: &mut Seats<I, N, M, B>,
+    shared: &KeptIn<K, Z>,
+    seats: &mut SeatsIn<Z>,
 ) -> Result<Audit, RoundError>
     ensures counts { IfOk result (AreCounted seats.old.scan seats.old.ends) }
     ensures whole { OnOk result (seats.old.ends.parts ≡ 64) }
@@ -175,18 +160,10 @@ fn audit<K: Keeping, I: Ledger, N: Ledger, M: Ledger, B: Ledger, R: Wait>(
 }
 
 /// Runs the threads of a round in a scope of their own. None where one of them can't be started.
-fn in_scope<
-    K: Keeping + Send + Sync,
-    I: Ledger + Send + Sync,
-    N: Ledger,
-    M: Ledger + Send + Sync,
-    B: Ledger + Send + Sync,
-    G: Gate,
-    R: Threads + Wait + Sync,
->(
+fn in_scope<K: Keeping + Send + Sync, Z: Opening + Send + Sync, G: Gate, R: Threads + Wait + Sync>(
     rt: &R,
-    shared: &KeptZone<K, I, M, B>,
-    seats: &mut Seats<I, N, M, B>,
+    shared: &KeptIn<K, Z>,
+    seats: &mut SeatsIn<Z>,
     memory: Memory,
     gate: &G,
 ) -> Option<RoundRun>
@@ -197,7 +174,7 @@ fn in_scope<
     let (lent, ran) = thread::scope(
         thread::scope_env(),
         rt,
-        move |scope| -> (&mut Seats<I, N, M, B>, Option<RoundRun>)
+        move |scope| -> (&mut SeatsIn<Z>, Option<RoundRun>)
             requires { CanRun K.begins_at lent.now.scan lent.now.ends memory }
             ensures { IsLentBack lent.entry.ghost_name result.0.ghost_name × IsRunOrNot K.stops_at K.unpinned memory.pages.left (vec_len memory.copier_parts.takers) lent.entry.now.scan result.0.now.scan lent.entry.now.ends result.0.now.ends result.1 }
         {
@@ -210,10 +187,10 @@ fn in_scope<
 }
 
 /// Settles the hand-over of a round that ran, and audits the zone.
-fn wind_up<K: Keeping, I: Ledger, N: Ledger, M: Ledger, B: Ledger, R: Wait>(
+fn wind_up<K: Keeping, Z: Opening, R: Wait>(
     rt: &R,
-    shared: &KeptZone<K, I, M, B>,
-    seats: &mut Seats<I, N, M, B>,
+    shared: &KeptIn<K, Z>,
+    seats: &mut SeatsIn<Z>,
     before: &Audit,
     ran: RoundRun,
 ) -> Result<Round, RoundError>

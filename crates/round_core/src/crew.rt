@@ -11,14 +11,13 @@ use crate::keeping::Keeping;
 use crate::memory::{CopierParts, CopierResults, Copies, Memory, Pages};
 use crate::round::Stop;
 use crate::scanner::scan_all;
-use crate::shared_zone::KeptZone;
+use crate::shared_zone::KeptIn;
 use crate::under_lock::least;
 use frame_core::Serial;
 use hand_core::Giver;
 use std::sync::Wait;
-use std::sync::ledger::Ledger;
 use std::thread::{Scope, Threads};
-use zone_core::{EndSeat, ScanSeat, Seats};
+use zone_core::{EndSeatIn, Opening, ScanSeatIn, Seats, SeatsIn};
 
 /// How a round ran: why its scanner stopped, and what its threads handed back.
 #[derive(Drop)]
@@ -31,10 +30,10 @@ pub(crate) struct RoundRun {
 
 /// The threads of a round, and the giver of its pages.
 #[derive(Drop)]
-struct Crew<K: Keeping, M: Ledger, B: Ledger> {
+struct Crew<K: Keeping, Z: Opening> {
     giver: Giver,
     copiers: Vec<Copier>,
-    committer: Committer<K, M, B>,
+    committer: Committer<K, Z>,
 }
 
 /// Starts the copiers, the last of them first. None where one can't be started.
@@ -94,11 +93,11 @@ fn let_go(copier_parts: CopierParts) -> Vec<Copier> {
 }
 
 /// Joins the copiers that were started, and then the committer.
-fn join_early<K: Keeping, M: Ledger, B: Ledger, R: Threads>(
+fn join_early<K: Keeping, Z: Opening, R: Threads>(
     rt: &R,
     copier_parts: CopierParts,
-    committer: Committer<K, M, B>,
-) -> EndSeat<M, B>
+    committer: Committer<K, Z>,
+) -> EndSeatIn<Z>
     ensures { result.parts ≡ 1 }
 {
     let mut copiers = let_go(copier_parts);
@@ -115,20 +114,18 @@ fn start_crew<
     's,
     'e,
     K: Keeping + Send + Sync,
-    I: Ledger + Send + Sync,
-    M: Ledger + Send + Sync,
-    B: Ledger + Send + Sync,
+    Z: Opening + Send + Sync,
     G: Gate,
     R: Threads + Wait + Sync,
 >(
     scope: &'s Scope<'s, &'e ()>,
     rt: &'e R,
-    shared: &'e KeptZone<K, I, M, B>,
+    shared: &'e KeptIn<K, Z>,
     copier_parts: CopierParts,
     copies: Copies,
-    part: EndSeat<M, B>,
+    part: EndSeatIn<Z>,
     gate: &'e G,
-) -> Result<Crew<K, M, B>, EndSeat<M, B>>
+) -> Result<Crew<K, Z>, EndSeatIn<Z>>
     requires copier_parts { IsUnstarted copier_parts }
     requires committer { (has_ended copies.taker ≡ false) × (part.parts ≡ 1) × (part.back ≡ 0) }
     ensures giver { IfOk result (λ crew. crew.giver ≡ copier_parts.giver) }
@@ -156,12 +153,12 @@ fn start_crew<
 }
 
 /// Runs a round with its scanner on this thread, and joins its crew.
-fn run_crew<K: Keeping, I: Ledger, N: Ledger, M: Ledger, B: Ledger, G: Gate, R: Threads + Wait>(
+fn run_crew<K: Keeping, Z: Opening, G: Gate, R: Threads + Wait>(
     rt: &R,
-    shared: &KeptZone<K, I, M, B>,
-    scan: &mut ScanSeat<I, N>,
-    ends: &mut EndSeat<M, B>,
-    crew: Crew<K, M, B>,
+    shared: &KeptIn<K, Z>,
+    scan: &mut ScanSeatIn<Z>,
+    ends: &mut EndSeatIn<Z>,
+    crew: Crew<K, Z>,
     mut pages: Pages,
     joined: CopierResults,
     gate: &G,
@@ -207,17 +204,14 @@ pub(crate) fn run<
     's,
     'e,
     K: Keeping + Send + Sync,
-    I: Ledger + Send + Sync,
-    N: Ledger,
-    M: Ledger + Send + Sync,
-    B: Ledger + Send + Sync,
+    Z: Opening + Send + Sync,
     G: Gate,
     R: Threads + Wait + Sync,
 >(
     scope: &'s Scope<'s, &'e ()>,
     rt: &'e R,
-    shared: &'e KeptZone<K, I, M, B>,
-    seats: &mut Seats<I, N, M, B>,
+    shared: &'e KeptIn<K, Z>,
+    seats: &mut SeatsIn<Z>,
     memory: Memory,
     gate: &'e G,
 ) -> Option<RoundRun>

@@ -10,23 +10,22 @@ use crate::gate::{Gate, Point, SCANNER, tell_all};
 use crate::keeping::Keeping;
 use crate::memory::Pages;
 use crate::round::Stop;
-use crate::shared_zone::KeptZone;
+use crate::shared_zone::KeptIn;
 use crate::under_lock::{begin_and_isolate, isolate_more, put_back_pages};
 use frame_core::{Isolated, Serial};
 use hand_core::{Batch, Giver};
 use std::collections::VecDeque;
 use std::sync::Wait;
-use std::sync::ledger::Ledger;
-use zone_core::{EndSeat, ScanSeat};
+use zone_core::{EndSeatIn, Opening, ScanSeatIn};
 
 /// Isolates pages and gives them, as many at once as the empty list has room for, until the scanners meet, the journal is full or
 /// the round is at its limit. Where the takers are gone, the pages that nobody took are put back, and the answer is an `Err`: with the least serial of
 /// those that the zone refused, if there is one.
-pub(crate) fn scan_all<K: Keeping, I: Ledger, N: Ledger, M: Ledger, B: Ledger, G: Gate, R: Wait>(
+pub(crate) fn scan_all<K: Keeping, Z: Opening, G: Gate, R: Wait>(
     rt: &R,
-    shared: &KeptZone<K, I, M, B>,
-    scan: &mut ScanSeat<I, N>,
-    ends: &mut EndSeat<M, B>,
+    shared: &KeptIn<K, Z>,
+    scan: &mut ScanSeatIn<Z>,
+    ends: &mut EndSeatIn<Z>,
     giver: &mut Giver,
     pages: &mut Pages,
     gate: &G,
@@ -51,10 +50,10 @@ pub(crate) fn scan_all<K: Keeping, I: Ledger, N: Ledger, M: Ledger, B: Ledger, G
 }
 
 /// Isolates pages and gives them, as `scan_all` does. None where the takers are gone: then the list has the pages that nobody took.
-fn isolate_and_give<K: Keeping, I: Ledger, N: Ledger, M: Ledger, B: Ledger, G: Gate, R: Wait>(
+fn isolate_and_give<K: Keeping, Z: Opening, G: Gate, R: Wait>(
     rt: &R,
-    shared: &KeptZone<K, I, M, B>,
-    scan: &mut ScanSeat<I, N>,
+    shared: &KeptIn<K, Z>,
+    scan: &mut ScanSeatIn<Z>,
     giver: &mut Giver,
     pages: &mut Pages,
     gate: &G,

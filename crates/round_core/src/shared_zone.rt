@@ -7,7 +7,7 @@ use std::marker::{Model, PhantomData};
 use std::ops::{Deref, DerefMut};
 use std::sync::ledger::Ledger;
 use std::sync::{Condvar, Mutex, MutexGuard, Wait};
-use zone_core::Zone;
+use zone_core::{IsolatedPages, MovedPages, PagesBack, Zone};
 
 /// What is under the lock: a zone, and the stub of its client's receipts where they are kept. Where threads wait for the end of a move,
 /// it has how many had ended when the first of them began to wait.
@@ -54,7 +54,7 @@ impl<K: Keeping, I: Ledger, M: Ledger, B: Ledger> Room<K, I, M, B> {
         ensures { self.new ≡ self.old }
     {
         if let Some(before) = self.ended_before
-            && before != self.zone.ended()
+            && before != self.zone.bare().ended()
         {
             self.ended_before = None;
             ended.notify_all();
@@ -66,7 +66,7 @@ impl<K: Keeping, I: Ledger, M: Ledger, B: Ledger> Room<K, I, M, B> {
         ensures { self.new ≡ self.old }
     {
         if self.ended_before.is_none() {
-            self.ended_before = Some(self.zone.ended());
+            self.ended_before = Some(self.zone.bare().ended());
         }
     }
 }
@@ -135,6 +135,15 @@ impl<K: Keeping, I: Ledger, M: Ledger, B: Ledger> Drop for KeptZone<K, I, M, B> 
 /// A zone under one lock that anyone may use: it keeps nothing but that the zone is valid.
 pub type SharedZone<K, I, M, B> = KeptZone<Open<K>, I, M, B>;
 
+/// What is under the lock of a zone that `Z` names.
+pub type RoomIn<K, Z> = Room<K, IsolatedPages<Z>, MovedPages<Z>, PagesBack<Z>>;
+
+/// A zone that `Z` names under one lock, which keeps what `K` says of it.
+pub type KeptIn<K, Z> = KeptZone<K, IsolatedPages<Z>, MovedPages<Z>, PagesBack<Z>>;
+
+/// A zone that `Z` names under one lock that anyone may use.
+pub type SharedIn<K, Z> = KeptIn<Open<K>, Z>;
+
 impl<K: Keeping, I: Ledger, M: Ledger, B: Ledger> KeptZone<K, I, M, B> {
     ghost use Rattle.std.specs.Prelude.{None};
     ghost use Rattle.round_core.specs.Kept.{LockInvariant};
@@ -155,7 +164,7 @@ impl<K: Keeping, I: Ledger, M: Ledger, B: Ledger> KeptZone<K, I, M, B> {
         requires keeps { K.keeps zone }
         requires told { K.told zone.records ≡ stub }
     {
-        let blocks = zone.blocks();
+        let blocks = zone.bare().blocks();
         let room = Room {
             zone,
             stub,

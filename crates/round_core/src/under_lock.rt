@@ -10,18 +10,17 @@ ghost use Rattle.round_core.specs.Scanning.{HasBegun, HasIsolated, HasMore, HasS
 
 use crate::keeping::Keeping;
 use crate::round::Stop;
-use crate::shared_zone::Room;
+use crate::shared_zone::RoomIn;
 use frame_core::{Cause, Copied, Isolated, Serial};
 use std::collections::VecDeque;
-use std::sync::ledger::Ledger;
-use zone_core::{Answered, EndSeat, Next, ScanSeat};
+use zone_core::{Answered, EndSeatIn, Next, Opening, ScanSeatIn};
 
 /// Begins a round, and isolates pages into the empty list, in their order, until the list is full. Where it stops before, the
 /// answer says why.
 #[tactic(auto, using(crate::proofs::Begun::begun_first))]
-pub(crate) fn begin_and_isolate<K: Keeping, I: Ledger, N: Ledger, M: Ledger, B: Ledger>(
-    room: &mut Room<K, I, M, B>,
-    scan: &mut ScanSeat<I, N>,
+pub(crate) fn begin_and_isolate<K: Keeping, Z: Opening>(
+    room: &mut RoomIn<K, Z>,
+    scan: &mut ScanSeatIn<Z>,
     pages: &mut VecDeque<Isolated>,
     left: &mut Option<u32>,
 ) -> Option<Stop>
@@ -40,10 +39,7 @@ pub(crate) fn begin_and_isolate<K: Keeping, I: Ledger, N: Ledger, M: Ledger, B: 
 }
 
 /// Begins a round of the scanner.
-fn begin_round<K: Keeping, I: Ledger, N: Ledger, M: Ledger, B: Ledger>(
-    room: &mut Room<K, I, M, B>,
-    scan: &mut ScanSeat<I, N>,
-)
+fn begin_round<K: Keeping, Z: Opening>(room: &mut RoomIn<K, Z>, scan: &mut ScanSeatIn<Z>)
     requires { K.begins_at scan.old.count }
     ensures seat { scan.new ≡ seat_begun scan.old }
     ensures keeps { K.keeps_scanning room.new }
@@ -54,9 +50,9 @@ fn begin_round<K: Keeping, I: Ledger, N: Ledger, M: Ledger, B: Ledger>(
 /// Goes on with a round that has begun: isolates pages into the empty list, in their order, until the list is full. Where it stops
 /// before, the answer says why.
 #[tactic(auto, using(crate::proofs::Begun::begun_more))]
-pub(crate) fn isolate_more<K: Keeping, I: Ledger, N: Ledger, M: Ledger, B: Ledger>(
-    room: &mut Room<K, I, M, B>,
-    scan: &mut ScanSeat<I, N>,
+pub(crate) fn isolate_more<K: Keeping, Z: Opening>(
+    room: &mut RoomIn<K, Z>,
+    scan: &mut ScanSeatIn<Z>,
     pages: &mut VecDeque<Isolated>,
     left: &mut Option<u32>,
 ) -> Option<Stop>
@@ -75,10 +71,7 @@ pub(crate) fn isolate_more<K: Keeping, I: Ledger, N: Ledger, M: Ledger, B: Ledge
 }
 
 /// Shows that the scanner may go on with a round that has begun.
-fn go_on<K: Keeping, I: Ledger, N: Ledger, M: Ledger, B: Ledger>(
-    room: &mut Room<K, I, M, B>,
-    scan: &mut ScanSeat<I, N>,
-)
+fn go_on<K: Keeping, Z: Opening>(room: &mut RoomIn<K, Z>, scan: &mut ScanSeatIn<Z>)
     requires { HasBegun K.begins_at scan.old.count }
     ensures seat { scan.new ≡ scan.old }
     ensures keeps { K.keeps_scanning room.new }
@@ -87,9 +80,9 @@ fn go_on<K: Keeping, I: Ledger, N: Ledger, M: Ledger, B: Ledger>(
 }
 
 /// Isolates pages into the empty list, in their order, until the list is full. Where it stops before, the answer says why.
-fn isolate_pages<K: Keeping, I: Ledger, N: Ledger, M: Ledger, B: Ledger>(
-    room: &mut Room<K, I, M, B>,
-    scan: &mut ScanSeat<I, N>,
+fn isolate_pages<K: Keeping, Z: Opening>(
+    room: &mut RoomIn<K, Z>,
+    scan: &mut ScanSeatIn<Z>,
     pages: &mut VecDeque<Isolated>,
     left: &mut Option<u32>,
 ) -> Option<Stop>
@@ -116,9 +109,9 @@ fn isolate_pages<K: Keeping, I: Ledger, N: Ledger, M: Ledger, B: Ledger>(
 }
 
 /// Isolates the next page. Where the scanner stops in its place, the answer says why.
-fn isolate_page<K: Keeping, I: Ledger, N: Ledger, M: Ledger, B: Ledger>(
-    room: &mut Room<K, I, M, B>,
-    scan: &mut ScanSeat<I, N>,
+fn isolate_page<K: Keeping, Z: Opening>(
+    room: &mut RoomIn<K, Z>,
+    scan: &mut ScanSeatIn<Z>,
 ) -> Result<Isolated, Stop>
     requires { K.keeps_scanning room.old }
     ensures serial { IfOk result (λ page. page.serial ≡ scan.old.count) }
@@ -151,9 +144,9 @@ fn count_down(left: &mut Option<u32>) -> bool
 }
 
 /// Commits all copies, in their order. The answer is the least serial of those that were refused now or before, if there is one.
-pub(crate) fn commit_copies<K: Keeping, I: Ledger, M: Ledger, B: Ledger>(
-    room: &mut Room<K, I, M, B>,
-    seat: &mut EndSeat<M, B>,
+pub(crate) fn commit_copies<K: Keeping, Z: Opening>(
+    room: &mut RoomIn<K, Z>,
+    seat: &mut EndSeatIn<Z>,
     copies: &mut VecDeque<Copied>,
     mut stranger: Option<Serial>,
 ) -> Option<Serial>
@@ -170,9 +163,9 @@ pub(crate) fn commit_copies<K: Keeping, I: Ledger, M: Ledger, B: Ledger>(
 }
 
 /// Commits a copy. The answer is its serial if it was refused.
-fn commit_copy<K: Keeping, I: Ledger, M: Ledger, B: Ledger>(
-    room: &mut Room<K, I, M, B>,
-    seat: &mut EndSeat<M, B>,
+fn commit_copy<K: Keeping, Z: Opening>(
+    room: &mut RoomIn<K, Z>,
+    seat: &mut EndSeatIn<Z>,
     copy: Copied,
 ) -> Option<Serial>
     ensures own { result ≡ None ↔ IsOwnCopy room.old copy }
@@ -187,9 +180,9 @@ fn commit_copy<K: Keeping, I: Ledger, M: Ledger, B: Ledger>(
 }
 
 /// Puts all pages back, in their order. The answer is the least serial of those that were refused, if there is one.
-pub(crate) fn put_back_pages<K: Keeping, I: Ledger, M: Ledger, B: Ledger>(
-    room: &mut Room<K, I, M, B>,
-    seat: &mut EndSeat<M, B>,
+pub(crate) fn put_back_pages<K: Keeping, Z: Opening>(
+    room: &mut RoomIn<K, Z>,
+    seat: &mut EndSeatIn<Z>,
     pages: &mut VecDeque<Isolated>,
 ) -> Option<Serial>
     ensures put_back { result ≡ None → room.new ≡ all_put_back room.old pages.old.items }
@@ -206,9 +199,9 @@ pub(crate) fn put_back_pages<K: Keeping, I: Ledger, M: Ledger, B: Ledger>(
 }
 
 /// Puts a page back. The answer is its serial if it was refused.
-fn put_back_page<K: Keeping, I: Ledger, M: Ledger, B: Ledger>(
-    room: &mut Room<K, I, M, B>,
-    seat: &mut EndSeat<M, B>,
+fn put_back_page<K: Keeping, Z: Opening>(
+    room: &mut RoomIn<K, Z>,
+    seat: &mut EndSeatIn<Z>,
     page: Isolated,
 ) -> Option<Serial>
     ensures own { result ≡ None ↔ (is_own room.old page ≡ true) }
