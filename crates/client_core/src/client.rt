@@ -20,12 +20,11 @@ use crate::receipts::Receipts;
 use crate::telling::{NoSlip, Telling};
 use frame_core::{Address, ClientNo, FrameNo, GhostList, PageFlags, Record, WordNo};
 use hand_core::Slip;
-use round_core::{Keeping, KeptZone};
+use round_core::{Keeping, KeptIn};
 use std::alloc::{AllocError, Global};
 use std::marker::{Model, PhantomData};
 use std::sync::Wait;
-use std::sync::ledger::Ledger;
-use zone_core::{ClientCall, ZoneAnswer, ZoneCall, ZoneError};
+use zone_core::{ClientCall, Opening, ZoneAnswer, ZoneCall, ZoneError};
 
 /// Makes calls of a shared zone under one number, and has a receipt for each call that was accepted, its record, or one for each word
 /// of a call that reads or writes several.
@@ -165,10 +164,10 @@ impl<J: Telling, T: Receipts> Client<J, T> {
     /// Makes a call, and answers what the zone does. The receipt is the record that the call leaves.
     ///
     /// The zone refuses as the method of the call's name says.
-    pub fn make<K: Keeping, I: Ledger, M: Ledger, B: Ledger, R: Wait>(
+    pub fn make<K: Keeping, Z: Opening, R: Wait>(
         &mut self,
         rt: &R,
-        shared: &KeptZone<K, I, M, B>,
+        shared: &KeptIn<K, Z>,
         call: ClientCall,
     ) -> Result<ZoneAnswer, ClientError>
         requires allows { K.allows self.old.number J.pair }
@@ -187,10 +186,10 @@ impl<J: Telling, T: Receipts> Client<J, T> {
     /// answers this frame. The receipt has the number of the page. The flags must not have DIRTY.
     ///
     /// The zone refuses as Range, JournalFull, Occupied or NoFrame.
-    pub fn map<K: Keeping, I: Ledger, M: Ledger, B: Ledger, R: Wait>(
+    pub fn map<K: Keeping, Z: Opening, R: Wait>(
         &mut self,
         rt: &R,
-        shared: &KeptZone<K, I, M, B>,
+        shared: &KeptIn<K, Z>,
         address: Address,
         flags: PageFlags,
     ) -> Result<FrameNo, ClientError>
@@ -212,10 +211,10 @@ impl<J: Telling, T: Receipts> Client<J, T> {
     /// Makes an address name a fresh page in a given frame. The receipt has the number of the page. The flags must not have DIRTY.
     ///
     /// The zone refuses as Range, JournalFull, Occupied or NoFrame.
-    pub fn map_at<K: Keeping, I: Ledger, M: Ledger, B: Ledger, R: Wait>(
+    pub fn map_at<K: Keeping, Z: Opening, R: Wait>(
         &mut self,
         rt: &R,
-        shared: &KeptZone<K, I, M, B>,
+        shared: &KeptIn<K, Z>,
         address: Address,
         flags: PageFlags,
         frame: FrameNo,
@@ -239,10 +238,10 @@ impl<J: Telling, T: Receipts> Client<J, T> {
     /// Makes an alias name the page of an address too.
     ///
     /// The zone refuses as Range, JournalFull, Unmapped, Occupied or ShareFull.
-    pub fn share<K: Keeping, I: Ledger, M: Ledger, B: Ledger, R: Wait>(
+    pub fn share<K: Keeping, Z: Opening, R: Wait>(
         &mut self,
         rt: &R,
-        shared: &KeptZone<K, I, M, B>,
+        shared: &KeptIn<K, Z>,
         address: Address,
         alias: Address,
     ) -> Result<(), ClientError>
@@ -261,10 +260,10 @@ impl<J: Telling, T: Receipts> Client<J, T> {
     /// Makes an address name no page any more.
     ///
     /// The zone refuses as JournalFull, Unmapped or Pinned.
-    pub fn unmap<K: Keeping, I: Ledger, M: Ledger, B: Ledger, R: Wait>(
+    pub fn unmap<K: Keeping, Z: Opening, R: Wait>(
         &mut self,
         rt: &R,
-        shared: &KeptZone<K, I, M, B>,
+        shared: &KeptIn<K, Z>,
         address: Address,
     ) -> Result<(), ClientError>
         requires allows { K.allows self.old.number J.pair }
@@ -282,10 +281,10 @@ impl<J: Telling, T: Receipts> Client<J, T> {
     /// Reads a word of the page that an address names.
     ///
     /// The zone refuses as JournalFull or Unmapped.
-    pub fn load<K: Keeping, I: Ledger, M: Ledger, B: Ledger, R: Wait>(
+    pub fn load<K: Keeping, Z: Opening, R: Wait>(
         &mut self,
         rt: &R,
-        shared: &KeptZone<K, I, M, B>,
+        shared: &KeptIn<K, Z>,
         address: Address,
         word: WordNo,
     ) -> Result<u64, ClientError>
@@ -306,10 +305,10 @@ impl<J: Telling, T: Receipts> Client<J, T> {
     /// Writes a word of the page that an address names.
     ///
     /// The zone refuses as JournalFull or Unmapped.
-    pub fn store<K: Keeping, I: Ledger, M: Ledger, B: Ledger, R: Wait>(
+    pub fn store<K: Keeping, Z: Opening, R: Wait>(
         &mut self,
         rt: &R,
-        shared: &KeptZone<K, I, M, B>,
+        shared: &KeptIn<K, Z>,
         address: Address,
         word: WordNo,
         value: u64,
@@ -333,10 +332,10 @@ impl<J: Telling, T: Receipts> Client<J, T> {
     /// Pins the page that an address names, also while the page is moving.
     ///
     /// The zone refuses as JournalFull, Unmapped or PinFull.
-    pub fn pin<K: Keeping, I: Ledger, M: Ledger, B: Ledger, R: Wait>(
+    pub fn pin<K: Keeping, Z: Opening, R: Wait>(
         &mut self,
         rt: &R,
-        shared: &KeptZone<K, I, M, B>,
+        shared: &KeptIn<K, Z>,
         address: Address,
     ) -> Result<(), ClientError>
         requires allows { K.allows self.old.number J.pair }
@@ -353,10 +352,10 @@ impl<J: Telling, T: Receipts> Client<J, T> {
     /// Takes a pin off the page that an address names, also while the page is moving.
     ///
     /// The zone refuses as JournalFull, Unmapped or NotPinned.
-    pub fn unpin<K: Keeping, I: Ledger, M: Ledger, B: Ledger, R: Wait>(
+    pub fn unpin<K: Keeping, Z: Opening, R: Wait>(
         &mut self,
         rt: &R,
-        shared: &KeptZone<K, I, M, B>,
+        shared: &KeptIn<K, Z>,
         address: Address,
     ) -> Result<(), ClientError>
         requires allows { K.allows self.old.number J.pair }

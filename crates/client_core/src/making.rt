@@ -10,10 +10,9 @@ ghost use Rattle.client_core.specs.Calls.{IsMade, IsRefused};
 
 use frame_core::{ClientNo, Record};
 use hand_core::{Slip, write_both};
-use round_core::{Keeping, KeptZone, Room};
+use round_core::{Keeping, KeptIn, RoomIn};
 use std::sync::Wait;
-use std::sync::ledger::Ledger;
-use zone_core::{ClientCall, ZoneAnswer, ZoneCall, ZoneError};
+use zone_core::{ClientCall, Opening, ZoneAnswer, ZoneCall, ZoneError};
 
 /// A call of a zone that a client may make, as one of a client.
 pub(crate) fn of_client(call: ZoneCall) -> ClientCall
@@ -28,9 +27,9 @@ pub(crate) fn of_client(call: ZoneCall) -> ClientCall
 
 /// Makes a call under the lock of a zone. While its page is moving, it waits until a move has ended and makes the call again. An
 /// accepted call gives its receipt, which is written on the client's slip too.
-pub(crate) fn retry_while_moving<K: Keeping, I: Ledger, M: Ledger, B: Ledger, R: Wait>(
+pub(crate) fn retry_while_moving<K: Keeping, Z: Opening, R: Wait>(
     rt: &R,
-    shared: &KeptZone<K, I, M, B>,
+    shared: &KeptIn<K, Z>,
     slip: &mut Option<Slip>,
     client: ClientNo,
     call: ClientCall,
@@ -54,8 +53,8 @@ pub(crate) fn retry_while_moving<K: Keeping, I: Ledger, M: Ledger, B: Ledger, R:
 }
 
 /// Makes a call while the lock of a zone is held. An accepted call gives its receipt, which is written on the client's slip too.
-fn make_kept<K: Keeping, I: Ledger, M: Ledger, B: Ledger>(
-    room: &mut Room<K, I, M, B>,
+fn make_kept<K: Keeping, Z: Opening>(
+    room: &mut RoomIn<K, Z>,
     slip: &mut Option<Slip>,
     client: ClientNo,
     call: ClientCall,

@@ -7,9 +7,8 @@ ghost use Rattle.client_core.specs.Errors.{number_of_unsettled};
 
 use crate::client::Client;
 use frame_core::{ClientNo, Record};
-use std::sync::ledger::Ledger;
 use thiserror::Error;
-use zone_core::Zone;
+use zone_core::{Opening, ZoneIn};
 
 /// The first client whose receipts aren't its records in the journal, and the first index at which the two lists differ or
 /// only one of them has ended.
@@ -107,10 +106,7 @@ fn first_difference(records: &[Record], client: &Client) -> Option<usize>
 /// takes no memory, and walks over the journal once for each client. A journal that is unrecorded can't be compared with anything.
 ///
 /// Refused as NotKept where the journal is unrecorded, else as the first mismatch.
-pub fn settle_clients<I: Ledger, M: Ledger, B: Ledger>(
-    zone: &Zone<I, M, B>,
-    clients: &[Client],
-) -> Result<(), Unsettled>
+pub fn settle_clients<Z: Opening>(zone: &ZoneIn<Z>, clients: &[Client]) -> Result<(), Unsettled>
     ensures ok { IsOk result ↔ (HasKeptJournal zone.now × All (Agrees zone.now.records) clients.now) }
     ensures refused { IfErr result (IsUnsettled zone.now clients.now) }
 {

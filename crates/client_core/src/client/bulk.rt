@@ -22,10 +22,9 @@ use crate::receipts::Receipts;
 use crate::telling::Telling;
 use frame_core::{Access, AccessKind, Address, ClientNo, WordNo};
 use hand_core::{Slip, Stub, write_both};
-use round_core::{Keeping, KeptZone, Room};
+use round_core::{Keeping, KeptIn, RoomIn};
 use std::sync::Wait;
-use std::sync::ledger::Ledger;
-use zone_core::{Zone, ZoneError};
+use zone_core::{Opening, ZoneError, ZoneIn};
 
 impl<J: Telling, T: Receipts> Client<J, T> {
     /// Reads words of the page that an address names, from one on, into `values`, in one call. It has a receipt for each word, as
@@ -33,10 +32,10 @@ impl<J: Telling, T: Receipts> Client<J, T> {
     ///
     /// The zone refuses as Range where the words go past the page, as JournalFull where the journal has no place for each of them,
     /// or as Unmapped.
-    pub fn read<K: Keeping, I: Ledger, M: Ledger, B: Ledger, R: Wait>(
+    pub fn read<K: Keeping, Z: Opening, R: Wait>(
         &mut self,
         rt: &R,
-        shared: &KeptZone<K, I, M, B>,
+        shared: &KeptIn<K, Z>,
         address: Address,
         from: WordNo,
         values: &mut [u64],
@@ -70,10 +69,10 @@ impl<J: Telling, T: Receipts> Client<J, T> {
     ///
     /// The zone refuses as Range where the words go past the page, as JournalFull where the journal has no place for each of them,
     /// or as Unmapped.
-    pub fn write<K: Keeping, I: Ledger, M: Ledger, B: Ledger, R: Wait>(
+    pub fn write<K: Keeping, Z: Opening, R: Wait>(
         &mut self,
         rt: &R,
-        shared: &KeptZone<K, I, M, B>,
+        shared: &KeptIn<K, Z>,
         address: Address,
         from: WordNo,
         values: &[u64],
@@ -129,11 +128,7 @@ trait Bulk {
         ensures { result.now ≡ values self.now words.now };
 
     /// Makes the call, and puts what it reads into `words`.
-    fn make<I: Ledger, M: Ledger, B: Ledger>(
-        &self,
-        zone: &mut Zone<I, M, B>,
-        words: &mut [u64],
-    ) -> Result<(), ZoneError>
+    fn make<Z: Opening>(&self, zone: &mut ZoneIn<Z>, words: &mut [u64]) -> Result<(), ZoneError>
         requires valid { IsValidZone zone.old }
         ensures refused { result_err result ≡ bulk_refusal zone.old (access self.now).address (from self.now) (length (values self.now words.old)) }
         ensures err { OnErr result ((zone.new ≡ zone.old) × (words.new ≡ words.old)) }
@@ -177,11 +172,7 @@ impl Bulk for Read {
         words
     }
 
-    fn make<I: Ledger, M: Ledger, B: Ledger>(
-        &self,
-        zone: &mut Zone<I, M, B>,
-        words: &mut [u64],
-    ) -> Result<(), ZoneError> {
+    fn make<Z: Opening>(&self, zone: &mut ZoneIn<Z>, words: &mut [u64]) -> Result<(), ZoneError> {
         zone.read(self.client, self.address, self.from, words)
     }
 }
@@ -219,28 +210,16 @@ impl Bulk for Write<'_> {
         self.values
     }
 
-    fn make<I: Ledger, M: Ledger, B: Ledger>(
-        &self,
-        zone: &mut Zone<I, M, B>,
-        _words: &mut [u64],
-    ) -> Result<(), ZoneError> {
+    fn make<Z: Opening>(&self, zone: &mut ZoneIn<Z>, _words: &mut [u64]) -> Result<(), ZoneError> {
         zone.write(self.client, self.address, self.from, self.values)
     }
 }
 
 /// Makes a call under the lock of a zone. While its page is moving, it waits until a move has ended and makes the call again. The
 /// receipts of an accepted call are added, and written on the client's slip too.
-fn retry_bulk_while_moving<
-    C: Bulk,
-    T: Receipts,
-    K: Keeping,
-    I: Ledger,
-    M: Ledger,
-    B: Ledger,
-    R: Wait,
->(
+fn retry_bulk_while_moving<C: Bulk, T: Receipts, K: Keeping, Z: Opening, R: Wait>(
     rt: &R,
-    shared: &KeptZone<K, I, M, B>,
+    shared: &KeptIn<K, Z>,
     call: &C,
     words: &mut [u64],
     slip: &mut Option<Slip>,
@@ -257,7 +236,7 @@ fn retry_bulk_while_moving<
 {
     let mut room = shared.lock(rt);
     for _ in rt.forever() {
-        match make_bulk_kept::<C, T, K, I, M, B>(call, &mut room, words, slip, receipts) {
+        match make_bulk_kept::<C, T, K, Z>(call, &mut room, words, slip, receipts) {
             Err(ZoneError::Moving) => room = room.wait_for_end(rt),
             answer => return answer,
         }
@@ -266,9 +245,9 @@ fn retry_bulk_while_moving<
 }
 
 /// Makes a call while the lock of a zone is held. The receipts of an accepted call are added, and written on the client's slip too.
-fn make_bulk_kept<C: Bulk, T: Receipts, K: Keeping, I: Ledger, M: Ledger, B: Ledger>(
+fn make_bulk_kept<C: Bulk, T: Receipts, K: Keeping, Z: Opening>(
     call: &C,
-    room: &mut Room<K, I, M, B>,
+    room: &mut RoomIn<K, Z>,
     words: &mut [u64],
     slip: &mut Option<Slip>,
     receipts: &mut T,
