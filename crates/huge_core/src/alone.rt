@@ -16,28 +16,20 @@ use frame_core::Order;
 use round_core::{Gate, compact_alone};
 use std::alloc::Global;
 use std::sync::Wait;
-use std::sync::ledger::Ledger;
 use std::thread::Threads;
-use zone_core::{Seats, Zone, ZoneError};
+use zone_core::{Opening, SeatsIn, ZoneError, ZoneIn};
 
 /// Runs one reservation over a zone that nobody else uses meanwhile, and hands the zone back with what was reserved. It is
 /// asked for 1 to 8 blocks.
-pub fn reserve_alone<
-    I: Ledger + Send + Sync,
-    N: Ledger,
-    M: Ledger + Send + Sync,
-    B: Ledger + Send + Sync,
-    G: Gate,
-    R: Threads + Wait + Sync,
->(
+pub fn reserve_alone<Z: Opening + Send + Sync, G: Gate, R: Threads + Wait + Sync>(
     rt: &R,
     alloc: Global,
     collector: &Collector,
-    mut zone: Zone<I, M, B>,
-    seats: &mut Seats<I, N, M, B>,
+    mut zone: ZoneIn<Z>,
+    seats: &mut SeatsIn<Z>,
     n: usize,
     gate: &G,
-) -> (Zone<I, M, B>, Report)
+) -> (ZoneIn<Z>, Report)
     requires n { (0 < n) × (n ≤ 8) }
     // In every schedule it did what a reservation by hand does, where no page was moving before.
     ensures exact { IsAtRest zone → IsReservedByHand collector.now n zone result.0 result.1 }
@@ -84,8 +76,8 @@ pub fn reserve_alone<
 }
 
 /// Takes free blocks of an order until there are `n`, or until the zone refuses one. It is called with fewer.
-fn fill_alone<I: Ledger, M: Ledger, B: Ledger>(
-    zone: &mut Zone<I, M, B>,
+fn fill_alone<Z: Opening>(
+    zone: &mut ZoneIn<Z>,
     order: Order,
     n: usize,
     got: &mut ArrayVec<Option<Huge>, 8>,

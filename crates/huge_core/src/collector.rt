@@ -6,12 +6,11 @@ use crate::huge::Huge;
 use crate::report::{Report, Stop};
 use arrayvec::ArrayVec;
 use frame_core::Order;
-use round_core::{Gate, SharedZone, Stop as RoundStop, ZoneIdentity, compact};
+use round_core::{Gate, SharedIn, Stop as RoundStop, ZoneIdentity, compact};
 use std::alloc::Global;
 use std::sync::Wait;
-use std::sync::ledger::Ledger;
 use std::thread::Threads;
-use zone_core::{Seats, ZoneError};
+use zone_core::{Opening, SeatsIn, ZoneError};
 
 /// Reserves blocks of free frames, and runs rounds where too few are free. The kernel's kcompactd compacts memory in the
 /// background; a collector works only when it is called.
@@ -37,18 +36,15 @@ impl Collector {
     /// rounds move pages.
     pub fn reserve<
         K: ZoneIdentity + Send + Sync,
-        I: Ledger + Send + Sync,
-        N: Ledger,
-        M: Ledger + Send + Sync,
-        B: Ledger + Send + Sync,
+        Z: Opening + Send + Sync,
         G: Gate,
         R: Threads + Wait + Sync,
     >(
         &self,
         rt: &R,
         alloc: Global,
-        shared: &SharedZone<K, I, M, B>,
-        seats: &mut Seats<I, N, M, B>,
+        shared: &SharedIn<K, Z>,
+        seats: &mut SeatsIn<Z>,
         n: usize,
         gate: &G,
     ) -> Report
@@ -84,10 +80,10 @@ impl Collector {
     }
 
     /// Takes free blocks until there are `n`, or until the zone refuses one.
-    fn fill<K: ZoneIdentity, I: Ledger, M: Ledger, B: Ledger, R: Wait>(
+    fn fill<K: ZoneIdentity, Z: Opening, R: Wait>(
         &self,
         rt: &R,
-        shared: &SharedZone<K, I, M, B>,
+        shared: &SharedIn<K, Z>,
         n: usize,
         got: &mut ArrayVec<Option<Huge>, 8>,
     ) -> Result<(), ZoneError>
@@ -107,9 +103,9 @@ impl Collector {
 }
 
 /// Takes the lowest free block of an order.
-fn take<K: ZoneIdentity, I: Ledger, M: Ledger, B: Ledger, R: Wait>(
+fn take<K: ZoneIdentity, Z: Opening, R: Wait>(
     rt: &R,
-    shared: &SharedZone<K, I, M, B>,
+    shared: &SharedIn<K, Z>,
     order: Order,
 ) -> Result<Huge, ZoneError>
     ensures got { IfOk result (λ huge. (huge.order ≡ order) × IsHandedOut huge) }

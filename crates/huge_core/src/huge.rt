@@ -7,11 +7,10 @@ ghost use Rattle.zone_core.specs.ZoneIdentity.{HasIdentity};
 ghost use Rattle.huge_core.specs.Huge.{IsHandedOut, IsTakenBack, IsRefusedBack, IsRead, IsWritten, IsRefusedWords};
 
 use frame_core::{BlockNo, FrameNo, Order, block_of};
-use round_core::{SharedZone, ZoneIdentity};
+use round_core::{SharedIn, ZoneIdentity};
 use std::marker::Model;
 use std::sync::Wait;
-use std::sync::ledger::Ledger;
-use zone_core::{Zone, ZoneError};
+use zone_core::{Opening, ZoneError, ZoneIn};
 
 /// A block of frames that a zone handed out. It can't be cloned. A block that is dropped stays handed out.
 #[must_use]
@@ -35,10 +34,7 @@ impl Model for Huge {
 
 impl Huge {
     /// Takes the lowest free block of an order.
-    pub(crate) fn take<I: Ledger, M: Ledger, B: Ledger>(
-        zone: &mut Zone<I, M, B>,
-        order: Order,
-    ) -> Result<Huge, ZoneError>
+    pub(crate) fn take<Z: Opening>(zone: &mut ZoneIn<Z>, order: Order) -> Result<Huge, ZoneError>
         ensures refused { result_err result ≡ take_order_refusal zone.old order }
         ensures err { OnErr result (zone.new ≡ zone.old) }
         ensures order { IfOk result (λ huge. huge.order ≡ order) }
@@ -53,10 +49,7 @@ impl Huge {
     }
 
     /// Gives the block back to the zone. Where the zone refuses, the block is handed back.
-    fn give<I: Ledger, M: Ledger, B: Ledger>(
-        self,
-        zone: &mut Zone<I, M, B>,
-    ) -> Result<(), (ZoneError, Huge)>
+    fn give<Z: Opening>(self, zone: &mut ZoneIn<Z>) -> Result<(), (ZoneError, Huge)>
         ensures refused { IfErr result (λ refused. give_order_refusal zone.old self.frame self.order ≡ Some refused.0) }
         ensures back { IfErr result (λ refused. refused.1 ≡ self) }
         ensures err { OnErr result (zone.new ≡ zone.old) }
@@ -79,10 +72,10 @@ impl Huge {
     ///
     /// Refused as NotHuge where the zone hasn't handed the block out, or took it back by its number, or as Range where the words
     /// go past its last one. Then `values` are as they were.
-    pub fn read<K: ZoneIdentity, I: Ledger, M: Ledger, B: Ledger, R: Wait>(
+    pub fn read<K: ZoneIdentity, Z: Opening, R: Wait>(
         &self,
         rt: &R,
-        shared: &SharedZone<K, I, M, B>,
+        shared: &SharedIn<K, Z>,
         from: usize,
         values: &mut [u64],
     ) -> Result<(), ZoneError>
@@ -99,10 +92,10 @@ impl Huge {
     ///
     /// Refused as NotHuge where the zone hasn't handed the block out, or took it back by its number, or as Range where the words
     /// go past its last one. Then the zone is as it was.
-    pub fn write<K: ZoneIdentity, I: Ledger, M: Ledger, B: Ledger, R: Wait>(
+    pub fn write<K: ZoneIdentity, Z: Opening, R: Wait>(
         &mut self,
         rt: &R,
-        shared: &SharedZone<K, I, M, B>,
+        shared: &SharedIn<K, Z>,
         from: usize,
         values: &[u64],
     ) -> Result<(), ZoneError>
@@ -158,9 +151,9 @@ impl Huge {
 ///
 /// Refused as Range where the zone has no such block, as JournalFull, or as NotHuge where the zone hasn't handed it out, or took it
 /// back by its number.
-pub fn give<K: ZoneIdentity, I: Ledger, M: Ledger, B: Ledger, R: Wait>(
+pub fn give<K: ZoneIdentity, Z: Opening, R: Wait>(
     rt: &R,
-    shared: &SharedZone<K, I, M, B>,
+    shared: &SharedIn<K, Z>,
     huge: Huge,
 ) -> Result<(), (ZoneError, Huge)>
     ensures ok { OnOk result (IsTakenBack K.number K.blocks huge) }
