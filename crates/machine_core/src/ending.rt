@@ -13,13 +13,12 @@ ghost use Rattle.machine_core.specs.World.{IsRising, finished_as, finished_in, a
 use crate::finished::Finished;
 use frame_core::{CopiedOf, IsolatedOf};
 use std::collections::VecDeque;
-use std::sync::ledger::Ledger;
-use zone_core::{EndSeat, ZoneOf};
+use zone_core::{EndSeatIn, Opening, ZoneInOf};
 
 /// Ends the move of a page of the zone with the page's copy.
-pub(crate) fn finish_in<const W: usize, I: Ledger, M: Ledger, B: Ledger>(
-    zone: &mut ZoneOf<W, I, M, B>,
-    ends: &mut EndSeat<M, B>,
+pub(crate) fn finish_in<const W: usize, Z: Opening>(
+    zone: &mut ZoneInOf<W, Z>,
+    ends: &mut EndSeatIn<Z>,
     copy: CopiedOf<W>,
 ) -> Finished
     requires valid { IsValidZone zone.old }
@@ -36,9 +35,9 @@ pub(crate) fn finish_in<const W: usize, I: Ledger, M: Ledger, B: Ledger>(
 }
 
 /// Ends the move of a page of the zone that wasn't copied.
-fn put_back_in<const W: usize, I: Ledger, M: Ledger, B: Ledger>(
-    zone: &mut ZoneOf<W, I, M, B>,
-    ends: &mut EndSeat<M, B>,
+fn put_back_in<const W: usize, Z: Opening>(
+    zone: &mut ZoneInOf<W, Z>,
+    ends: &mut EndSeatIn<Z>,
     page: IsolatedOf<W>,
 )
     requires valid { IsValidZone zone.old }
@@ -54,9 +53,9 @@ fn put_back_in<const W: usize, I: Ledger, M: Ledger, B: Ledger>(
 }
 
 /// Ends the moves of pages of the zone that weren't copied, in order, and answers how many there are.
-pub(crate) fn put_all_back_in<const W: usize, I: Ledger, M: Ledger, B: Ledger>(
-    zone: &mut ZoneOf<W, I, M, B>,
-    ends: &mut EndSeat<M, B>,
+pub(crate) fn put_all_back_in<const W: usize, Z: Opening>(
+    zone: &mut ZoneInOf<W, Z>,
+    ends: &mut EndSeatIn<Z>,
     waiting: &mut VecDeque<IsolatedOf<W>>,
 ) -> u32
     requires valid { IsValidZone zone.old }

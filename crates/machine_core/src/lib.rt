@@ -30,7 +30,7 @@ pub use script::{run, run_text};
 pub use world::{World as WorldOf, WorldError};
 
 /// A world with pages of eight words.
-pub type World<I, N, M, B> = WorldOf<8, I, N, M, B>;
+pub type World<Z> = WorldOf<8, Z>;
 
 /// What is left of a world with pages of eight words.
 pub type Rest = RestOf<8>;

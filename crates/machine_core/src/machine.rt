@@ -19,25 +19,24 @@ use state_core::{Ended, Look, ZoneAnswer, ZoneCall, ZoneError};
 use std::alloc::{AllocError, Global};
 use std::marker::Model;
 use std::mem::replace;
-use std::sync::ledger::Ledger;
 use text_core::{
     Answers, Block, BlockCount, Call, Calls, Command, PoolBlocks, PoolStopped, Repeated, Reply,
     Respond, Series, zone_of,
 };
-use zone_core::Blanks;
+use zone_core::{Blanks, Opening};
 
 /// What a script works on. A machine whose zone is open has no allocator, so no command on the zone can ask for memory.
 #[derive(Drop)]
-pub struct Machine<I: Ledger, N: Ledger, M: Ledger, B: Ledger> {
+pub struct Machine<Z: Opening> {
     places: u32,
-    zone: Stage<World<I, N, M, B>>,
+    zone: Stage<World<Z>>,
 }
 
 /// What has become of the one zone of a script, whose world is `W`.
 #[derive(Drop)]
 enum Stage<W> {
     /// It wasn't opened yet.
-    Closed(Opening),
+    Closed(Unopened),
     /// It is open.
     Open(W),
     /// It was opened, and its world was given away; or there was no memory for it.
@@ -46,12 +45,12 @@ enum Stage<W> {
 
 /// What it takes to open a zone. The first opening uses it up.
 #[derive(Drop)]
-struct Opening {
+struct Unopened {
     alloc: Global,
     blanks: Blanks,
 }
 
-impl<I: Ledger, N: Ledger, M: Ledger, B: Ledger> Model for Machine<I, N, M, B> {
+impl<Z: Opening> Model for Machine<Z> {
     ghost use Rattle.std.specs.Prelude.{◌<◌, ◌≤◌};
     ghost use Rattle.zone_core.specs.Books.{AreFor};
     ghost use Rattle.std.specs.Coded.{codes};
@@ -66,10 +65,10 @@ impl<I: Ledger, N: Ledger, M: Ledger, B: Ledger> Model for Machine<I, N, M, B> {
     ghost view = { λ m. record { places = m.places; world = world_in m.zone } };
 
     ghost invariant = { λ m. (0 < m.places) × (m.places ≤ 65536)
-        × IfClosed m.zone (λ o. AreFor o.blanks I.name I.parts N.name N.parts M.name M.parts B.name B.parts) };
+        × IfClosed m.zone (λ o. AreFor o.blanks Z.isolated Z.rounds Z.moved Z.back) };
 }
 
-impl<I: Ledger, N: Ledger, M: Ledger, B: Ledger> Respond for Machine<I, N, M, B> {
+impl<Z: Opening> Respond for Machine<Z> {
     ghost may = { IsSingleStep };
 
     ghost asks = { Opens };
@@ -86,16 +85,16 @@ impl<I: Ledger, N: Ledger, M: Ledger, B: Ledger> Respond for Machine<I, N, M, B>
     }
 }
 
-impl<I: Ledger, N: Ledger, M: Ledger, B: Ledger> Machine<I, N, M, B> {
+impl<Z: Opening> Machine<Z> {
     /// A machine with no zone. A zone that it opens has this many places in its journal, 1 to 65,536.
     pub fn new(alloc: Global, places: u32, blanks: Blanks) -> Self
         requires places { (0 < places) × (places ≤ 65536) }
-        requires blanks { AreFor blanks I.name I.parts N.name N.parts M.name M.parts B.name B.parts }
+        requires blanks { AreFor blanks Z.isolated Z.rounds Z.moved Z.back }
         ensures { result ≡ single_at_first places }
     {
         Machine {
             places,
-            zone: Stage::Closed(Opening { alloc, blanks }),
+            zone: Stage::Closed(Unopened { alloc, blanks }),
         }
     }
 
@@ -137,7 +136,7 @@ impl<I: Ledger, N: Ledger, M: Ledger, B: Ledger> Machine<I, N, M, B> {
             *reply = Refusal::AlreadyOpen.reply();
             return Ok(());
         }
-        let Stage::Closed(Opening { alloc, blanks }) = replace(&mut self.zone, Stage::Gone) else {
+        let Stage::Closed(Unopened { alloc, blanks }) = replace(&mut self.zone, Stage::Gone) else {
             return Err(AllocError);
         };
         let Ok(world) = World::open(alloc, zone, blocks.get(), self.places, blanks) else {
@@ -200,7 +199,7 @@ impl<I: Ledger, N: Ledger, M: Ledger, B: Ledger> Machine<I, N, M, B> {
 
     /// The world of the zone that is open, if one is.
     #[inline(always)]
-    pub fn world(&self) -> Option<&World<I, N, M, B>>
+    pub fn world(&self) -> Option<&World<Z>>
         ensures some { IfSome result (λ world. self.now.world ≡ Some world.now) }
         ensures none { IfNone result (self.now.world ≡ None) }
     {
@@ -211,7 +210,7 @@ impl<I: Ledger, N: Ledger, M: Ledger, B: Ledger> Machine<I, N, M, B> {
     }
 
     /// Gives away the world of the zone with this number, if it is the open one and no hand round is open.
-    pub fn take_closed(&mut self, zone: ZoneNo) -> Option<World<I, N, M, B>>
+    pub fn take_closed(&mut self, zone: ZoneNo) -> Option<World<Z>>
         ensures given { IfSome result (λ world. (self.old.world ≡ Some world) × (is_at_rest zone (Some world) ≡ true)) }
         ensures closed { IfSome result (λ world. world.is_open ≡ false) }
         ensures left { IfSome result (λ _. self.new ≡ single_at_first self.old.places) }
@@ -237,7 +236,7 @@ impl<I: Ledger, N: Ledger, M: Ledger, B: Ledger> Machine<I, N, M, B> {
     }
 
     /// Gives the machine a world, which replaces the one that it has, if it has one. It can open no zone from then on.
-    pub fn give_world(&mut self, world: World<I, N, M, B>)
+    pub fn give_world(&mut self, world: World<Z>)
         ensures { self.new ≡ record self.old { world = Some world } }
     {
         self.zone = Stage::Open(world);
@@ -256,11 +255,7 @@ impl<I: Ledger, N: Ledger, M: Ledger, B: Ledger> Machine<I, N, M, B> {
 }
 
 /// Answers a pool of blocks of the zone of a world, where no hand round is open.
-fn answer_pool<I: Ledger, N: Ledger, M: Ledger, B: Ledger>(
-    world: &mut World<I, N, M, B>,
-    count: BlockCount,
-    blocks: PoolBlocks,
-) -> Reply
+fn answer_pool<Z: Opening>(world: &mut World<Z>, count: BlockCount, blocks: PoolBlocks) -> Reply
     ensures { record { reply = result; world = world.new } ≡ pool_step world.old count blocks }
 {
     if world.is_open() {
@@ -271,11 +266,7 @@ fn answer_pool<I: Ledger, N: Ledger, M: Ledger, B: Ledger>(
 }
 
 /// Takes the lowest free blocks, `count` at most. Where none is free a round is needed, and without threads no worker can be had for it.
-fn reserve<I: Ledger, N: Ledger, M: Ledger, B: Ledger>(
-    world: &mut World<I, N, M, B>,
-    count: BlockCount,
-    blocks: PoolBlocks,
-) -> Reply
+fn reserve<Z: Opening>(world: &mut World<Z>, count: BlockCount, blocks: PoolBlocks) -> Reply
     ensures { record { reply = result; world = world.new } ≡ pool_from blocks [] count world.old }
 {
     let wanted = count.get() as usize;
@@ -312,11 +303,7 @@ fn stopped_by(error: ZoneError) -> PoolStopped
 }
 
 /// Answers the calls of a command on the zone of a world.
-fn answer_all<I: Ledger, N: Ledger, M: Ledger, B: Ledger>(
-    world: &mut World<I, N, M, B>,
-    calls: Calls,
-    reply: &mut Reply,
-)
+fn answer_all<Z: Opening>(world: &mut World<Z>, calls: Calls, reply: &mut Reply)
     ensures { record { reply = reply.new; world = world.new } ≡ calls_step world.old calls }
 {
     match calls {
@@ -327,11 +314,7 @@ fn answer_all<I: Ledger, N: Ledger, M: Ledger, B: Ledger>(
 }
 
 /// Makes the calls of a series one after the other, up to the first one that is refused, and writes how many were made.
-fn answer_series<I: Ledger, N: Ledger, M: Ledger, B: Ledger>(
-    world: &mut World<I, N, M, B>,
-    series: Series,
-    reply: &mut Reply,
-)
+fn answer_series<Z: Opening>(world: &mut World<Z>, series: Series, reply: &mut Reply)
     ensures { record { reply = reply.new; world = world.new } ≡ series_step world.old series }
 {
     let Series {
@@ -355,8 +338,8 @@ fn answer_series<I: Ledger, N: Ledger, M: Ledger, B: Ledger>(
 }
 
 /// Makes the call of a series for a page, or answers the number of its refusal. It is refused where the space has no such page.
-fn answer_at<I: Ledger, N: Ledger, M: Ledger, B: Ledger>(
-    world: &mut World<I, N, M, B>,
+fn answer_at<Z: Opening>(
+    world: &mut World<Z>,
     repeated: Repeated,
     address: Option<Address>,
 ) -> Result<(), u16>
@@ -370,11 +353,7 @@ fn answer_at<I: Ledger, N: Ledger, M: Ledger, B: Ledger>(
 }
 
 /// Makes the call of a series at an address, or answers the number of its refusal.
-fn repeat<I: Ledger, N: Ledger, M: Ledger, B: Ledger>(
-    world: &mut World<I, N, M, B>,
-    repeated: Repeated,
-    address: Address,
-) -> Result<(), u16>
+fn repeat<Z: Opening>(world: &mut World<Z>, repeated: Repeated, address: Address) -> Result<(), u16>
     ensures ok { OnOk result (record { reply = Reply.Done; world = world.new } ≡ make_step world.old (call_at repeated address)) }
     ensures err { IfErr result (λ refusal. record { reply = Reply.Refused refusal; world = world.new } ≡ make_step world.old (call_at repeated address)) }
 {
@@ -401,11 +380,7 @@ fn address(space: SpaceNo, page: u64) -> Option<Address>
 }
 
 /// Answers another call on the zone of a world.
-fn answer<I: Ledger, N: Ledger, M: Ledger, B: Ledger>(
-    world: &mut World<I, N, M, B>,
-    call: Call,
-    reply: &mut Reply,
-)
+fn answer<Z: Opening>(world: &mut World<Z>, call: Call, reply: &mut Reply)
     ensures { record { reply = reply.new; world = world.new } ≡ call_step world.old call }
 {
     match call {
@@ -423,11 +398,7 @@ fn answer<I: Ledger, N: Ledger, M: Ledger, B: Ledger>(
 }
 
 /// Makes a call of the zone of a world.
-fn make<I: Ledger, N: Ledger, M: Ledger, B: Ledger>(
-    world: &mut World<I, N, M, B>,
-    call: &ZoneCall,
-    reply: &mut Reply,
-)
+fn make<Z: Opening>(world: &mut World<Z>, call: &ZoneCall, reply: &mut Reply)
     ensures { record { reply = reply.new; world = world.new } ≡ make_step world.old call.now }
 {
     match world.make(script_client(), *call) {

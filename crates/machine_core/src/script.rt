@@ -11,9 +11,8 @@ use crate::machine::Machine;
 use crate::options::Options;
 use std::alloc::Global;
 use std::marker::Brand;
-use std::sync::ledger::Ledger;
 use text_core::{Input, Output, RunError, Text, Totals, play};
-use zone_core::Blanks;
+use zone_core::{Blanks, Opening};
 
 /// Runs a script: reads its lines, answers its commands and writes the replies, up to its end or to its first fault. A round is
 /// refused, since there are no threads. The clauses speak of readers and writers that tell their bytes, whatever pieces these are
@@ -51,7 +50,7 @@ pub fn run<R: Input, W: Output>(
     ensures memory { IfErr result (λ error. error.fault ≡ Fault.Memory → IfSome (R.remaining reader.old) (λ input.
         LacksMemory options.journal input (W.contents writer.old) (W.contents writer.new) error.line)) }
 {
-    run_with::<Brand, Brand, Brand, Brand, R, W>(alloc, reader, writer, options, Blanks::new())
+    run_with::<Brand, R, W>(alloc, reader, writer, options, Blanks::new())
 }
 
 /// Runs a script that is in memory. No read of it fails.
@@ -77,15 +76,15 @@ pub fn run_text<W: Output>(
     run(alloc, &mut Text::new(script), writer, options)
 }
 
-/// Runs a script. The ledgers name the zone that it opens, if it opens one.
-fn run_with<I: Ledger, N: Ledger, M: Ledger, B: Ledger, R: Input, W: Output>(
+/// Runs a script. `Z` names the zone that it opens, if it opens one.
+fn run_with<Z: Opening, R: Input, W: Output>(
     alloc: Global,
     reader: &mut R,
     writer: &mut W,
     options: Options,
     blanks: Blanks,
 ) -> Result<Totals, RunError>
-    requires blanks { AreFor blanks I.name I.parts N.name N.parts M.name M.parts B.name B.parts }
+    requires blanks { AreFor blanks Z.isolated Z.rounds Z.moved Z.back }
     ensures ok { OnOk result (IfSome (R.remaining reader.old) (λ input. fault_of input ≡ None)) }
     ensures totals { IfOk result (λ totals. IfSome (R.remaining reader.old) (λ input.
         totals ≡ totals_of options.journal input)) }
@@ -100,6 +99,6 @@ fn run_with<I: Ledger, N: Ledger, M: Ledger, B: Ledger, R: Input, W: Output>(
         (R.reads reader.old) (R.reads reader.new) (R.remaining reader.old)) }
     ensures stuck { IfErr result (λ error. error.fault ≡ Fault.Write → IsTrue (W.stuck writer.new)) }
 {
-    let machine = Machine::<I, N, M, B>::new(alloc, options.journal, blanks);
+    let machine = Machine::<Z>::new(alloc, options.journal, blanks);
     play(alloc, machine, reader, writer)
 }

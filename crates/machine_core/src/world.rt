@@ -31,9 +31,8 @@ use state_core::{Next, ZoneAnswer, ZoneCallOf, ZoneError};
 use std::alloc::Global;
 use std::collections::VecDeque;
 use std::marker::Model;
-use std::sync::ledger::Ledger;
 use thiserror::Error;
-use zone_core::{Blanks, EndSeat, ScanSeat, Seats, ZoneOf};
+use zone_core::{Blanks, EndSeatIn, Opening, ScanSeatIn, Seats, SeatsIn, ZoneInOf};
 
 /// Why a call of a world was refused.
 #[derive(Clone, Copy, Debug, PartialEq, Eq, Error)]
@@ -58,17 +57,17 @@ impl WorldError {
 
 /// A zone with its seats, its isolated pages, and four hands, over pages of `W` words. Each hand is empty, or has a page or its
 /// copy. After `open` no call takes memory.
-pub struct World<const W: usize, I: Ledger, N: Ledger, M: Ledger, B: Ledger> {
-    zone: ZoneOf<W, I, M, B>,
-    scan: ScanSeat<I, N>,
-    ends: EndSeat<M, B>,
+pub struct World<const W: usize, Z: Opening> {
+    zone: ZoneInOf<W, Z>,
+    scan: ScanSeatIn<Z>,
+    ends: EndSeatIn<Z>,
     waiting: VecDeque<IsolatedOf<W>>,
     hands: Hands<W>,
     is_open: bool,
 }
 
 // Written out, so that the crates above have nothing to prove of its parts.
-impl<const W: usize, I: Ledger, N: Ledger, M: Ledger, B: Ledger> Drop for World<W, I, N, M, B> {
+impl<const W: usize, Z: Opening> Drop for World<W, Z> {
     fn drop(self) {
         let World {
             zone: _zone,
@@ -81,7 +80,7 @@ impl<const W: usize, I: Ledger, N: Ledger, M: Ledger, B: Ledger> Drop for World<
     }
 }
 
-impl<const W: usize, I: Ledger, N: Ledger, M: Ledger, B: Ledger> Model for World<W, I, N, M, B> {
+impl<const W: usize, Z: Opening> Model for World<W, Z> {
     ghost use Rattle.std.specs.Coded.{codes};
     ghost use Rattle.std.specs.VecDeque.{deque_capacity};
     ghost use Rattle.machine_core.specs.World.{WorldState};
@@ -98,8 +97,8 @@ impl<const W: usize, I: Ledger, N: Ledger, M: Ledger, B: Ledger> Model for World
     ghost invariant = { λ w. IsCarried w.zone w.scan w.ends w.is_open w.waiting.items w.hands.held (deque_capacity w.waiting) };
 }
 
-impl<const W: usize, I: Ledger, N: Ledger, M: Ledger, B: Ledger> World<W, I, N, M, B> {
-    /// A world with an empty zone. The blanks are those of the ledgers that the types name. They are dropped where the call is refused.
+impl<const W: usize, Z: Opening> World<W, Z> {
+    /// A world with an empty zone. The blanks have the names of `Z`. They are dropped where the call is refused.
     ///
     /// Refused as Range unless there are 1 to 8 pageblocks and 1 to 65,536 places, else as Memory where there isn't enough.
     pub fn open(
@@ -108,15 +107,15 @@ impl<const W: usize, I: Ledger, N: Ledger, M: Ledger, B: Ledger> World<W, I, N, 
         blocks: u32,
         places: u32,
         blanks: Blanks,
-    ) -> Result<World<W, I, N, M, B>, ZoneError>
-        requires blanks { AreFor blanks I.name I.parts N.name N.parts M.name M.parts B.name B.parts }
+    ) -> Result<World<W, Z>, ZoneError>
+        requires blanks { AreFor blanks Z.isolated Z.rounds Z.moved Z.back }
         requires size { W ≤ 65536 }
         ensures range { ¬ (IsOpenable blocks places) → result ≡ Err ZoneError.Range }
         ensures memory { IsOpenable blocks places → IfErr result (λ error. error ≡ ZoneError.Memory) }
         ensures ok { IfOk result (λ world. world ≡ world_opened_with W number blocks places) }
         ensures orderly { IfOk result (λ world. IsOrderly world) }
     {
-        let (zone, scan, ends) = ZoneOf::open(alloc, number, blocks, places, blanks)?;
+        let (zone, scan, ends) = ZoneInOf::<W, Z>::open(alloc, number, blocks, places, blanks)?;
         Self::around(alloc, blocks, zone, scan, ends)
     }
 
@@ -128,15 +127,15 @@ impl<const W: usize, I: Ledger, N: Ledger, M: Ledger, B: Ledger> World<W, I, N, 
         number: ZoneNo,
         blocks: u32,
         blanks: Blanks,
-    ) -> Result<World<W, I, N, M, B>, ZoneError>
-        requires blanks { AreFor blanks I.name I.parts N.name N.parts M.name M.parts B.name B.parts }
+    ) -> Result<World<W, Z>, ZoneError>
+        requires blanks { AreFor blanks Z.isolated Z.rounds Z.moved Z.back }
         requires size { W ≤ 65536 }
         ensures range { ¬ (IsSize blocks) → result ≡ Err ZoneError.Range }
         ensures memory { IsSize blocks → IfErr result (λ error. error ≡ ZoneError.Memory) }
         ensures ok { IfOk result (λ world. world ≡ world_opened_with W number blocks unrecorded_places) }
         ensures orderly { IfOk result (λ world. IsOrderly world) }
     {
-        let (zone, scan, ends) = ZoneOf::open_unrecorded(alloc, number, blocks, blanks)?;
+        let (zone, scan, ends) = ZoneInOf::<W, Z>::open_unrecorded(alloc, number, blocks, blanks)?;
         Self::around(alloc, blocks, zone, scan, ends)
     }
 
@@ -144,10 +143,10 @@ impl<const W: usize, I: Ledger, N: Ledger, M: Ledger, B: Ledger> World<W, I, N, 
     fn around(
         alloc: Global,
         blocks: u32,
-        zone: ZoneOf<W, I, M, B>,
-        scan: ScanSeat<I, N>,
-        ends: EndSeat<M, B>,
-    ) -> Result<World<W, I, N, M, B>, ZoneError>
+        zone: ZoneInOf<W, Z>,
+        scan: ScanSeatIn<Z>,
+        ends: EndSeatIn<Z>,
+    ) -> Result<World<W, Z>, ZoneError>
         requires zone { (number places : ℕ) × (zone ≡ opened_with W number blocks places) }
         requires valid { IsValidZone zone }
         requires scan { scan ≡ fresh_scan_seat }
@@ -170,7 +169,7 @@ impl<const W: usize, I: Ledger, N: Ledger, M: Ledger, B: Ledger> World<W, I, N, 
     }
 
     /// The zone of the world.
-    pub fn zone(&self) -> &ZoneOf<W, I, M, B>
+    pub fn zone(&self) -> &ZoneInOf<W, Z>
         ensures zone { result.now ≡ self.now.zone }
         // Whatever calls were made, in any order: the pages that wait and those in hands are exactly the moving ones, each
         // once, and those that wait are in the order of their serials.
@@ -394,9 +393,7 @@ impl<const W: usize, I: Ledger, N: Ledger, M: Ledger, B: Ledger> World<W, I, N, 
 
     /// Takes the world apart into its zone, its seats and its rest. While a hand round is open this is refused, and the
     /// world is handed back unchanged.
-    pub fn split(
-        self,
-    ) -> Result<(ZoneOf<W, I, M, B>, Seats<I, N, M, B>, Rest<W>), World<W, I, N, M, B>>
+    pub fn split(self) -> Result<(ZoneInOf<W, Z>, SeatsIn<Z>, Rest<W>), World<W, Z>>
         ensures refused { IsErr result ↔ (self.is_open ≡ true) }
         ensures err { IfErr result (λ world. world ≡ self) }
         ensures zone { IfOk result (λ parts. parts.0 ≡ self.zone) }
@@ -422,11 +419,7 @@ impl<const W: usize, I: Ledger, N: Ledger, M: Ledger, B: Ledger> World<W, I, N, 
 
     /// Makes a world of a zone with its seats. An audit of these has to be Ok, so no page is moving, and the rest has to fit
     /// the number of pageblocks that the zone has.
-    pub fn join(
-        zone: ZoneOf<W, I, M, B>,
-        seats: Seats<I, N, M, B>,
-        rest: Rest<W>,
-    ) -> World<W, I, N, M, B>
+    pub fn join(zone: ZoneInOf<W, Z>, seats: SeatsIn<Z>, rest: Rest<W>) -> World<W, Z>
         requires whole { audit_refusal zone seats.ends ≡ None }
         requires rest { rest ≡ zone.blocks }
         ensures world { result ≡ world_closed zone seats.scan seats.ends }

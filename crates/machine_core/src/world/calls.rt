@@ -14,9 +14,9 @@ ghost use Rattle.machine_core.specs.World.{IsOrderly, with_zone};
 use super::World;
 use frame_core::{Address, BlockNo, ClientNo, FrameNo, Order, WordOf};
 use state_core::{ZoneAnswer, ZoneCallOf, ZoneError};
-use std::sync::ledger::Ledger;
+use zone_core::Opening;
 
-impl<const W: usize, I: Ledger, N: Ledger, M: Ledger, B: Ledger> World<W, I, N, M, B> {
+impl<const W: usize, Z: Opening> World<W, Z> {
     /// Makes any call of a client on the zone.
     pub fn make(&mut self, client: ClientNo, call: ZoneCallOf<W>) -> Result<ZoneAnswer, ZoneError>
         ensures refused { result_err result ≡ refusal_of call.entry self.old.zone }
