@@ -147,7 +147,5 @@ fn make_loads<R: Threads + Wait + Clock + Sync>(rt: &R, alloc: Global, room: usi
 }
 
 fn outcome_of<R: Threads + Wait + Clock + Sync>(rt: &R, alloc: Global, plan: Plan) -> Outcome {
-    run::<Brand, Brand, Brand, Brand, Brand, R>(rt, alloc, plan, Blanks::new()).unwrap_or(
-        Outcome::NOTHING,
-    )
+    run::<Brand, Brand, R>(rt, alloc, plan, Blanks::new()).unwrap_or(Outcome::NOTHING)
 }

@@ -6,8 +6,7 @@ ghost use Rattle.zone_core.specs.ZoneIdentity.{HasIdentity};
 
 use frame_core::{Address, SpaceNo, VPage, ZoneNo};
 use std::alloc::Global;
-use std::sync::ledger::Ledger;
-use zone_core::{Blanks, Seats, Zone};
+use zone_core::{Blanks, Opening, Seats, SeatsIn, ZoneIn};
 
 /// Its pageblocks.
 pub const BLOCKS: u32 = 8;
@@ -20,24 +19,21 @@ pub const PLACES: u32 = 65536;
 
 /// A zone with its seats.
 #[derive(Drop)]
-pub struct Opening<I: Ledger, N: Ledger, M: Ledger, B: Ledger> {
-    pub zone: Zone<I, M, B>,
-    pub seats: Seats<I, N, M, B>,
+pub struct Opened<Z: Opening> {
+    pub zone: ZoneIn<Z>,
+    pub seats: SeatsIn<Z>,
 }
 
 /// Opens zone 0. It has no pages.
-pub fn open<I: Ledger, N: Ledger, M: Ledger, B: Ledger>(
-    alloc: Global,
-    blanks: Blanks,
-) -> Option<Opening<I, N, M, B>>
-    requires blanks { AreFor blanks I.name I.parts N.name N.parts M.name M.parts B.name B.parts }
+pub fn open<Z: Opening>(alloc: Global, blanks: Blanks) -> Option<Opened<Z>>
+    requires blanks { AreFor blanks Z.isolated Z.rounds Z.moved Z.back }
     ensures identity { IfSome result (λ opening. HasIdentity 0 8 opening.zone) }
 {
     let number = ZoneNo::new(0)?;
-    let opened = Zone::<I, M, B>::open::<N>(alloc, number, BLOCKS, PLACES, blanks);
+    let opened = ZoneIn::<Z>::open(alloc, number, BLOCKS, PLACES, blanks);
     let (zone, scan, ends) = opened.ok()?;
     let seats = Seats { scan, ends };
-    Some(Opening { zone, seats })
+    Some(Opened { zone, seats })
 }
 
 /// The address of a page.

@@ -81,7 +81,7 @@ fn best<R: Threads + Wait + Clock + Sync>(
 ) -> io::Result<Times> {
     let mut best = Times::NONE;
     for _time in 0..times {
-        let once = time::<Brand, Brand, Brand, Brand, R>(rt, alloc, work, Blanks::new())?;
+        let once = time::<Brand, R>(rt, alloc, work, Blanks::new())?;
         best = best.or(once);
     }
     Ok(best)

@@ -6,19 +6,18 @@ use bitflags::Flags;
 use round_core::{NoGate, compact_alone};
 use std::alloc::Global;
 use std::sync::Wait;
-use std::sync::ledger::Ledger;
 use std::thread::Threads;
-use zone_core::{Address, Blanks, BlockNo, FrameNo, PageFlags, Seats, Zone};
+use zone_core::{Address, Blanks, BlockNo, FrameNo, Opening, PageFlags, Seats, SeatsIn, ZoneIn};
 
-/// Opens a zone with a journal of 1,000 places. The type parameters are the name of this opening: no seat of another one fits the zone.
-fn open<I: Ledger, N: Ledger, M: Ledger, B: Ledger>(
+/// Opens a zone with a journal of 1,000 places. `Z` names this opening: no seat of another one fits the zone.
+fn open<Z: Opening>(
     alloc: Global,
     pageblocks: u32,
     blanks: Blanks,
-) -> Result<(Zone<I, M, B>, Seats<I, N, M, B>)>
-    requires blanks { AreFor blanks I.name I.parts N.name N.parts M.name M.parts B.name B.parts }
+) -> Result<(ZoneIn<Z>, SeatsIn<Z>)>
+    requires blanks { AreFor blanks Z.isolated Z.rounds Z.moved Z.back }
 {
-    let opened = Zone::<I, M, B>::open::<N>(alloc, zone_number(0)?, pageblocks, 1000, blanks);
+    let opened = ZoneIn::<Z>::open(alloc, zone_number(0)?, pageblocks, 1000, blanks);
     let (zone, scan, ends) = opened?;
     Ok((zone, Seats { scan, ends }))
 }
@@ -38,7 +37,7 @@ pub struct Seen {
 }
 
 /// Maps a page in each of two pageblocks, and stores 7 in a word of the lower one. The answer is the number of whole pageblocks.
-fn map_two_pages<I: Ledger, M: Ledger, B: Ledger>(zone: &mut Zone<I, M, B>) -> Result<u32> {
+fn map_two_pages<Z: Opening>(zone: &mut ZoneIn<Z>) -> Result<u32> {
     map_page(zone, address(0, 10)?, frame(0)?)?;
     map_page(zone, address(0, 11)?, frame(512)?)?;
     zone.store(client(0)?, address(0, 10)?, word(3)?, 7)?;
@@ -46,26 +45,20 @@ fn map_two_pages<I: Ledger, M: Ledger, B: Ledger>(zone: &mut Zone<I, M, B>) -> R
 }
 
 /// Maps a fresh page in a frame.
-fn map_page<I: Ledger, M: Ledger, B: Ledger>(
-    zone: &mut Zone<I, M, B>,
-    address: Address,
-    frame: FrameNo,
-) -> Result<()> {
+fn map_page<Z: Opening>(zone: &mut ZoneIn<Z>, address: Address, frame: FrameNo) -> Result<()> {
     zone.map_at(client(0)?, address, PageFlags::empty(), frame)?;
     Ok(())
 }
 
 /// Brings two pages together in one pageblock, by a round of two copiers, and takes the other pageblock.
-pub fn compact_two_pages<
-    I: Ledger + Send + Sync,
-    N: Ledger,
-    M: Ledger + Send + Sync,
-    B: Ledger + Send + Sync,
-    R: Threads + Wait + Sync,
->(rt: &R, alloc: Global, blanks: Blanks) -> Result<Seen>
-    requires blanks { AreFor blanks I.name I.parts N.name N.parts M.name M.parts B.name B.parts }
+pub fn compact_two_pages<Z: Opening + Send + Sync, R: Threads + Wait + Sync>(
+    rt: &R,
+    alloc: Global,
+    blanks: Blanks,
+) -> Result<Seen>
+    requires blanks { AreFor blanks Z.isolated Z.rounds Z.moved Z.back }
 {
-    let (mut zone, mut seats) = open::<I, N, M, B>(alloc, 2, blanks)?;
+    let (mut zone, mut seats) = open::<Z>(alloc, 2, blanks)?;
     let before = map_two_pages(&mut zone)?;
     let (mut zone, round) = compact_alone(rt, alloc, zone, &mut seats, 2, 8, &NoGate);
     let moved = round?.moved;
@@ -73,11 +66,7 @@ pub fn compact_two_pages<
 }
 
 /// What is seen of the zone after the round.
-fn see<I: Ledger, M: Ledger, B: Ledger>(
-    zone: &mut Zone<I, M, B>,
-    before: u32,
-    moved: u64,
-) -> Result<Seen> {
+fn see<Z: Opening>(zone: &mut ZoneIn<Z>, before: u32, moved: u64) -> Result<Seen> {
     let after = zone.info().whole;
     let (loaded, huge) = take_pageblock(zone)?;
     Ok(Seen {
@@ -90,9 +79,7 @@ fn see<I: Ledger, M: Ledger, B: Ledger>(
 }
 
 /// Loads the word that was stored, and takes the lowest whole pageblock.
-fn take_pageblock<I: Ledger, M: Ledger, B: Ledger>(
-    zone: &mut Zone<I, M, B>,
-) -> Result<(u64, BlockNo)> {
+fn take_pageblock<Z: Opening>(zone: &mut ZoneIn<Z>) -> Result<(u64, BlockNo)> {
     let loaded = zone.load(client(0)?, address(0, 10)?, word(3)?)?;
     Ok((loaded, zone.take_huge()?))
 }

@@ -19,11 +19,7 @@ fn main(rt: HostRuntime) -> anyhow::Result<()> {
         "on one thread: loaded {loaded}, handed out from frame {}",
         first.get()
     )?;
-    let seen = compact_two_pages::<Brand, Brand, Brand, Brand, HostRuntime>(
-        &rt,
-        rt.alloc(),
-        Blanks::new(),
-    )?;
+    let seen = compact_two_pages::<Brand, HostRuntime>(&rt, rt.alloc(), Blanks::new())?;
     show(&rt, &seen)?;
     Ok(())
 }

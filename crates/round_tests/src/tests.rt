@@ -9,7 +9,6 @@ mod copiers;
 mod gates;
 mod jobs;
 mod looking;
-mod names;
 mod opening;
 mod refusing;
 mod reserving;
@@ -23,8 +22,7 @@ use beside::Scene;
 use client_core::Client;
 use gates::Plan;
 use huge_core::Collector;
-use names::Names;
-use opening::{Opening, open_zone};
+use opening::{Opened, open_zone};
 use refusing::Table;
 use reserving::Case;
 use round_core::ZoneIdentity;
@@ -32,9 +30,8 @@ use rounds::Limited;
 use std::marker::Brand;
 use std::process::Abort;
 use std::sync::Wait;
-use std::sync::ledger::Ledger;
 use std::thread::Threads;
-use zone_core::Blanks;
+use zone_core::{Blanks, Opening};
 
 /// What runs a test: it starts threads, waits, and ends a test that fails.
 pub trait Runtime: Threads + Wait + Abort + AllocGlobal + Sync {}
@@ -66,7 +63,7 @@ enum Trial<'a> {
     Collects(&'a Collector, Plan, u64),
 }
 
-impl<Z: Names> Opening<Z> {
+impl<Z: Opening + ZoneIdentity + Send + Sync> Opened<Z> {
     fn undergoes<R: Runtime>(&mut self, rt: &R, trial: Trial<'_>) {
         match trial {
             Trial::MovesTheLowerHalf(copiers) => self.moves_the_lower_half(rt, copiers),
@@ -89,23 +86,22 @@ impl<Z: Names> Opening<Z> {
 
 /// Opens zone 1, of so many pageblocks, and tries something with it. Its journal has so many places, or is unrecorded. The answer is
 /// the client that mapped its pages.
-fn tries_in<
-    K: ZoneIdentity + Send + Sync,
-    I: Ledger + Send + Sync,
-    N: Ledger + Send + Sync,
-    M: Ledger + Send + Sync,
-    B: Ledger + Send + Sync,
-    R: Runtime,
->(rt: &R, blocks: u32, places: Option<u32>, trial: Trial<'_>, blanks: Blanks) -> Client
-    requires identity { (K.number ≡ 1) × (K.blocks ≡ blocks) }
-    requires blanks { AreFor blanks I.name I.parts N.name N.parts M.name M.parts B.name B.parts }
+fn tries_in<Z: Opening + ZoneIdentity + Send + Sync, R: Runtime>(
+    rt: &R,
+    blocks: u32,
+    places: Option<u32>,
+    trial: Trial<'_>,
+    blanks: Blanks,
+) -> Client
+    requires identity { (Z.number ≡ 1) × (Z.blocks ≡ blocks) }
+    requires blanks { AreFor blanks Z.isolated Z.rounds Z.moved Z.back }
 {
-    let mut opening = open_zone::<K, I, N, M, B, R>(rt, blocks, places, blanks);
+    let mut opening = open_zone::<Z, R>(rt, blocks, places, blanks);
     opening.undergoes(rt, trial);
     opening.keeper
 }
 
 /// Tries something with a zone 1 that is opened for it under a name of its own.
 fn tries<R: Runtime>(rt: &R, blocks: u32, places: Option<u32>, trial: Trial<'_>) -> Client {
-    tries_in::<Brand, Brand, Brand, Brand, Brand, R>(rt, blocks, places, trial, Blanks::new())
+    tries_in::<Brand, R>(rt, blocks, places, trial, Blanks::new())
 }

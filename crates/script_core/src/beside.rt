@@ -12,16 +12,15 @@ ghost use Rattle.script_core.specs.Clients.{AreClientAnswers, HasRoomForAnswers,
 use client_core::{Client, NoSlip, Telling};
 use hand_core::{Slip, Stub};
 use machine_core::{Options, Refusal, reply_for};
-use round_core::{Keeping, KeptZone, NoGate, Round, RoundError, compact};
+use round_core::{Keeping, KeptIn, NoGate, Round, RoundError, compact};
 use std::alloc::Global;
 use std::marker::Brand;
 use std::snapshot::Snapshot;
 use std::sync::Wait;
-use std::sync::ledger::Ledger;
 use std::thread;
 use std::thread::{Promise, PromisedHandle, Scope, Threads};
 use text_core::{Answer, ClientLine, Reply};
-use zone_core::{ClientCall, Seats, Zone};
+use zone_core::{ClientCall, Opening, SeatsIn, ZoneIn};
 
 /// A client with the lines whose calls it makes, and an empty list with room for their answers.
 #[derive(Drop)]
@@ -41,22 +40,16 @@ pub(crate) struct ClientAndRound<J: Telling = NoSlip> {
 
 /// Runs one round over a zone while one client makes calls of it, and hands the zone back. The client's receipts are written on a
 /// stub and a slip, which are a new pair. None where the client's thread can't be started: then nothing ran.
-pub(crate) fn compact_beside<
-    I: Ledger + Send + Sync,
-    N: Ledger,
-    M: Ledger + Send + Sync,
-    B: Ledger + Send + Sync,
-    R: Threads + Wait + Sync,
->(
+pub(crate) fn compact_beside<Z: Opening + Send + Sync, R: Threads + Wait + Sync>(
     rt: &R,
     alloc: Global,
-    zone: Zone<I, M, B>,
-    seats: &mut Seats<I, N, M, B>,
+    zone: ZoneIn<Z>,
+    seats: &mut SeatsIn<Z>,
     options: Options,
     turn: ClientTurn,
     stub: Stub,
     slip: Slip,
-) -> (Zone<I, M, B>, Option<ClientAndRound>)
+) -> (ZoneIn<Z>, Option<ClientAndRound>)
     requires room { HasRoomForAnswers turn }
     requires pair { (slip ≡ stub) × (stub.records ≡ []) }
     // Each record that the journal has more is of the round or of the client, and those of the client are its new receipts.
@@ -66,9 +59,7 @@ pub(crate) fn compact_beside<
     ensures identity { HasIdentity zone.number zone.blocks result.0 }
     ensures ran { RunsBeside turn seats.old seats.new result.1 }
 {
-    compact_with_turn::<Brand, Brand, I, N, M, B, R>(
-        rt, alloc, zone, seats, options, turn, stub, slip,
-    )
+    compact_with_turn::<Brand, Brand, Z, R>(rt, alloc, zone, seats, options, turn, stub, slip)
 }
 
 /// Runs both over a zone with the number and the pageblocks that the type names. Where both ran, what the lock of the zone was told are
@@ -76,21 +67,18 @@ pub(crate) fn compact_beside<
 fn compact_with_turn<
     K: Keeping + Send + Sync,
     J: Telling + Send,
-    I: Ledger + Send + Sync,
-    N: Ledger,
-    M: Ledger + Send + Sync,
-    B: Ledger + Send + Sync,
+    Z: Opening + Send + Sync,
     R: Threads + Wait + Sync,
 >(
     rt: &R,
     alloc: Global,
-    zone: Zone<I, M, B>,
-    seats: &mut Seats<I, N, M, B>,
+    zone: ZoneIn<Z>,
+    seats: &mut SeatsIn<Z>,
     options: Options,
     turn: ClientTurn,
     stub: Stub,
     slip: Slip,
-) -> (Zone<I, M, B>, Option<ClientAndRound>)
+) -> (ZoneIn<Z>, Option<ClientAndRound>)
     requires identity { HasIdentity K.number K.blocks zone }
     requires keeps { K.keeps zone }
     requires begins { K.begins_at seats.old.scan.count }
@@ -114,7 +102,7 @@ fn compact_with_turn<
         lines,
         answers,
     };
-    let shared = KeptZone::<K, I, M, B>::with_stub(zone, Some(stub));
+    let shared = KeptIn::<K, Z>::with_stub(zone, Some(stub));
     let both = in_scope(rt, alloc, &shared, seats, options, turn);
     let (zone, stub) = shared.into_parts();
     let Some(both) = both else {
@@ -151,16 +139,13 @@ fn compared<J: Telling>(both: ClientAndRound<J>, stub: Option<Stub>) -> ClientAn
 fn in_scope<
     K: Keeping + Send + Sync,
     J: Telling + Send,
-    I: Ledger + Send + Sync,
-    N: Ledger,
-    M: Ledger + Send + Sync,
-    B: Ledger + Send + Sync,
+    Z: Opening + Send + Sync,
     R: Threads + Wait + Sync,
 >(
     rt: &R,
     alloc: Global,
-    shared: &KeptZone<K, I, M, B>,
-    seats: &mut Seats<I, N, M, B>,
+    shared: &KeptIn<K, Z>,
+    seats: &mut SeatsIn<Z>,
     options: Options,
     turn: ClientTurn<J>,
 ) -> Option<ClientAndRound<J>>
@@ -172,7 +157,7 @@ fn in_scope<
     let (lent, both) = thread::scope(
         thread::scope_env(),
         rt,
-        move |scope| -> (&mut Seats<I, N, M, B>, Option<ClientAndRound<J>>)
+        move |scope| -> (&mut SeatsIn<Z>, Option<ClientAndRound<J>>)
             requires begins { K.begins_at lent.now.scan.count }
             requires plays { MayPlay K.allows J.pair turn }
             ensures ran { RunsBeside turn lent.entry.now result.0.now result.1 }
@@ -192,17 +177,14 @@ fn run_both<
     'e,
     K: Keeping + Send + Sync,
     J: Telling + Send + 's,
-    I: Ledger + Send + Sync,
-    N: Ledger,
-    M: Ledger + Send + Sync,
-    B: Ledger + Send + Sync,
+    Z: Opening + Send + Sync,
     R: Threads + Wait + Sync,
 >(
     scope: &'s Scope<'s, &'e ()>,
     rt: &'e R,
     alloc: Global,
-    shared: &'e KeptZone<K, I, M, B>,
-    seats: &mut Seats<I, N, M, B>,
+    shared: &'e KeptIn<K, Z>,
+    seats: &mut SeatsIn<Z>,
     options: Options,
     turn: ClientTurn<J>,
 ) -> Option<ClientAndRound<J>>
@@ -250,14 +232,12 @@ fn start_client<
     'e,
     K: Keeping + Send + Sync,
     J: Telling + Send + 's,
-    I: Ledger + Send + Sync,
-    M: Ledger + Send + Sync,
-    B: Ledger + Send + Sync,
+    Z: Opening + Send + Sync,
     R: Threads + Wait + Sync,
 >(
     scope: &'s Scope<'s, &'e ()>,
     rt: &'e R,
-    shared: &'e KeptZone<K, I, M, B>,
+    shared: &'e KeptIn<K, Z>,
     turn: ClientTurn<J>,
 ) -> Option<PromisedHandle<ClientTurn<J>, Plays<J>>>
     requires plays { MayPlay K.allows J.pair turn }
@@ -277,9 +257,9 @@ fn start_client<
 }
 
 /// Makes the calls of a client's lines, one after the other.
-fn play_lines<K: Keeping, J: Telling, I: Ledger, M: Ledger, B: Ledger, R: Wait>(
+fn play_lines<K: Keeping, J: Telling, Z: Opening, R: Wait>(
     rt: &R,
-    shared: &KeptZone<K, I, M, B>,
+    shared: &KeptIn<K, Z>,
     turn: ClientTurn<J>,
 ) -> ClientTurn<J>
     requires plays { MayPlay K.allows J.pair turn }
@@ -302,9 +282,9 @@ fn play_lines<K: Keeping, J: Telling, I: Ledger, M: Ledger, B: Ledger, R: Wait>(
 }
 
 /// Answers a line of a client.
-fn reply_to<K: Keeping, J: Telling, I: Ledger, M: Ledger, B: Ledger, R: Wait>(
+fn reply_to<K: Keeping, J: Telling, Z: Opening, R: Wait>(
     rt: &R,
-    shared: &KeptZone<K, I, M, B>,
+    shared: &KeptIn<K, Z>,
     client: &mut Client<J>,
     call: Option<ClientCall>,
 ) -> Reply

@@ -19,10 +19,9 @@ use machine_core::Options;
 use std::alloc::Global;
 use std::marker::Brand;
 use std::sync::Wait;
-use std::sync::ledger::Ledger;
 use std::thread::Threads;
 use text_core::{Block, BlockCount, Input, Output, PoolBlocks, Reply, RunError, Totals, play};
-use zone_core::Blanks;
+use zone_core::{Blanks, Opening};
 
 /// Runs a script as `run` does, but its rounds and pools on threads, and the calls of a client during the round of a block. These calls
 /// may be answered in more than one way, so a script with blocks is answered by replies that its machine may give. The replies to a
@@ -95,28 +94,11 @@ pub fn run_watched<R: Input, W: Output, H: Threads + Wait + Sync, V: Watch>(
         (R.reads reader.old) (R.reads reader.new) (R.remaining reader.old)) }
     ensures stuck { IfErr result (λ error. error.fault ≡ Fault.Write → IsTrue (W.stuck writer.new)) }
 {
-    run_threaded::<Brand, Brand, Brand, Brand, R, W, H, V>(
-        rt,
-        alloc,
-        reader,
-        writer,
-        options,
-        Blanks::new(),
-        watcher,
-    )
+    run_threaded::<Brand, R, W, H, V>(rt, alloc, reader, writer, options, Blanks::new(), watcher)
 }
 
-/// Runs a script on threads. The ledgers name the zone that it opens, if it opens one.
-fn run_threaded<
-    I: Ledger + Send + Sync,
-    N: Ledger,
-    M: Ledger + Send + Sync,
-    B: Ledger + Send + Sync,
-    R: Input,
-    W: Output,
-    H: Threads + Wait + Sync,
-    V: Watch,
->(
+/// Runs a script on threads. `Z` names the zone that it opens, if it opens one.
+fn run_threaded<Z: Opening + Send + Sync, R: Input, W: Output, H: Threads + Wait + Sync, V: Watch>(
     rt: &H,
     alloc: Global,
     reader: &mut R,
@@ -125,7 +107,7 @@ fn run_threaded<
     blanks: Blanks,
     watcher: &mut V,
 ) -> Result<Totals, RunError>
-    requires blanks { AreFor blanks I.name I.parts N.name N.parts M.name M.parts B.name B.parts }
+    requires blanks { AreFor blanks Z.isolated Z.rounds Z.moved Z.back }
     ensures ok { OnOk result (IfSome (R.remaining reader.old) (λ input. fault_of input ≡ None)) }
     ensures total { IfOk result (λ totals. IfSome (R.remaining reader.old) (λ input.
         IsTotal IsThreadedStep (threaded_at_first options.journal) input (W.contents writer.old) (W.contents writer.new) totals)) }
@@ -138,20 +120,17 @@ fn run_threaded<
         (R.reads reader.old) (R.reads reader.new) (R.remaining reader.old)) }
     ensures stuck { IfErr result (λ error. error.fault ≡ Fault.Write → IsTrue (W.stuck writer.new)) }
 {
-    let round = move |machine: &mut WithThreads<I, N, M, B>, zone: ZoneNo, reply: &mut Reply|
+    let round = move |machine: &mut WithThreads<Z>, zone: ZoneNo, reply: &mut Reply|
         requires whole { machine.old.broken ≡ None }
         ensures { IsStepBy (is_threaded (Compact zone) machine.old.single.world) machine.old (Compact zone) reply.new machine.new }
     { machine.answer_compact(rt, alloc, zone, reply) };
     let pool = move |machine: &mut WithThreads<
-        I,
-        N,
-        M,
-        B,
+        Z,
     >, zone: ZoneNo, count: BlockCount, blocks: PoolBlocks, reply: &mut Reply,|
         requires whole { machine.old.broken ≡ None }
         ensures { IsStepBy (is_threaded (Pool zone count blocks) machine.old.single.world) machine.old (Pool zone count blocks) reply.new machine.new }
     { machine.answer_pool(rt, alloc, zone, count, blocks, reply) };
-    let block = move |machine: &mut WithThreads<I, N, M, B>, block: Block|
+    let block = move |machine: &mut WithThreads<Z>, block: Block|
         requires whole { machine.old.broken ≡ None }
         ensures ok { IfOk result (λ answers. IsThreadedStep machine.old (command_in_block block) answers machine.new) }
         ensures memory { OnErr result (IsBlockFor (command_in_block block).command machine.old.single.world) }

@@ -3,26 +3,17 @@
 use crate::dispatcher::Dispatcher;
 use crate::with_threads::WithThreads;
 use std::alloc::AllocError;
-use std::sync::ledger::Ledger;
 use text_core::{Answer, Answers, Block, Command, Reply, Respond};
-use zone_core::Zone;
+use zone_core::{Opening, ZoneIn};
 
 /// What watches the run of a script. The zone that is open, if one is, is lent to it before each command and after it. A block is one
 /// command.
 pub trait Watch {
     /// The zone before a command.
-    fn before<I: Ledger, M: Ledger, B: Ledger>(
-        &mut self,
-        command: &Command,
-        zone: Option<&Zone<I, M, B>>,
-    );
+    fn before<Z: Opening>(&mut self, command: &Command, zone: Option<&ZoneIn<Z>>);
 
     /// The zone after that command, and the reply; after a block its last reply.
-    fn after<I: Ledger, M: Ledger, B: Ledger>(
-        &mut self,
-        reply: &Reply,
-        zone: Option<&Zone<I, M, B>>,
-    );
+    fn after<Z: Opening>(&mut self, reply: &Reply, zone: Option<&ZoneIn<Z>>);
 }
 
 /// Nothing watches.
@@ -31,18 +22,10 @@ pub(crate) struct NoWatch;
 
 impl Watch for NoWatch {
     #[inline(always)]
-    fn before<I: Ledger, M: Ledger, B: Ledger>(
-        &mut self,
-        _command: &Command,
-        _zone: Option<&Zone<I, M, B>>,
-    ) {}
+    fn before<Z: Opening>(&mut self, _command: &Command, _zone: Option<&ZoneIn<Z>>) {}
 
     #[inline(always)]
-    fn after<I: Ledger, M: Ledger, B: Ledger>(
-        &mut self,
-        _reply: &Reply,
-        _zone: Option<&Zone<I, M, B>>,
-    ) {}
+    fn after<Z: Opening>(&mut self, _reply: &Reply, _zone: Option<&ZoneIn<Z>>) {}
 }
 
 /// What has a zone to show.
@@ -54,8 +37,7 @@ pub(crate) trait Shows {
     fn show_after<V: Watch>(&self, watcher: &mut V, reply: &Reply);
 }
 
-impl<I: Ledger, N: Ledger, M: Ledger, B: Ledger, R, P, D> Shows
-    for Dispatcher<WithThreads<I, N, M, B>, R, P, D> {
+impl<Z: Opening, R, P, D> Shows for Dispatcher<WithThreads<Z>, R, P, D> {
     #[inline(always)]
     fn show_before<V: Watch>(&self, watcher: &mut V, command: &Command) {
         watcher.before(command, self.machine.zone());

@@ -24,12 +24,11 @@ use std::alloc::{AllocError, Global};
 use std::marker::Model;
 use std::slice;
 use std::sync::Wait;
-use std::sync::ledger::Ledger;
 use std::thread::Threads;
 use text_core::{
     Answer, Answers, Block, BlockCount, Command, PoolBlocks, PoolStopped, Reply, Stopped, zone_of,
 };
-use zone_core::{Audit, Blanks, Seats, Zone, ZoneError};
+use zone_core::{Audit, Blanks, Opening, SeatsIn, ZoneError, ZoneIn};
 
 /// How many rounds a pool may run.
 const POOL_ROUNDS: u32 = 4;
@@ -38,14 +37,14 @@ const POOL_ROUNDS: u32 = 4;
 /// that no audit passes, and the client that makes calls during rounds. It has no allocator: the commands that start threads are
 /// passed one.
 #[derive(Drop)]
-pub(crate) struct WithThreads<I: Ledger, N: Ledger, M: Ledger, B: Ledger> {
+pub(crate) struct WithThreads<Z: Opening> {
     options: Options,
-    machine: Machine<I, N, M, B>,
+    machine: Machine<Z>,
     broken: Option<ZoneNo>,
     client: Client,
 }
 
-impl<I: Ledger, N: Ledger, M: Ledger, B: Ledger> Model for WithThreads<I, N, M, B> {
+impl<Z: Opening> Model for WithThreads<Z> {
     ghost use Rattle.std.specs.Coded.{codes};
     ghost use Rattle.state_core.specs.ZoneCode.{coded_zone};
     ghost use Rattle.script_core.specs.WithThreads.{WithThreads as Seen};
@@ -57,11 +56,11 @@ impl<I: Ledger, N: Ledger, M: Ledger, B: Ledger> Model for WithThreads<I, N, M, 
     ghost view = { λ t. record { single = t.machine; broken = t.broken; client = t.client } };
 }
 
-impl<I: Ledger, N: Ledger, M: Ledger, B: Ledger> WithThreads<I, N, M, B> {
+impl<Z: Opening> WithThreads<Z> {
     /// A machine with no zone. A zone that it opens has as many places in its journal as the options say, and a round has as many
     /// copiers, and as much room in its queues.
     pub(crate) fn new(alloc: Global, options: Options, blanks: Blanks) -> Self
-        requires blanks { AreFor blanks I.name I.parts N.name N.parts M.name M.parts B.name B.parts }
+        requires blanks { AreFor blanks Z.isolated Z.rounds Z.moved Z.back }
         ensures { result ≡ threaded_at_first options.journal }
     {
         WithThreads {
@@ -74,7 +73,7 @@ impl<I: Ledger, N: Ledger, M: Ledger, B: Ledger> WithThreads<I, N, M, B> {
 
     /// The zone that is open, if one is.
     #[inline(always)]
-    pub(crate) fn zone(&self) -> Option<&Zone<I, M, B>>
+    pub(crate) fn zone(&self) -> Option<&ZoneIn<Z>>
         ensures some { IfSome result (λ zone. option_map (λ w. w.zone) self.now.single.world ≡ Some zone.now) }
         ensures none { IfNone result (self.now.single.world ≡ None) }
     {
@@ -83,7 +82,7 @@ impl<I: Ledger, N: Ledger, M: Ledger, B: Ledger> WithThreads<I, N, M, B> {
     }
 }
 
-impl<I: Ledger, N: Ledger, M: Ledger, B: Ledger> BaseMachine for WithThreads<I, N, M, B> {
+impl<Z: Opening> BaseMachine for WithThreads<Z> {
     ghost seen = { λ t. t };
 
     fn broken_zone(&self) -> Option<ZoneNo> {
@@ -95,12 +94,7 @@ impl<I: Ledger, N: Ledger, M: Ledger, B: Ledger> BaseMachine for WithThreads<I, 
     }
 }
 
-impl<
-    I: Ledger + Send + Sync,
-    N: Ledger,
-    M: Ledger + Send + Sync,
-    B: Ledger + Send + Sync,
-> WithThreads<I, N, M, B> {
+impl<Z: Opening + Send + Sync> WithThreads<Z> {
     /// Answers the command for a round over a zone, where no zone is broken, and writes the reply over the one that is passed. This is a
     /// function of its own since it needs room for a whole world, which no other command does.
     #[inline(never)]
@@ -169,7 +163,7 @@ impl<
         &mut self,
         rt: &H,
         alloc: Global,
-        world: World<I, N, M, B>,
+        world: World<Z>,
     ) -> Reply
         requires given { HasGivenAway self.old world }
         ensures { IsRoundOn world self.old.single.places self.old.client result self.new }
@@ -186,7 +180,7 @@ impl<
         &mut self,
         rt: &H,
         alloc: Global,
-        world: World<I, N, M, B>,
+        world: World<Z>,
         block: Block,
     ) -> Result<Answers, AllocError>
         requires given { HasGivenAway self.old world }
@@ -214,7 +208,7 @@ impl<
         &mut self,
         rt: &H,
         alloc: Global,
-        world: World<I, N, M, B>,
+        world: World<Z>,
         turn: ClientTurn,
         stub: Stub,
         slip: Slip,
@@ -247,7 +241,7 @@ impl<
     }
 
     /// Keeps the client as its turn left it, and gives the answers to its lines and the reply to the round.
-    fn settle(&mut self, zone: &Zone<I, M, B>, both: ClientAndRound) -> (Vec<Answer>, Reply)
+    fn settle(&mut self, zone: &ZoneIn<Z>, both: ClientAndRound) -> (Vec<Answer>, Reply)
         requires { IsUnlimited both.round }
         ensures client { self.new ≡ record self.old { client = both.client } }
         ensures answers { result.0.items ≡ both.answers.items }
@@ -268,9 +262,9 @@ impl<
         &self,
         rt: &H,
         alloc: Global,
-        zone: Zone<I, M, B>,
-        seats: &mut Seats<I, N, M, B>,
-    ) -> (Zone<I, M, B>, Result<Round, RoundError>)
+        zone: ZoneIn<Z>,
+        seats: &mut SeatsIn<Z>,
+    ) -> (ZoneIn<Z>, Result<Round, RoundError>)
         ensures kept { LockInvariant result.0 }
         ensures identity { HasIdentity zone.number zone.blocks result.0 }
         ensures round { IfOk result.1 (λ r. IsRound seats.old.scan seats.new.scan seats.old.ends seats.new.ends r) }
@@ -294,7 +288,7 @@ impl<
         &mut self,
         rt: &H,
         alloc: Global,
-        world: World<I, N, M, B>,
+        world: World<Z>,
         count: BlockCount,
         blocks: PoolBlocks,
     ) -> Reply
@@ -323,7 +317,7 @@ impl<
     }
 
     /// Takes a zone back with its seats. Where its audit fails the zone is dropped, and its number is kept.
-    fn take_back(&mut self, mut zone: Zone<I, M, B>, mut seats: Seats<I, N, M, B>, rest: Rest)
+    fn take_back(&mut self, mut zone: ZoneIn<Z>, mut seats: SeatsIn<Z>, rest: Rest)
         requires given { self.old.single.world ≡ None }
         requires whole { self.old.broken ≡ None }
         requires rest { rest ≡ zone.blocks }
@@ -339,9 +333,7 @@ impl<
 }
 
 /// The zone, the seats and the rest of a world in which no hand round is open.
-fn parts_of<I: Ledger, N: Ledger, M: Ledger, B: Ledger>(
-    world: World<I, N, M, B>,
-) -> (Zone<I, M, B>, Seats<I, N, M, B>, Rest)
+fn parts_of<Z: Opening>(world: World<Z>) -> (ZoneIn<Z>, SeatsIn<Z>, Rest)
     requires closed { world.is_open ≡ false }
     ensures split { IsSplit world result.0 result.1 }
     ensures rest { result.2 ≡ world.zone.blocks }
@@ -358,8 +350,8 @@ fn block_client() -> ClientNo
 
 /// The reply to a round during which a client made calls: 36 where the zone's journal isn't kept, and 35 where it is and the
 /// client's receipts aren't its records there.
-fn settled_reply<I: Ledger, M: Ledger, B: Ledger>(
-    zone: &Zone<I, M, B>,
+fn settled_reply<Z: Opening>(
+    zone: &ZoneIn<Z>,
     client: &Client,
     round: Result<Round, RoundError>,
 ) -> Reply
@@ -373,10 +365,7 @@ fn settled_reply<I: Ledger, M: Ledger, B: Ledger>(
 }
 
 /// Audits a zone with its seats.
-fn audit<I: Ledger, N: Ledger, M: Ledger, B: Ledger>(
-    zone: &mut Zone<I, M, B>,
-    seats: &mut Seats<I, N, M, B>,
-) -> Result<Audit, ZoneError>
+fn audit<Z: Opening>(zone: &mut ZoneIn<Z>, seats: &mut SeatsIn<Z>) -> Result<Audit, ZoneError>
     ensures refused { result_err result ≡ audit_refusal zone.old seats.old.ends }
     ensures exact { 64 ≤ seats.old.ends.parts → (IsOk result ↔ (seats.old.ends.moved + seats.old.ends.back ≡ seats.old.scan.count)) }
     ensures same { (zone.new ≡ zone.old) × (seats.new.scan ≡ seats.old.scan) × (seats.new.ends ≡ seats.old.ends) }

@@ -2,8 +2,7 @@ use crate::error::PictureError;
 use crate::view::View;
 use script_core::{Command, PoolBlocks, Reply, Watch, reply_text};
 use std::alloc::{AllocError, Global};
-use std::sync::ledger::Ledger;
-use zone_core::Zone;
+use zone_core::{Opening, ZoneIn};
 
 /// How many commands may be drawn. With a panel before each, one after it and one at the end, 17 panels are the most.
 const MOST_COMMANDS: u32 = 8;
@@ -68,10 +67,10 @@ impl Album {
     }
 
     /// Shows the zone before a command that is drawn.
-    fn show_before<I: Ledger, M: Ledger, B: Ledger>(
+    fn show_before<Z: Opening>(
         &mut self,
         command: &Command,
-        zone: &Zone<I, M, B>,
+        zone: &ZoneIn<Z>,
     ) -> Result<(), PictureError> {
         let Some(title) = title_of(self.alloc, "Before", command)? else {
             return Ok(());
@@ -81,11 +80,11 @@ impl Album {
     }
 
     /// Shows the zone after a command.
-    fn show_after<I: Ledger, M: Ledger, B: Ledger>(
+    fn show_after<Z: Opening>(
         &mut self,
         command: &Command,
         reply: &Reply,
-        zone: &Zone<I, M, B>,
+        zone: &ZoneIn<Z>,
     ) -> Result<(), PictureError> {
         let view = View::of(self.alloc, zone)?;
         self.keep_after(command, reply, view)
@@ -145,22 +144,14 @@ impl Album {
 }
 
 impl Watch for Album {
-    fn before<I: Ledger, M: Ledger, B: Ledger>(
-        &mut self,
-        command: &Command,
-        zone: Option<&Zone<I, M, B>>,
-    ) {
+    fn before<Z: Opening>(&mut self, command: &Command, zone: Option<&ZoneIn<Z>>) {
         self.command = Some(*command);
         if let (Some(zone), None) = (zone, self.error) {
             self.error = self.show_before(command, zone).err();
         }
     }
 
-    fn after<I: Ledger, M: Ledger, B: Ledger>(
-        &mut self,
-        reply: &Reply,
-        zone: Option<&Zone<I, M, B>>,
-    ) {
+    fn after<Z: Opening>(&mut self, reply: &Reply, zone: Option<&ZoneIn<Z>>) {
         if let (Some(command), Some(zone), None) = (self.command, zone, self.error) {
             self.error = self.show_after(&command, reply, zone).err();
         }

@@ -5,8 +5,7 @@ use crate::cell::Cell;
 use frame_core::{BlockNo, FrameNo};
 use scan_core::Frames;
 use std::alloc::{AllocError, Global};
-use std::sync::ledger::Ledger;
-use zone_core::{Info, Zone};
+use zone_core::{Info, Opening, ZoneIn};
 
 /// A pageblock as it is drawn: its number, what each of its 512 frames is used for, and whether it is marked.
 #[derive(Drop, PartialEq)]
@@ -25,10 +24,7 @@ pub struct View {
 
 impl View {
     /// A zone as it is now.
-    pub fn of<I: Ledger, M: Ledger, B: Ledger>(
-        alloc: Global,
-        zone: &Zone<I, M, B>,
-    ) -> Result<Self, AllocError> {
+    pub fn of<Z: Opening>(alloc: Global, zone: &ZoneIn<Z>) -> Result<Self, AllocError> {
         let frames = zone.frames();
         let mut blocks = Vec::new(alloc);
         for number in 0..frames.blocks() {
@@ -83,7 +79,7 @@ fn cell_at(frames: &Frames, number: u32) -> Cell
 }
 
 /// Whether a pageblock is marked.
-fn is_marked<I: Ledger, M: Ledger, B: Ledger>(zone: &Zone<I, M, B>, block: u32) -> bool {
+fn is_marked<Z: Opening>(zone: &ZoneIn<Z>, block: u32) -> bool {
     BlockNo::in_any_zone(block)
         .and_then(|block| zone.marked(block))
         .unwrap_or(false)

@@ -4,12 +4,12 @@ use crate::opening::page;
 use crate::times::nanos_since;
 use client_core::Client;
 use frame_core::WordNo;
-use round_core::{SharedZone, ZoneIdentity};
+use round_core::{SharedIn, ZoneIdentity};
 use std::alloc::Global;
 use std::sync::Wait;
-use std::sync::ledger::Ledger;
 use std::thread::{Threads, for_each_mut};
 use std::time::{Clock, Instant};
+use zone_core::Opening;
 
 /// The pages that clients use.
 pub const PAGES: u32 = 64;
@@ -28,31 +28,27 @@ fn word_of(client: &Client) -> Option<WordNo> {
 /// Lets at most four clients make their calls, each on a thread of its own. How long all calls take, in nanoseconds.
 pub fn time_calls<
     K: ZoneIdentity + Send + Sync,
-    I: Ledger + Send + Sync,
-    M: Ledger + Send + Sync,
-    B: Ledger + Send + Sync,
+    Z: Opening + Send + Sync,
     R: Threads + Wait + Clock + Sync,
->(rt: &R, shared: &SharedZone<K, I, M, B>, clients: &mut [Client]) -> Option<u64> {
+>(rt: &R, shared: &SharedIn<K, Z>, clients: &mut [Client]) -> Option<u64> {
     let start = Instant::now(rt).ok()?;
     use_all(rt, shared, clients);
     nanos_since(rt, &start).ok()
 }
 
 /// Lets each of at most four clients make its calls, on a thread of its own.
-fn use_all<
-    K: ZoneIdentity + Send + Sync,
-    I: Ledger + Send + Sync,
-    M: Ledger + Send + Sync,
-    B: Ledger + Send + Sync,
-    R: Threads + Wait + Sync,
->(rt: &R, shared: &SharedZone<K, I, M, B>, clients: &mut [Client]) {
+fn use_all<K: ZoneIdentity + Send + Sync, Z: Opening + Send + Sync, R: Threads + Wait + Sync>(
+    rt: &R,
+    shared: &SharedIn<K, Z>,
+    clients: &mut [Client],
+) {
     for_each_mut(rt, clients, 4, &|_, client| use_pages(rt, shared, client));
 }
 
 /// Stores to the client's word of each page and loads it, by turns, until a call is refused.
-fn use_pages<K: ZoneIdentity, I: Ledger, M: Ledger, B: Ledger, R: Wait>(
+fn use_pages<K: ZoneIdentity, Z: Opening, R: Wait>(
     rt: &R,
-    shared: &SharedZone<K, I, M, B>,
+    shared: &SharedIn<K, Z>,
     client: &mut Client,
 ) {
     for turn in 0..CALLS / 2 {
@@ -63,9 +59,9 @@ fn use_pages<K: ZoneIdentity, I: Ledger, M: Ledger, B: Ledger, R: Wait>(
 }
 
 /// Stores to the client's word of the page whose turn it is, and loads it.
-fn use_page<K: ZoneIdentity, I: Ledger, M: Ledger, B: Ledger, R: Wait>(
+fn use_page<K: ZoneIdentity, Z: Opening, R: Wait>(
     rt: &R,
-    shared: &SharedZone<K, I, M, B>,
+    shared: &SharedIn<K, Z>,
     client: &mut Client,
     turn: u32,
 ) -> Option<u64> {
@@ -77,10 +73,10 @@ fn use_page<K: ZoneIdentity, I: Ledger, M: Ledger, B: Ledger, R: Wait>(
 }
 
 /// Loads the client's word of each page in turn. How long each load takes, in nanoseconds.
-pub fn time_loads<K: ZoneIdentity, I: Ledger, M: Ledger, B: Ledger, R: Wait + Clock>(
+pub fn time_loads<K: ZoneIdentity, Z: Opening, R: Wait + Clock>(
     rt: &R,
     alloc: Global,
-    shared: &SharedZone<K, I, M, B>,
+    shared: &SharedIn<K, Z>,
     client: &mut Client,
 ) -> Option<Vec<u64>> {
     let mut nanos = Vec::new(alloc);
@@ -91,9 +87,9 @@ pub fn time_loads<K: ZoneIdentity, I: Ledger, M: Ledger, B: Ledger, R: Wait + Cl
 }
 
 /// How long a load of the client's word of the page takes whose turn it is, in nanoseconds.
-fn time_load<K: ZoneIdentity, I: Ledger, M: Ledger, B: Ledger, R: Wait + Clock>(
+fn time_load<K: ZoneIdentity, Z: Opening, R: Wait + Clock>(
     rt: &R,
-    shared: &SharedZone<K, I, M, B>,
+    shared: &SharedIn<K, Z>,
     client: &mut Client,
     turn: u32,
 ) -> Option<u64> {

@@ -3,13 +3,12 @@
 use super::crowd::PAGES;
 use crate::opening::{FRAMES, page};
 use client_core::Client;
-use round_core::{NoGate, SharedZone, ZoneIdentity, compact};
+use round_core::{NoGate, SharedIn, ZoneIdentity, compact};
 use std::alloc::Global;
 use std::sync::Wait;
 use std::sync::atomic::{AtomicBool, Ordering};
-use std::sync::ledger::Ledger;
 use std::thread::Threads;
-use zone_core::Seats;
+use zone_core::{Opening, SeatsIn};
 
 const COPIERS: usize = 2;
 
@@ -17,16 +16,13 @@ const COPIERS: usize = 2;
 /// ended or the pages stand at the top. How many pages were moved. No round is run where the queues have no room.
 pub fn run_rounds<
     K: ZoneIdentity + Send + Sync,
-    I: Ledger + Send + Sync,
-    N: Ledger,
-    M: Ledger + Send + Sync,
-    B: Ledger + Send + Sync,
+    Z: Opening + Send + Sync,
     R: Threads + Wait + Sync,
 >(
     rt: &R,
     alloc: Global,
-    shared: &SharedZone<K, I, M, B>,
-    seats: &mut Seats<I, N, M, B>,
+    shared: &SharedIn<K, Z>,
+    seats: &mut SeatsIn<Z>,
     keeper: &mut Client,
     cap: usize,
     ended: &AtomicBool,
@@ -47,9 +43,9 @@ pub fn run_rounds<
 }
 
 /// Frees as many frames as the clients have pages, from this one on.
-fn free<K: ZoneIdentity, I: Ledger, M: Ledger, B: Ledger, R: Wait>(
+fn free<K: ZoneIdentity, Z: Opening, R: Wait>(
     rt: &R,
-    shared: &SharedZone<K, I, M, B>,
+    shared: &SharedIn<K, Z>,
     keeper: &mut Client,
     first: u32,
 ) -> Option<()> {

@@ -7,18 +7,17 @@ ghost use Rattle.zone_core.specs.Books.{AreFor};
 use super::crowd::{PAGES, time_calls, time_loads};
 use super::moving::run_rounds;
 use super::outcome::{Outcome, Spread};
-use crate::opening::{FRAMES, Opening, open, page};
+use crate::opening::{FRAMES, Opened, open, page};
 use bitflags::Flags;
 use client_core::{Client, settle_clients};
 use frame_core::{ClientNo, FrameNo, PageFlags};
-use round_core::{SharedZone, ZoneIdentity};
+use round_core::{SharedIn, ZoneIdentity};
 use std::alloc::Global;
 use std::sync::Wait;
 use std::sync::atomic::{AtomicBool, Ordering};
-use std::sync::ledger::Ledger;
 use std::thread::{Threads, join};
 use std::time::Clock;
-use zone_core::{Blanks, Seats};
+use zone_core::{Blanks, Opening, SeatsIn};
 
 /// What clients do.
 #[derive(Clone, Copy)]
@@ -41,34 +40,28 @@ pub struct Plan {
 /// Opens zone 0 and runs clients over it. The first client maps the pages that the others use.
 pub fn run<
     K: ZoneIdentity + Send + Sync,
-    I: Ledger + Send + Sync,
-    N: Ledger + Send,
-    M: Ledger + Send + Sync,
-    B: Ledger + Send + Sync,
+    Z: Opening + Send + Sync,
     R: Threads + Wait + Clock + Sync,
 >(rt: &R, alloc: Global, plan: Plan, blanks: Blanks) -> Option<Outcome>
     requires identity { (K.number ≡ 0) × (K.blocks ≡ 8) }
-    requires blanks { AreFor blanks I.name I.parts N.name N.parts M.name M.parts B.name B.parts }
+    requires blanks { AreFor blanks Z.isolated Z.rounds Z.moved Z.back }
 {
     let mut clients = clients(alloc, plan.clients)?;
-    let Opening { zone, mut seats } = open::<I, N, M, B>(alloc, blanks)?;
-    let shared = SharedZone::<K, I, M, B>::new(zone);
+    let Opened { zone, mut seats } = open::<Z>(alloc, blanks)?;
+    let shared = SharedIn::<K, Z>::new(zone);
     work_and_settle(rt, alloc, &shared, &mut seats, &mut clients, plan)
 }
 
 /// Lets clients work, and compares the receipts of all clients with the journal.
 fn work_and_settle<
     K: ZoneIdentity + Send + Sync,
-    I: Ledger + Send + Sync,
-    N: Ledger + Send,
-    M: Ledger + Send + Sync,
-    B: Ledger + Send + Sync,
+    Z: Opening + Send + Sync,
     R: Threads + Wait + Clock + Sync,
 >(
     rt: &R,
     alloc: Global,
-    shared: &SharedZone<K, I, M, B>,
-    seats: &mut Seats<I, N, M, B>,
+    shared: &SharedIn<K, Z>,
+    seats: &mut SeatsIn<Z>,
     clients: &mut [Client],
     plan: Plan,
 ) -> Option<Outcome> {
@@ -85,9 +78,9 @@ fn work_and_settle<
 }
 
 /// Compares the receipts of clients with the journal.
-fn settle<K: ZoneIdentity, I: Ledger, M: Ledger, B: Ledger, R: Wait>(
+fn settle<K: ZoneIdentity, Z: Opening, R: Wait>(
     rt: &R,
-    shared: &SharedZone<K, I, M, B>,
+    shared: &SharedIn<K, Z>,
     clients: &[Client],
 ) -> Option<()> {
     settle_clients(shared.lock(rt).zone(), clients).ok()
@@ -105,9 +98,9 @@ fn clients(alloc: Global, more: u32) -> Option<Vec<Client>> {
 }
 
 /// Maps a page to each frame.
-fn map_all<K: ZoneIdentity, I: Ledger, M: Ledger, B: Ledger, R: Wait>(
+fn map_all<K: ZoneIdentity, Z: Opening, R: Wait>(
     rt: &R,
-    shared: &SharedZone<K, I, M, B>,
+    shared: &SharedIn<K, Z>,
     keeper: &mut Client,
 ) -> Option<()> {
     for number in 0..FRAMES {
@@ -125,16 +118,13 @@ fn map_all<K: ZoneIdentity, I: Ledger, M: Ledger, B: Ledger, R: Wait>(
 /// Lets clients work beside rounds. The times that were taken, and how many pages the rounds moved.
 fn work_beside_rounds<
     K: ZoneIdentity + Send + Sync,
-    I: Ledger + Send + Sync,
-    N: Ledger + Send,
-    M: Ledger + Send + Sync,
-    B: Ledger + Send + Sync,
+    Z: Opening + Send + Sync,
     R: Threads + Wait + Clock + Sync,
 >(
     rt: &R,
     alloc: Global,
-    shared: &SharedZone<K, I, M, B>,
-    seats: &mut Seats<I, N, M, B>,
+    shared: &SharedIn<K, Z>,
+    seats: &mut SeatsIn<Z>,
     keeper: &mut Client,
     crowd: &mut [Client],
     plan: Plan,
@@ -156,14 +146,12 @@ fn work_beside_rounds<
 /// Lets clients work. The times that were taken.
 fn take_times<
     K: ZoneIdentity + Send + Sync,
-    I: Ledger + Send + Sync,
-    M: Ledger + Send + Sync,
-    B: Ledger + Send + Sync,
+    Z: Opening + Send + Sync,
     R: Threads + Wait + Clock + Sync,
 >(
     rt: &R,
     alloc: Global,
-    shared: &SharedZone<K, I, M, B>,
+    shared: &SharedIn<K, Z>,
     clients: &mut [Client],
     work: Work,
 ) -> Option<Spread> {

@@ -4,18 +4,17 @@ ghost use Rattle.zone_core.specs.Books.{AreFor};
 ghost use Rattle.zone_core.specs.ZoneIdentity.{HasIdentity};
 
 use super::alone::{half_full, time_moves};
-use crate::opening::Opening;
+use crate::opening::Opened;
 use crate::settings::Setting;
 use crate::times::{Times, nanos_since};
-use round_core::{NoGate, SharedZone, ZoneIdentity, compact};
+use round_core::{NoGate, SharedIn, ZoneIdentity, compact};
 use std::alloc::Global;
 use std::io;
 use std::marker::Brand;
 use std::sync::Wait;
-use std::sync::ledger::Ledger;
 use std::thread::Threads;
 use std::time::{Clock, Instant};
-use zone_core::{Blanks, Seats, Zone};
+use zone_core::{Blanks, Opening, SeatsIn, ZoneIn};
 
 /// What is done with the zone.
 #[derive(Clone, Copy)]
@@ -29,19 +28,18 @@ pub enum Work {
 }
 
 /// How long a work takes in a zone that is opened and filled for it.
-pub fn time<
-    I: Ledger + Send + Sync,
-    N: Ledger,
-    M: Ledger + Send + Sync,
-    B: Ledger + Send + Sync,
-    R: Threads + Wait + Clock + Sync,
->(rt: &R, alloc: Global, work: Work, blanks: Blanks) -> io::Result<Times>
-    requires blanks { AreFor blanks I.name I.parts N.name N.parts M.name M.parts B.name B.parts }
+pub fn time<Z: Opening + Send + Sync, R: Threads + Wait + Clock + Sync>(
+    rt: &R,
+    alloc: Global,
+    work: Work,
+    blanks: Blanks,
+) -> io::Result<Times>
+    requires blanks { AreFor blanks Z.isolated Z.rounds Z.moved Z.back }
 {
-    let Some(opening) = half_full::<I, N, M, B>(alloc, blanks) else {
+    let Some(opening) = half_full::<Z>(alloc, blanks) else {
         return Ok(Times::NONE);
     };
-    let Opening {
+    let Opened {
         mut zone,
         mut seats,
     } = opening;
@@ -49,7 +47,7 @@ pub fn time<
         Work::Filling => Ok(Times::of(u64::from(zone.info().pages), u64::MAX)),
         Work::Alone => time_moves(rt, &mut zone, &mut seats),
         Work::Rounds(setting) => {
-            time_rounds::<Brand, I, N, M, B, R>(rt, alloc, zone, &mut seats, setting)
+            time_rounds::<Brand, Z, R>(rt, alloc, zone, &mut seats, setting)
         }
     }
 }
@@ -57,21 +55,18 @@ pub fn time<
 /// How long both rounds take over a zone of the identity that the type names.
 fn time_rounds<
     K: ZoneIdentity + Send + Sync,
-    I: Ledger + Send + Sync,
-    N: Ledger,
-    M: Ledger + Send + Sync,
-    B: Ledger + Send + Sync,
+    Z: Opening + Send + Sync,
     R: Threads + Wait + Clock + Sync,
 >(
     rt: &R,
     alloc: Global,
-    zone: Zone<I, M, B>,
-    seats: &mut Seats<I, N, M, B>,
+    zone: ZoneIn<Z>,
+    seats: &mut SeatsIn<Z>,
     setting: Setting,
 ) -> io::Result<Times>
     requires identity { HasIdentity K.number K.blocks zone }
 {
-    let shared = SharedZone::<K, I, M, B>::new(zone);
+    let shared = SharedIn::<K, Z>::new(zone);
     let round = time_round(rt, alloc, &shared, seats, setting)?;
     let after = time_round(rt, alloc, &shared, seats, setting)?;
     Ok(Times {
@@ -83,16 +78,13 @@ fn time_rounds<
 /// How long a round takes.
 fn time_round<
     K: ZoneIdentity + Send + Sync,
-    I: Ledger + Send + Sync,
-    N: Ledger,
-    M: Ledger + Send + Sync,
-    B: Ledger + Send + Sync,
+    Z: Opening + Send + Sync,
     R: Threads + Wait + Clock + Sync,
 >(
     rt: &R,
     alloc: Global,
-    shared: &SharedZone<K, I, M, B>,
-    seats: &mut Seats<I, N, M, B>,
+    shared: &SharedIn<K, Z>,
+    seats: &mut SeatsIn<Z>,
     setting: Setting,
 ) -> io::Result<Times> {
     let Setting { threads, capacity } = setting;

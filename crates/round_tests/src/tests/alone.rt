@@ -4,15 +4,13 @@ ghost use Rattle.zone_core.specs.Books.{AreFor};
 use super::Runtime;
 use super::collecting::collector;
 use super::gates::{Plan, Until, Watch};
-use super::names::Shared;
-use super::opening::{Opening, open_zone};
+use super::opening::{Opened, Shared, open_zone};
 use frame_core::Record;
 use huge_core::{Stop, reserve_alone};
 use round_core::{Gate, Point, ZoneIdentity, compact_alone};
 use std::marker::Brand;
 use std::process::Abort;
-use std::sync::ledger::Ledger;
-use zone_core::{Blanks, Seats, Zone};
+use zone_core::{Blanks, Opening, SeatsIn, ZoneIn};
 
 const PAGES: u32 = 64;
 
@@ -34,14 +32,13 @@ fn assert_in_order(rt: &impl Abort, records: &[Record]) {
 }
 
 /// Runs a round with one copier, and room for three pages, over a zone that nobody else has.
-fn run_alone<
-    I: Ledger + Send + Sync,
-    N: Ledger + Send + Sync,
-    M: Ledger + Send + Sync,
-    B: Ledger + Send + Sync,
-    G: Gate,
-    R: Runtime,
->(rt: &R, way: Way, zone: Zone<I, M, B>, seats: &mut Seats<I, N, M, B>, gate: &G) -> Zone<I, M, B> {
+fn run_alone<Z: Opening + Send + Sync, G: Gate, R: Runtime>(
+    rt: &R,
+    way: Way,
+    zone: ZoneIn<Z>,
+    seats: &mut SeatsIn<Z>,
+    gate: &G,
+) -> ZoneIn<Z> {
     match way {
         Way::Compact => {
             let (zone, round) = compact_alone(rt, rt.alloc(), zone, seats, 1, 3, gate);
@@ -62,20 +59,17 @@ fn run_alone<
 
 /// The gate is told of each step of each page. While it holds the committer, pages are in five places of the round, three in each. Their
 /// moves end in the order in which they were isolated.
-fn is_watched_in<
-    K: ZoneIdentity + Send + Sync,
-    I: Ledger + Send + Sync,
-    N: Ledger + Send + Sync,
-    M: Ledger + Send + Sync,
-    B: Ledger + Send + Sync,
-    R: Runtime,
->(rt: &R, way: Way, blanks: Blanks)
-    requires identity { (K.number ≡ 1) × (K.blocks ≡ 1) }
-    requires blanks { AreFor blanks I.name I.parts N.name N.parts M.name M.parts B.name B.parts }
+fn is_watched_in<Z: Opening + ZoneIdentity + Send + Sync, R: Runtime>(
+    rt: &R,
+    way: Way,
+    blanks: Blanks,
+)
+    requires identity { (Z.number ≡ 1) × (Z.blocks ≡ 1) }
+    requires blanks { AreFor blanks Z.isolated Z.rounds Z.moved Z.back }
 {
-    let mut opening = open_zone::<K, I, N, M, B, R>(rt, 1, Some(999), blanks);
+    let mut opening = open_zone::<Z, R>(rt, 1, Some(999), blanks);
     opening.fill(rt, PAGES);
-    let Opening {
+    let Opened {
         shared: Shared { zone },
         mut seats,
         ..
@@ -92,7 +86,7 @@ fn is_watched_in<
 }
 
 fn is_watched<R: Runtime>(rt: &R, way: Way) {
-    is_watched_in::<Brand, Brand, Brand, Brand, Brand, R>(rt, way, Blanks::new());
+    is_watched_in::<Brand, R>(rt, way, Blanks::new());
 }
 
 #[test]

@@ -2,12 +2,13 @@ use super::Runtime;
 use super::calls::{Answer, Call, client_of};
 use super::gates::{Plan, Until, Watch};
 use super::jobs::Job;
-use super::names::{Names, SeatsOf, Shared};
-use super::opening::{Counts, Opening, counts_of};
+use super::opening::{Counts, Opened, Shared, counts_of};
 use client_core::Client;
+use round_core::ZoneIdentity;
 use std::process::Abort;
 use std::slice::from_ref;
 use std::thread::{for_each_mut, join};
+use zone_core::{Opening, SeatsIn};
 
 /// Rounds beside four clients, and what comes of them.
 #[derive(Clone, Copy)]
@@ -37,7 +38,7 @@ fn four_clients<R: Abort + AllocGlobal>(rt: &R) -> [Client; 4] {
 }
 
 /// Four clients do their jobs, each on a thread of its own.
-fn work_all<Z: Names, R: Runtime>(
+fn work_all<Z: Opening + ZoneIdentity + Send + Sync, R: Runtime>(
     rt: &R,
     shared: &Shared<Z>,
     watch: &Watch,
@@ -58,10 +59,10 @@ fn work_all<Z: Names, R: Runtime>(
 
 /// The rounds of a scene, one after the other. How many pages they isolated, moved and put back in all. After them the clients have
 /// spoken as often as they do.
-fn run_rounds<Z: Names, R: Runtime>(
+fn run_rounds<Z: Opening + ZoneIdentity + Send + Sync, R: Runtime>(
     rt: &R,
     shared: &Shared<Z>,
-    seats: &mut SeatsOf<Z>,
+    seats: &mut SeatsIn<Z>,
     watch: &Watch,
     scene: &Scene,
 ) -> Counts {
@@ -82,7 +83,7 @@ fn added(sum: Counts, more: Counts) -> Counts {
     )
 }
 
-impl<Z: Names> Opening<Z> {
+impl<Z: Opening + ZoneIdentity + Send + Sync> Opened<Z> {
     /// Rounds run while four clients do their jobs.
     fn run_beside<R: Runtime>(
         &mut self,

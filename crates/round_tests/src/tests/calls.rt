@@ -1,12 +1,13 @@
 //! Calls of a client with plain numbers, and their answers, for tables of tests.
 
-use super::names::{Names, Shared};
+use super::opening::Shared;
 use bitflags::Flags;
 use client_core::{Client, ClientError, NoSlip, Receipts};
 use frame_core::{Address, ClientNo, FrameNo, PageFlags, SpaceNo, VPage, WordNo};
+use round_core::ZoneIdentity;
 use std::process::Abort;
 use std::sync::Wait;
-use zone_core::ZoneError;
+use zone_core::{Opening, ZoneError};
 
 /// A call of a client. Addresses are virtual pages of one space.
 #[derive(Clone, Copy, Debug)]
@@ -97,7 +98,7 @@ fn read(made: Result<(), ClientError>, words: [u64; 8]) -> Answer {
     }
 }
 
-impl<Z: Names> Shared<Z> {
+impl<Z: Opening + ZoneIdentity + Send + Sync> Shared<Z> {
     /// Makes a call.
     pub fn made<T: Receipts, R: Wait + Abort>(
         &self,

@@ -1,13 +1,12 @@
 use super::gates::{Plan, Until, Watch};
-use super::names::Names;
-use super::opening::Opening;
+use super::opening::Opened;
 use super::{Runtime, Trial, tries};
 use frame_core::{FrameNo, Order};
 use huge_core::{Collector, Huge, Report, Stop, give};
-use round_core::{Gate, NoGate, Point};
+use round_core::{Gate, NoGate, Point, ZoneIdentity};
 use std::process::Abort;
 use std::sync::Wait;
-use zone_core::ZoneError;
+use zone_core::{Opening, ZoneError};
 
 const PAGES: u32 = 200;
 
@@ -48,7 +47,7 @@ fn assert_got_none(rt: &impl Abort, report: &Report) {
     assert!(rt; report.stop == Stop::Rounds);
 }
 
-impl<Z: Names> Opening<Z> {
+impl<Z: Opening + ZoneIdentity + Send + Sync> Opened<Z> {
     /// What a collector reserves: `n` blocks, if it can.
     pub fn reserved<G: Gate, R: Runtime>(
         &mut self,

@@ -1,11 +1,11 @@
 use super::gates::{Plan, Until, Watch};
-use super::names::Names;
-use super::opening::Opening;
+use super::opening::Opened;
 use super::{Runtime, Trial, tries};
 use frame_core::{Record, Serial};
-use round_core::{Point, Round};
+use round_core::{Point, Round, ZoneIdentity};
 use std::process::Abort;
 use std::sync::Wait;
+use zone_core::Opening;
 
 const PAGES: u32 = 12;
 
@@ -24,7 +24,7 @@ fn moved_in(records: Option<&[Record]>, place: usize) -> Option<Serial> {
     }
 }
 
-impl<Z: Names> Opening<Z> {
+impl<Z: Opening + ZoneIdentity + Send + Sync> Opened<Z> {
     /// A round of so many pages that is watched.
     fn watched<R: Runtime>(
         &mut self,

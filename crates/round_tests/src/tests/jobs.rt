@@ -1,10 +1,11 @@
 use super::calls::{Answer, Call};
 use super::gates::{Until, Watch};
-use super::names::{Names, Shared};
+use super::opening::Shared;
 use client_core::Client;
-use round_core::Point;
+use round_core::{Point, ZoneIdentity};
 use std::process::Abort;
 use std::sync::Wait;
+use zone_core::Opening;
 
 /// What a client does on a thread of its own, beside rounds.
 #[derive(Clone, Copy)]
@@ -39,7 +40,7 @@ fn drawn(seed: u32, first: u32, second: u32, last: &mut [u64; 128]) -> (Call, An
     }
 }
 
-impl<Z: Names> Shared<Z> {
+impl<Z: Opening + ZoneIdentity + Send + Sync> Shared<Z> {
     /// Waits until no page is moving. It speaks while it has the lock, which it lets go only as it sleeps.
     fn wait_by_hand<R: Wait>(&self, rt: &R, watch: &Watch) {
         let mut room = self.zone.lock(rt);

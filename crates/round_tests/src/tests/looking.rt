@@ -1,13 +1,12 @@
 use super::gates::linger;
-use super::names::Names;
-use super::opening::{Opening, counts_of};
+use super::opening::{Opened, counts_of};
 use super::tally::Tally;
 use super::{Runtime, Trial, tries};
 use frame_core::Record;
-use round_core::{Gate, Keeping, Open, Point, SharedZone, ZoneIdentity};
+use round_core::{Gate, Keeping, Open, Point, SharedIn, ZoneIdentity};
 use std::process::Abort;
 use std::sync::Wait;
-use std::sync::ledger::Ledger;
+use zone_core::Opening;
 
 const PAGES: u32 = 16;
 
@@ -31,17 +30,17 @@ fn recorded(records: &[Record]) -> (u64, u64) {
 /// Takes the lock of a zone at each point, some turns after it was told. Each step that it was told of has been made, and no page has
 /// made the next step before it let the page go.
 #[derive(Drop)]
-struct Looks<'a, K: ZoneIdentity, I: Ledger, M: Ledger, B: Ledger, R: Wait + Abort>
+struct Looks<'a, Z: Opening + ZoneIdentity + Send + Sync, R: Wait + Abort>
 where
-    Open<K>: Keeping,
+    Open<Z>: Keeping,
 {
     rt: &'a R,
-    shared: &'a SharedZone<K, I, M, B>,
+    shared: &'a SharedIn<Z, Z>,
     told: Tally,
     let_go: Tally,
 }
 
-impl<K: ZoneIdentity, I: Ledger, M: Ledger, B: Ledger, R: Wait + Abort> Looks<'_, K, I, M, B, R> {
+impl<Z: Opening + ZoneIdentity + Send + Sync, R: Wait + Abort> Looks<'_, Z, R> {
     /// What the journal says, once the lock was free.
     fn look(&self) -> (u64, u64) {
         let room = self.shared.lock(self.rt);
@@ -73,13 +72,7 @@ impl<K: ZoneIdentity, I: Ledger, M: Ledger, B: Ledger, R: Wait + Abort> Looks<'_
     }
 }
 
-impl<
-    K: ZoneIdentity + Send + Sync,
-    I: Ledger + Send + Sync,
-    M: Ledger + Send + Sync,
-    B: Ledger + Send + Sync,
-    R: Wait + Abort + Sync,
-> Gate for Looks<'_, K, I, M, B, R> {
+impl<Z: Opening + ZoneIdentity + Send + Sync, R: Wait + Abort + Sync> Gate for Looks<'_, Z, R> {
     fn at(&self, point: Point, _who: usize) {
         self.told.add(point as usize, 1);
         linger(10);
@@ -89,7 +82,7 @@ impl<
     }
 }
 
-impl<Z: Names> Opening<Z> {
+impl<Z: Opening + ZoneIdentity + Send + Sync> Opened<Z> {
     /// Each page comes by each point.
     pub fn looks_at_each_point<R: Runtime>(&mut self, rt: &R, copiers: usize, room: usize) {
         self.fill(rt, PAGES);

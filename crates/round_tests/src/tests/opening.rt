@@ -4,65 +4,70 @@ ghost use Rattle.zone_core.specs.ZoneIdentity.{HasIdentity};
 
 use super::Runtime;
 use super::calls::{Answer, Call, client_of};
-use super::names::{Names, SeatsOf, Shared};
 use client_core::{Client, Unsettled, settle_clients};
 use frame_core::ZoneNo;
 use round_core::{
-    Gate, Keeping, NoGate, Open, Round, RoundError, SharedZone, ZoneIdentity, compact,
+    Gate, Keeping, NoGate, Open, Round, RoundError, SharedIn, ZoneIdentity, compact,
     compact_at_most,
 };
 use std::alloc::Global;
 use std::process::Abort;
 use std::sync::Wait;
-use std::sync::ledger::Ledger;
-use zone_core::{Blanks, EndSeat, Info, ScanSeat, Seats, Zone, ZoneError};
+use zone_core::{Blanks, EndSeatIn, Info, Opening, ScanSeatIn, Seats, SeatsIn, ZoneError, ZoneIn};
+
+/// A zone under its lock, whose type names its opening and what it is.
+#[derive(Drop)]
+pub struct Shared<Z: Opening + ZoneIdentity + Send + Sync>
+where
+    Open<Z>: Keeping,
+{
+    pub zone: SharedIn<Z, Z>,
+}
 
 /// A shared zone with its seats, and the client that maps its pages.
 #[derive(Drop)]
-pub struct Opening<Z: Names>
+pub struct Opened<Z: Opening + ZoneIdentity + Send + Sync>
 where
-    Open<Z::K>: Keeping,
+    Open<Z>: Keeping,
 {
     pub shared: Shared<Z>,
-    pub seats: SeatsOf<Z>,
+    pub seats: SeatsIn<Z>,
     pub keeper: Client,
 }
 
 /// A zone with so many places in its journal, or with a journal that is unrecorded.
-fn opened<I: Ledger, N: Ledger, M: Ledger, B: Ledger>(
+fn opened<Z: Opening>(
     alloc: Global,
     number: ZoneNo,
     blocks: u32,
     places: Option<u32>,
     blanks: Blanks,
-) -> Result<(Zone<I, M, B>, ScanSeat<I, N>, EndSeat<M, B>), ZoneError>
-    requires blanks { AreFor blanks I.name I.parts N.name N.parts M.name M.parts B.name B.parts }
+) -> Result<(ZoneIn<Z>, ScanSeatIn<Z>, EndSeatIn<Z>), ZoneError>
+    requires blanks { AreFor blanks Z.isolated Z.rounds Z.moved Z.back }
     ensures identity { IfOk result (λ opening. HasIdentity number blocks opening.0) }
 {
     match places {
-        Some(places) => Zone::<I, M, B>::open::<N>(alloc, number, blocks, places, blanks),
-        None => Zone::<I, M, B>::open_unrecorded::<N>(alloc, number, blocks, blanks),
+        Some(places) => ZoneIn::<Z>::open(alloc, number, blocks, places, blanks),
+        None => ZoneIn::<Z>::open_unrecorded(alloc, number, blocks, blanks),
     }
 }
 
 /// Opens zone 1, of so many pageblocks. Its journal has so many places, or is unrecorded.
-pub fn open_zone<
-    K: ZoneIdentity + Send + Sync,
-    I: Ledger + Send + Sync,
-    N: Ledger + Send + Sync,
-    M: Ledger + Send + Sync,
-    B: Ledger + Send + Sync,
-    R: Abort + AllocGlobal,
->(rt: &R, blocks: u32, places: Option<u32>, blanks: Blanks) -> Opening<(K, I, N, M, B)>
-    requires identity { (K.number ≡ 1) × (K.blocks ≡ blocks) }
-    requires blanks { AreFor blanks I.name I.parts N.name N.parts M.name M.parts B.name B.parts }
+pub fn open_zone<Z: Opening + ZoneIdentity + Send + Sync, R: Abort + AllocGlobal>(
+    rt: &R,
+    blocks: u32,
+    places: Option<u32>,
+    blanks: Blanks,
+) -> Opened<Z>
+    requires identity { (Z.number ≡ 1) × (Z.blocks ≡ blocks) }
+    requires blanks { AreFor blanks Z.isolated Z.rounds Z.moved Z.back }
 {
     let number = ZoneNo::new(1).expect(rt, "a zone");
-    let opened = opened::<I, N, M, B>(rt.alloc(), number, blocks, places, blanks);
+    let opened = opened::<Z>(rt.alloc(), number, blocks, places, blanks);
     let (zone, scan, ends) = opened.expect(rt, "a zone");
-    Opening {
+    Opened {
         shared: Shared {
-            zone: SharedZone::new(zone),
+            zone: SharedIn::<Z, Z>::new(zone),
         },
         seats: Seats { scan, ends },
         keeper: client_of(rt, 0),
@@ -72,12 +77,12 @@ pub fn open_zone<
 /// How many pages a round isolates, moves and puts back.
 pub type Counts = (u64, u64, u64);
 
-impl<Z: Names> Shared<Z> {
+impl<Z: Opening + ZoneIdentity + Send + Sync> Shared<Z> {
     /// A round with so many copiers and so much room, or why it is refused.
     pub fn try_round<G: Gate, R: Runtime>(
         &self,
         rt: &R,
-        seats: &mut SeatsOf<Z>,
+        seats: &mut SeatsIn<Z>,
         copiers: usize,
         room: usize,
         gate: &G,
@@ -90,7 +95,7 @@ impl<Z: Names> Shared<Z> {
     pub fn round<G: Gate, R: Runtime>(
         &self,
         rt: &R,
-        seats: &mut SeatsOf<Z>,
+        seats: &mut SeatsIn<Z>,
         copiers: usize,
         room: usize,
         gate: &G,
@@ -105,7 +110,7 @@ impl<Z: Names> Shared<Z> {
     pub fn round_at_most<R: Runtime>(
         &self,
         rt: &R,
-        seats: &mut SeatsOf<Z>,
+        seats: &mut SeatsIn<Z>,
         copiers: usize,
         most: u32,
     ) -> Round {
@@ -121,7 +126,7 @@ pub fn counts_of(round: &Round) -> Counts {
     (round.count, round.moved, round.back)
 }
 
-impl<Z: Names> Opening<Z> {
+impl<Z: Opening + ZoneIdentity + Send + Sync> Opened<Z> {
     /// Makes calls of the client that maps the pages.
     pub fn keeps<R: Wait + Abort>(&mut self, rt: &R, table: &[(Call, Answer)]) {
         self.shared.play(rt, &mut self.keeper, table);

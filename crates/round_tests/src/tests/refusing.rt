@@ -1,12 +1,12 @@
 use super::calls::{Answer, Call, client_of};
-use super::names::{Names, Shared};
-use super::opening::Opening;
+use super::opening::{Opened, Shared};
 use super::{Trial, tries};
 use client_core::Client;
+use round_core::ZoneIdentity;
 use std::process::Abort;
 use std::slice::from_ref;
 use std::sync::Wait;
-use zone_core::ZoneError;
+use zone_core::{Opening, ZoneError};
 
 /// Calls with their answers, that are made so many times.
 pub struct Table {
@@ -95,7 +95,7 @@ const WITHOUT_ROOM: Table = Table {
     ],
 };
 
-impl<Z: Names> Shared<Z> {
+impl<Z: Opening + ZoneIdentity + Send + Sync> Shared<Z> {
     fn play_table<R: Wait + Abort>(&self, rt: &R, client: &mut Client, table: &Table) {
         for _ in 0..table.times {
             self.play(rt, client, table.calls);
@@ -103,7 +103,7 @@ impl<Z: Names> Shared<Z> {
     }
 }
 
-impl<Z: Names> Opening<Z> {
+impl<Z: Opening + ZoneIdentity + Send + Sync> Opened<Z> {
     /// Makes the calls of tables. The client has a receipt for each that is accepted, which so many are, and each stands in the journal.
     pub fn refuses<R: Wait + Abort + AllocGlobal>(
         &mut self,

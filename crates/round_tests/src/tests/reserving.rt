@@ -1,10 +1,10 @@
 use super::collecting::collector;
-use super::names::Names;
-use super::opening::Opening;
+use super::opening::Opened;
 use super::{Runtime, Trial, tries};
 use huge_core::{Huge, Report, Stop};
-use round_core::{NoGate, RoundError};
+use round_core::{NoGate, RoundError, ZoneIdentity};
 use std::process::Abort;
+use zone_core::Opening;
 
 /// A zone with a page in each of these frames, what is asked of a collector, and what it reports.
 pub struct Case {
@@ -126,7 +126,7 @@ impl Case {
     }
 }
 
-impl<Z: Names> Opening<Z> {
+impl<Z: Opening + ZoneIdentity + Send + Sync> Opened<Z> {
     /// A collector reports what the case says. Where the end seat isn't whole, a part of it is kept back meanwhile.
     pub fn reserves<R: Runtime>(&mut self, rt: &R, case: &Case) {
         for frame in case.pages.iter() {

@@ -1,12 +1,11 @@
 use super::calls::{Answer, Call};
-use super::names::Names;
-use super::opening::{Opening, counts_of};
+use super::opening::{Opened, counts_of};
 use super::{Runtime, Trial, tries};
 use frame_core::Isolated;
-use round_core::{NoGate, RoundError, Stop};
+use round_core::{NoGate, RoundError, Stop, ZoneIdentity};
 use std::process::Abort;
 use std::sync::Wait;
-use zone_core::{Next, ZoneError};
+use zone_core::{Next, Opening, ZoneError};
 
 fn page_of(rt: &impl Abort, next: Result<Next, ZoneError>) -> Isolated {
     let Ok(Next::Page(page)) = next else {
@@ -32,7 +31,7 @@ const FEWER_THAN_IT_MAY: &[Limited] = &[(2, 6, 5, Stop::Met)];
 // More than are isolated under one hold of the lock.
 const MANY_PAGES: &[Limited] = &[(2, 20, 20, Stop::Most), (2, 20, 5, Stop::Met)];
 
-impl<Z: Names> Opening<Z> {
+impl<Z: Opening + ZoneIdentity + Send + Sync> Opened<Z> {
     /// Stores its number to a word of each page of the lower half.
     fn stores_each<R: Wait + Abort>(&mut self, rt: &R) {
         for number in 0..512 {

@@ -1,12 +1,13 @@
 use super::calls::{Answer, Call, client_number, client_of};
-use super::names::Names;
-use super::opening::Opening;
+use super::opening::Opened;
 use super::{Trial, tries};
 use client_core::{Client, Mismatch, Unsettled};
+use round_core::ZoneIdentity;
 use std::process::Abort;
 use std::sync::Wait;
+use zone_core::Opening;
 
-impl<Z: Names> Opening<Z> {
+impl<Z: Opening + ZoneIdentity + Send + Sync> Opened<Z> {
     /// Two clients that take turns.
     fn take_turns<R: Wait + Abort + AllocGlobal>(&mut self, rt: &R) -> [Client; 2] {
         let mut second = client_of(rt, 2);

@@ -1,13 +1,14 @@
 use super::beside::Scene;
 use super::calls::{Answer, Call, client_number};
 use super::jobs::Job;
-use super::names::{Names, Shared};
-use super::opening::Opening;
+use super::opening::{Opened, Shared};
 use super::scenes::TWO_PAGES;
 use super::{Runtime, Trial, tries};
 use client_core::{Client, Unsettled};
+use round_core::ZoneIdentity;
 use std::process::Abort;
 use std::sync::Wait;
+use zone_core::Opening;
 
 /// A round moves 16 pages beside a client whose receipts are unrecorded.
 const UNRECORDED: Scene = Scene {
@@ -17,7 +18,7 @@ const UNRECORDED: Scene = Scene {
     ..TWO_PAGES
 };
 
-impl<Z: Names> Shared<Z> {
+impl<Z: Opening + ZoneIdentity + Send + Sync> Shared<Z> {
     /// A client whose receipts are unrecorded stores to each of so many pages and loads what was stored, and does so with all words of
     /// the page, 50 times.
     pub fn use_pages_unrecorded<R: Wait + Abort>(&self, rt: &R, pages: u32) {
@@ -36,7 +37,7 @@ impl<Z: Names> Shared<Z> {
     }
 }
 
-impl<Z: Names> Opening<Z> {
+impl<Z: Opening + ZoneIdentity + Send + Sync> Opened<Z> {
     /// A zone whose journal is unrecorded is used by a client whose receipts are unrecorded, while a round moves its pages. There is
     /// nothing to settle.
     pub fn is_unrecorded<R: Runtime>(&mut self, rt: &R) {

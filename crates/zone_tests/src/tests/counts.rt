@@ -7,9 +7,8 @@ use super::{frame, order};
 use frame_core::{FrameNo, FrameState, Journal, PageNo, Record, Serial};
 use scan_core::Frames;
 use std::process::Abort;
-use std::sync::ledger::Ledger;
 use table_core::Entry;
-use zone_core::{Info, Look, ZoneOf};
+use zone_core::{Info, Look, Opening, ZoneInOf};
 
 /// The counts that a zone tells, the sets of its frames, and the newest page's number are what walks find.
 pub fn assert_counts(
@@ -186,9 +185,9 @@ fn isolated_page(records: &[Record], under: Serial) -> Option<PageNo> {
 }
 
 /// What is told of the page that a frame holds, or that left it, is what its entries and its frame say.
-pub fn assert_pages<const W: usize, I: Ledger, M: Ledger, B: Ledger>(
+pub fn assert_pages<const W: usize, Z: Opening>(
     rt: &impl Abort,
-    zone: &ZoneOf<W, I, M, B>,
+    zone: &ZoneInOf<W, Z>,
     lists: &[Listed],
 ) {
     let frames = zone.frames();

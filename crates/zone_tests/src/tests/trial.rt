@@ -7,8 +7,7 @@ use super::world::{CallForm, OpenWorld, Row};
 use super::zone::{Opened, Part};
 use std::marker::Brand;
 use std::process::Abort;
-use std::sync::ledger::Ledger;
-use zone_core::Blanks;
+use zone_core::{Blanks, Opening};
 
 /// How many words pages have.
 #[derive(Clone, Copy)]
@@ -57,42 +56,38 @@ impl<'a> Case<'a> {
     }
 }
 
-/// Opens what a case is tried with under names of its own.
+/// Opens what a case is tried with under a name of its own.
 pub fn tries(rt: &(impl Abort + AllocGlobal), case: &Case) {
-    tries_in::<Brand, Brand, Brand, Brand>(rt, case, Blanks::new());
+    tries_in::<Brand>(rt, case, Blanks::new());
 }
 
-fn tries_in<I: Ledger, N: Ledger, M: Ledger, B: Ledger>(
-    rt: &(impl Abort + AllocGlobal),
-    case: &Case,
-    blanks: Blanks,
-)
-    requires blanks { AreFor blanks I.name I.parts N.name N.parts M.name M.parts B.name B.parts }
+fn tries_in<Z: Opening>(rt: &(impl Abort + AllocGlobal), case: &Case, blanks: Blanks)
+    requires blanks { AreFor blanks Z.isolated Z.rounds Z.moved Z.back }
 {
     match case.1 {
-        Size::One => tries_with::<1, I, N, M, B>(rt, case, blanks),
-        Size::Eight => tries_with::<8, I, N, M, B>(rt, case, blanks),
-        Size::SixtyFour => tries_with::<64, I, N, M, B>(rt, case, blanks),
-        Size::FiveHundredTwelve => tries_with::<512, I, N, M, B>(rt, case, blanks),
+        Size::One => tries_with::<1, Z>(rt, case, blanks),
+        Size::Eight => tries_with::<8, Z>(rt, case, blanks),
+        Size::SixtyFour => tries_with::<64, Z>(rt, case, blanks),
+        Size::FiveHundredTwelve => tries_with::<512, Z>(rt, case, blanks),
     }
 }
 
-fn tries_with<const W: usize, I: Ledger, N: Ledger, M: Ledger, B: Ledger>(
+fn tries_with<const W: usize, Z: Opening>(
     rt: &(impl Abort + AllocGlobal),
     case: &Case,
     blanks: Blanks,
 )
-    requires blanks { AreFor blanks I.name I.parts N.name N.parts M.name M.parts B.name B.parts }
+    requires blanks { AreFor blanks Z.isolated Z.rounds Z.moved Z.back }
     requires size { W ≤ 65536 }
 {
     let Case(name, _, trial) = *case;
     match trial {
         Trial::Zone(places, parts) => {
-            Opened::<W, I, N, M, B>::of(rt, places, blanks).plays(rt, name, parts);
+            Opened::<W, Z>::of(rt, places, blanks).plays(rt, name, parts);
         }
         Trial::World(form, rows) => {
-            OpenWorld::<W, I, N, M, B>::of(rt, 1, blanks).plays(rt, form, name, rows);
+            OpenWorld::<W, Z>::of(rt, 1, blanks).plays(rt, form, name, rows);
         }
-        Trial::Drawn => OpenWorld::<W, I, N, M, B>::of(rt, 8, blanks).plays_draws(rt),
+        Trial::Drawn => OpenWorld::<W, Z>::of(rt, 8, blanks).plays_draws(rt),
     }
 }

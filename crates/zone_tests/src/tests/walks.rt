@@ -8,8 +8,7 @@ use super::trial::{Case, Size, Trial, tries};
 use super::values::ROWS;
 use super::world::{CallForm, Row, Step};
 use std::process::Abort;
-use std::sync::ledger::Ledger;
-use zone_core::{Ended, ZoneError, ZoneOf};
+use zone_core::{Ended, Opening, ZoneError, ZoneInOf};
 
 const MOVING: Answer = Answer::Refused(ZoneError::Moving);
 
@@ -111,9 +110,9 @@ const CASES: [(&'static str, &'static [Row<'static>]); 5] = [
 ];
 
 /// The lists, counts and sets of a zone are what one walk over all its entries finds.
-pub fn assert_kept<const W: usize, I: Ledger, M: Ledger, B: Ledger>(
+pub fn assert_kept<const W: usize, Z: Opening>(
     rt: &(impl Abort + AllocGlobal),
-    zone: &ZoneOf<W, I, M, B>,
+    zone: &ZoneInOf<W, Z>,
 ) {
     let (tables, frames) = (zone.tables(), zone.frames());
     let lists = walked(rt, tables, frames.len());

@@ -15,8 +15,7 @@ use frame_core::{Journal, Record, ZoneNo};
 use machine_core::{Scanned, WorldOf};
 use std::marker::Brand;
 use std::process::Abort;
-use std::sync::ledger::Ledger;
-use zone_core::{Blanks, ZoneOf};
+use zone_core::{Blanks, Opening, ZoneInOf};
 
 /// A step with a world.
 #[derive(Clone, Copy)]
@@ -60,18 +59,18 @@ pub enum CallForm {
 
 /// World 3.
 #[derive(Drop)]
-pub struct OpenWorld<const W: usize, I: Ledger, N: Ledger, M: Ledger, B: Ledger> {
-    world: WorldOf<W, I, N, M, B>,
+pub struct OpenWorld<const W: usize, Z: Opening> {
+    world: WorldOf<W, Z>,
 }
 
-impl<const W: usize, I: Ledger, N: Ledger, M: Ledger, B: Ledger> OpenWorld<W, I, N, M, B> {
+impl<const W: usize, Z: Opening> OpenWorld<W, Z> {
     /// So many pageblocks, and 4,096 places in the journal.
     pub fn of(rt: &(impl Abort + AllocGlobal), blocks: u32, blanks: Blanks) -> Self
-        requires blanks { AreFor blanks I.name I.parts N.name N.parts M.name M.parts B.name B.parts }
+        requires blanks { AreFor blanks Z.isolated Z.rounds Z.moved Z.back }
         requires size { W ≤ 65536 }
     {
         let number = ZoneNo::new(3).expect(rt, "a zone");
-        let opened = WorldOf::<W, I, N, M, B>::open(rt.alloc(), number, blocks, 4096, blanks);
+        let opened = WorldOf::<W, Z>::open(rt.alloc(), number, blocks, 4096, blanks);
         let world = opened.expect(rt, "a world");
         OpenWorld { world }
     }
@@ -185,11 +184,7 @@ impl<const W: usize, I: Ledger, N: Ledger, M: Ledger, B: Ledger> OpenWorld<W, I,
 }
 
 /// What a zone shows of a page or of its journal.
-fn shows<const W: usize, I: Ledger, M: Ledger, B: Ledger>(
-    rt: &impl Abort,
-    zone: &ZoneOf<W, I, M, B>,
-    step: Step,
-) -> Answer {
+fn shows<const W: usize, Z: Opening>(rt: &impl Abort, zone: &ZoneInOf<W, Z>, step: Step) -> Answer {
     match step {
         Step::Look(name) => zone.look(address(rt, name)).shown(),
         Step::Record(number) => recorded(rt, zone.journal(), number),
@@ -216,14 +211,11 @@ fn recorded(rt: &impl Abort, journal: &Journal, number: usize) -> Answer {
 }
 
 /// A world, here one without records, is handed back as it was where its round is open, and comes apart once it is shut.
-fn comes_apart<I: Ledger, N: Ledger, M: Ledger, B: Ledger>(
-    rt: &(impl Abort + AllocGlobal),
-    blanks: Blanks,
-)
-    requires blanks { AreFor blanks I.name I.parts N.name N.parts M.name M.parts B.name B.parts }
+fn comes_apart<Z: Opening>(rt: &(impl Abort + AllocGlobal), blanks: Blanks)
+    requires blanks { AreFor blanks Z.isolated Z.rounds Z.moved Z.back }
 {
     let number = ZoneNo::new(3).expect(rt, "a zone");
-    let opened = WorldOf::<8, I, N, M, B>::open_unrecorded(rt.alloc(), number, 1, blanks);
+    let opened = WorldOf::<8, Z>::open_unrecorded(rt.alloc(), number, 1, blanks);
     let mut world = opened.expect(rt, "a world");
     assert!(rt; world.scan() == Ok(Scanned::Met));
     let mut world = world.split().err().expect(rt, "an open round");
@@ -234,5 +226,5 @@ fn comes_apart<I: Ledger, N: Ledger, M: Ledger, B: Ledger>(
 
 #[test]
 fn a_world_comes_apart_at_rest(rt: HostRuntime) {
-    comes_apart::<Brand, Brand, Brand, Brand>(&rt, Blanks::new());
+    comes_apart::<Brand>(&rt, Blanks::new());
 }

@@ -11,8 +11,7 @@ use super::calls::{Call, PAGE, told, value_of};
 use super::client;
 use frame_core::{IsolatedOf, Serial, ZoneNo};
 use std::process::Abort;
-use std::sync::ledger::Ledger;
-use zone_core::{Blanks, EndSeat, Seats, ZoneOf, compact};
+use zone_core::{Blanks, EndSeatIn, Opening, Seats, SeatsIn, ZoneInOf, compact};
 
 /// A block: its first frame and its order.
 pub type Block = (u32, u32);
@@ -67,22 +66,22 @@ pub struct Part<'a> {
 /// Zone 3, of one pageblock with pages of so many words, and a page in its frame 0. Besides its seats, the page that is isolated, the
 /// parts that were split off the end seat, and how many pages were isolated.
 #[derive(Drop)]
-pub struct Opened<const W: usize, I: Ledger, N: Ledger, M: Ledger, B: Ledger> {
-    zone: ZoneOf<W, I, M, B>,
-    seats: Seats<I, N, M, B>,
+pub struct Opened<const W: usize, Z: Opening> {
+    zone: ZoneInOf<W, Z>,
+    seats: SeatsIn<Z>,
     page: Option<IsolatedOf<W>>,
-    parts: Vec<EndSeat<M, B>>,
+    parts: Vec<EndSeatIn<Z>>,
     isolated: u64,
 }
 
-impl<const W: usize, I: Ledger, N: Ledger, M: Ledger, B: Ledger> Opened<W, I, N, M, B> {
+impl<const W: usize, Z: Opening> Opened<W, Z> {
     /// With so many places in its journal.
     pub fn of(rt: &(impl Abort + AllocGlobal), places: u32, blanks: Blanks) -> Self
-        requires blanks { AreFor blanks I.name I.parts N.name N.parts M.name M.parts B.name B.parts }
+        requires blanks { AreFor blanks Z.isolated Z.rounds Z.moved Z.back }
         requires size { W ≤ 65536 }
     {
         let number = ZoneNo::new(3).expect(rt, "a zone");
-        let opened = ZoneOf::<W, I, M, B>::open::<N>(rt.alloc(), number, 1, places, blanks);
+        let opened = ZoneInOf::<W, Z>::open(rt.alloc(), number, 1, places, blanks);
         let (zone, scan, ends) = opened.expect(rt, "a zone");
         Opened {
             zone,

@@ -7,10 +7,9 @@ use super::super::answers::{Answer, Shown};
 use super::OpenWorld;
 use bitflags::Flags;
 use frame_core::{ClientNo, PageFlags};
-use std::sync::ledger::Ledger;
-use zone_core::ZoneCallOf;
+use zone_core::{Opening, ZoneCallOf};
 
-impl<const W: usize, I: Ledger, N: Ledger, M: Ledger, B: Ledger> OpenWorld<W, I, N, M, B> {
+impl<const W: usize, Z: Opening> OpenWorld<W, Z> {
     /// Makes a call by the method of its name.
     pub fn by_method(&mut self, client: ClientNo, call: ZoneCallOf<W>) -> Answer {
         let world = &mut self.world;

@@ -8,13 +8,12 @@ use super::super::{address, word};
 use super::{Opened, Step};
 use frame_core::{Cause, IsolatedOf, PageNo, PageOf, Record, Serial, ZoneNo};
 use std::process::Abort;
-use std::sync::ledger::Ledger;
-use zone_core::{Info, Look, Next, Stranger, ZoneError};
+use zone_core::{Info, Look, Next, Opening, Stranger, ZoneError};
 
 /// What is told of a zone: its counts, the length of its journal, and what is known of its page.
 type Told = (Info, u64, Result<Look, ZoneError>);
 
-impl<const W: usize, I: Ledger, N: Ledger, M: Ledger, B: Ledger> Opened<W, I, N, M, B> {
+impl<const W: usize, Z: Opening> Opened<W, Z> {
     pub fn move_page(&mut self, rt: &impl Abort, step: Step) -> Answer
         requires { W ≤ 65536 }
     {

@@ -8,9 +8,9 @@ use super::super::{address, client, frame, order, word};
 use super::{Block, Opened};
 use frame_core::{FrameNo, Order};
 use std::process::Abort;
-use std::sync::ledger::Ledger;
+use zone_core::Opening;
 
-impl<const W: usize, I: Ledger, N: Ledger, M: Ledger, B: Ledger> Opened<W, I, N, M, B> {
+impl<const W: usize, Z: Opening> Opened<W, Z> {
     pub fn write(&mut self, rt: &impl Abort, from: u32, values: &[u64]) -> Answer
         requires { W ≤ 65536 }
     {
