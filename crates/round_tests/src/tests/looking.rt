@@ -30,7 +30,7 @@ fn recorded(records: &[Record]) -> (u64, u64) {
 /// Takes the lock of a zone at each point, some turns after it was told. Each step that it was told of has been made, and no page has
 /// made the next step before it let the page go.
 #[derive(Drop)]
-struct Looks<'a, Z: Opening + ZoneIdentity + Send + Sync, R: Wait + Abort>
+struct Looks<'a, Z: Opening + ZoneIdentity, R: Wait + Abort>
 where
     Open<Z>: Keeping,
 {
@@ -40,7 +40,7 @@ where
     let_go: Tally,
 }
 
-impl<Z: Opening + ZoneIdentity + Send + Sync, R: Wait + Abort> Looks<'_, Z, R> {
+impl<Z: Opening + ZoneIdentity, R: Wait + Abort> Looks<'_, Z, R> {
     /// What the journal says, once the lock was free.
     fn look(&self) -> (u64, u64) {
         let room = self.shared.lock(self.rt);

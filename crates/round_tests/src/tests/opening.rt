@@ -35,8 +35,8 @@ where
     pub keeper: Client,
 }
 
-/// A zone with so many places in its journal, or with a journal that is unrecorded.
-fn opened<Z: Opening>(
+/// Opens a zone with so many places in its journal, or with a journal that is unrecorded.
+fn open_with<Z: Opening>(
     alloc: Global,
     number: ZoneNo,
     blocks: u32,
@@ -63,7 +63,7 @@ pub fn open_zone<Z: Opening + ZoneIdentity + Send + Sync, R: Abort + AllocGlobal
     requires blanks { AreFor blanks Z.isolated Z.rounds Z.moved Z.back }
 {
     let number = ZoneNo::new(1).expect(rt, "a zone");
-    let opened = opened::<Z>(rt.alloc(), number, blocks, places, blanks);
+    let opened = open_with::<Z>(rt.alloc(), number, blocks, places, blanks);
     let (zone, scan, ends) = opened.expect(rt, "a zone");
     Opened {
         shared: Shared {
