@@ -6,7 +6,7 @@ use crate::huge::Huge;
 use crate::report::{Report, Stop};
 use arrayvec::ArrayVec;
 use frame_core::Order;
-use round_core::{Gate, SharedIn, Stop as RoundStop, ZoneIdentity, compact};
+use round_core::{Gate, SharedZone, Stop as RoundStop, ZoneIdentity, compact};
 use std::alloc::Global;
 use std::sync::Wait;
 use std::thread::Threads;
@@ -43,7 +43,7 @@ impl Collector {
         &self,
         rt: &R,
         alloc: Global,
-        shared: &SharedIn<K, Z>,
+        shared: &SharedZone<K, Z>,
         seats: &mut SeatsIn<Z>,
         n: usize,
         gate: &G,
@@ -83,7 +83,7 @@ impl Collector {
     fn fill<K: ZoneIdentity, Z: Opening, R: Wait>(
         &self,
         rt: &R,
-        shared: &SharedIn<K, Z>,
+        shared: &SharedZone<K, Z>,
         n: usize,
         got: &mut ArrayVec<Option<Huge>, 8>,
     ) -> Result<(), ZoneError>
@@ -105,7 +105,7 @@ impl Collector {
 /// Takes the lowest free block of an order.
 fn take<K: ZoneIdentity, Z: Opening, R: Wait>(
     rt: &R,
-    shared: &SharedIn<K, Z>,
+    shared: &SharedZone<K, Z>,
     order: Order,
 ) -> Result<Huge, ZoneError>
     ensures got { IfOk result (λ huge. (huge.order ≡ order) × IsHandedOut huge) }

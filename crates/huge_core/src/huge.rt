@@ -7,7 +7,7 @@ ghost use Rattle.zone_core.specs.ZoneIdentity.{HasIdentity};
 ghost use Rattle.huge_core.specs.Huge.{IsHandedOut, IsTakenBack, IsRefusedBack, IsRead, IsWritten, IsRefusedWords};
 
 use frame_core::{BlockNo, FrameNo, Order, block_of};
-use round_core::{SharedIn, ZoneIdentity};
+use round_core::{SharedZone, ZoneIdentity};
 use std::marker::Model;
 use std::sync::Wait;
 use zone_core::{Opening, ZoneError, ZoneIn};
@@ -75,7 +75,7 @@ impl Huge {
     pub fn read<K: ZoneIdentity, Z: Opening, R: Wait>(
         &self,
         rt: &R,
-        shared: &SharedIn<K, Z>,
+        shared: &SharedZone<K, Z>,
         from: usize,
         values: &mut [u64],
     ) -> Result<(), ZoneError>
@@ -95,7 +95,7 @@ impl Huge {
     pub fn write<K: ZoneIdentity, Z: Opening, R: Wait>(
         &mut self,
         rt: &R,
-        shared: &SharedIn<K, Z>,
+        shared: &SharedZone<K, Z>,
         from: usize,
         values: &[u64],
     ) -> Result<(), ZoneError>
@@ -153,7 +153,7 @@ impl Huge {
 /// back by its number.
 pub fn give<K: ZoneIdentity, Z: Opening, R: Wait>(
     rt: &R,
-    shared: &SharedIn<K, Z>,
+    shared: &SharedZone<K, Z>,
     huge: Huge,
 ) -> Result<(), (ZoneError, Huge)>
     ensures ok { OnOk result (IsTakenBack K.number K.blocks huge) }

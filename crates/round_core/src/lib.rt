@@ -29,4 +29,4 @@ pub use gate::{Gate, NoGate, Point};
 pub use identity::ZoneIdentity;
 pub use keeping::{Keeping, Open};
 pub use round::{Round, Stop};
-pub use shared_zone::{KeptIn, KeptZone, Room, RoomIn, SharedIn, SharedZone, ZoneGuard};
+pub use shared_zone::{KeptIn, KeptZone, Room, RoomIn, SharedZone, ZoneGuard};

@@ -132,17 +132,14 @@ impl<K: Keeping, I: Ledger, M: Ledger, B: Ledger> Drop for KeptZone<K, I, M, B> 
     }
 }
 
-/// A zone under one lock that anyone may use: it keeps nothing but that the zone is valid.
-pub type SharedZone<K, I, M, B> = KeptZone<Open<K>, I, M, B>;
-
 /// What is under the lock of a zone that `Z` names.
 pub type RoomIn<K, Z> = Room<K, IsolatedPages<Z>, MovedPages<Z>, PagesBack<Z>>;
 
 /// A zone that `Z` names under one lock, which keeps what `K` says of it.
 pub type KeptIn<K, Z> = KeptZone<K, IsolatedPages<Z>, MovedPages<Z>, PagesBack<Z>>;
 
-/// A zone that `Z` names under one lock that anyone may use.
-pub type SharedIn<K, Z> = KeptIn<Open<K>, Z>;
+/// A zone that `Z` names under one lock that anyone may use: it keeps nothing but that the zone is valid.
+pub type SharedZone<K, Z> = KeptIn<Open<K>, Z>;
 
 impl<K: Keeping, I: Ledger, M: Ledger, B: Ledger> KeptZone<K, I, M, B> {
     ghost use Rattle.std.specs.Prelude.{None};

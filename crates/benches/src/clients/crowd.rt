@@ -4,7 +4,7 @@ use crate::opening::page;
 use crate::times::nanos_since;
 use client_core::Client;
 use frame_core::WordNo;
-use round_core::{SharedIn, ZoneIdentity};
+use round_core::{SharedZone, ZoneIdentity};
 use std::alloc::Global;
 use std::sync::Wait;
 use std::thread::{Threads, for_each_mut};
@@ -30,7 +30,7 @@ pub fn time_calls<
     K: ZoneIdentity + Send + Sync,
     Z: Opening + Send + Sync,
     R: Threads + Wait + Clock + Sync,
->(rt: &R, shared: &SharedIn<K, Z>, clients: &mut [Client]) -> Option<u64> {
+>(rt: &R, shared: &SharedZone<K, Z>, clients: &mut [Client]) -> Option<u64> {
     let start = Instant::now(rt).ok()?;
     use_all(rt, shared, clients);
     nanos_since(rt, &start).ok()
@@ -39,7 +39,7 @@ pub fn time_calls<
 /// Lets each of at most four clients make its calls, on a thread of its own.
 fn use_all<K: ZoneIdentity + Send + Sync, Z: Opening + Send + Sync, R: Threads + Wait + Sync>(
     rt: &R,
-    shared: &SharedIn<K, Z>,
+    shared: &SharedZone<K, Z>,
     clients: &mut [Client],
 ) {
     for_each_mut(rt, clients, 4, &|_, client| use_pages(rt, shared, client));
@@ -48,7 +48,7 @@ fn use_all<K: ZoneIdentity + Send + Sync, Z: Opening + Send + Sync, R: Threads +
 /// Stores to the client's word of each page and loads it, by turns, until a call is refused.
 fn use_pages<K: ZoneIdentity, Z: Opening, R: Wait>(
     rt: &R,
-    shared: &SharedIn<K, Z>,
+    shared: &SharedZone<K, Z>,
     client: &mut Client,
 ) {
     for turn in 0..CALLS / 2 {
@@ -61,7 +61,7 @@ fn use_pages<K: ZoneIdentity, Z: Opening, R: Wait>(
 /// Stores to the client's word of the page whose turn it is, and loads it.
 fn use_page<K: ZoneIdentity, Z: Opening, R: Wait>(
     rt: &R,
-    shared: &SharedIn<K, Z>,
+    shared: &SharedZone<K, Z>,
     client: &mut Client,
     turn: u32,
 ) -> Option<u64> {
@@ -76,7 +76,7 @@ fn use_page<K: ZoneIdentity, Z: Opening, R: Wait>(
 pub fn time_loads<K: ZoneIdentity, Z: Opening, R: Wait + Clock>(
     rt: &R,
     alloc: Global,
-    shared: &SharedIn<K, Z>,
+    shared: &SharedZone<K, Z>,
     client: &mut Client,
 ) -> Option<Vec<u64>> {
     let mut nanos = Vec::new(alloc);
@@ -89,7 +89,7 @@ pub fn time_loads<K: ZoneIdentity, Z: Opening, R: Wait + Clock>(
 /// How long a load of the client's word of the page takes whose turn it is, in nanoseconds.
 fn time_load<K: ZoneIdentity, Z: Opening, R: Wait + Clock>(
     rt: &R,
-    shared: &SharedIn<K, Z>,
+    shared: &SharedZone<K, Z>,
     client: &mut Client,
     turn: u32,
 ) -> Option<u64> {

@@ -3,7 +3,7 @@
 use super::crowd::PAGES;
 use crate::opening::{FRAMES, page};
 use client_core::Client;
-use round_core::{NoGate, SharedIn, ZoneIdentity, compact};
+use round_core::{NoGate, SharedZone, ZoneIdentity, compact};
 use std::alloc::Global;
 use std::sync::Wait;
 use std::sync::atomic::{AtomicBool, Ordering};
@@ -21,7 +21,7 @@ pub fn run_rounds<
 >(
     rt: &R,
     alloc: Global,
-    shared: &SharedIn<K, Z>,
+    shared: &SharedZone<K, Z>,
     seats: &mut SeatsIn<Z>,
     keeper: &mut Client,
     cap: usize,
@@ -45,7 +45,7 @@ pub fn run_rounds<
 /// Frees as many frames as the clients have pages, from this one on.
 fn free<K: ZoneIdentity, Z: Opening, R: Wait>(
     rt: &R,
-    shared: &SharedIn<K, Z>,
+    shared: &SharedZone<K, Z>,
     keeper: &mut Client,
     first: u32,
 ) -> Option<()> {

@@ -11,7 +11,7 @@ use crate::opening::{FRAMES, Opened, open, page};
 use bitflags::Flags;
 use client_core::{Client, settle_clients};
 use frame_core::{ClientNo, FrameNo, PageFlags};
-use round_core::{SharedIn, ZoneIdentity};
+use round_core::{SharedZone, ZoneIdentity};
 use std::alloc::Global;
 use std::sync::Wait;
 use std::sync::atomic::{AtomicBool, Ordering};
@@ -48,7 +48,7 @@ pub fn run<
 {
     let mut clients = clients(alloc, plan.clients)?;
     let Opened { zone, mut seats } = open::<Z>(alloc, blanks)?;
-    let shared = SharedIn::<K, Z>::new(zone);
+    let shared = SharedZone::<K, Z>::new(zone);
     work_and_settle(rt, alloc, &shared, &mut seats, &mut clients, plan)
 }
 
@@ -60,7 +60,7 @@ fn work_and_settle<
 >(
     rt: &R,
     alloc: Global,
-    shared: &SharedIn<K, Z>,
+    shared: &SharedZone<K, Z>,
     seats: &mut SeatsIn<Z>,
     clients: &mut [Client],
     plan: Plan,
@@ -80,7 +80,7 @@ fn work_and_settle<
 /// Compares the receipts of clients with the journal.
 fn settle<K: ZoneIdentity, Z: Opening, R: Wait>(
     rt: &R,
-    shared: &SharedIn<K, Z>,
+    shared: &SharedZone<K, Z>,
     clients: &[Client],
 ) -> Option<()> {
     settle_clients(shared.lock(rt).zone(), clients).ok()
@@ -100,7 +100,7 @@ fn clients(alloc: Global, more: u32) -> Option<Vec<Client>> {
 /// Maps a page to each frame.
 fn map_all<K: ZoneIdentity, Z: Opening, R: Wait>(
     rt: &R,
-    shared: &SharedIn<K, Z>,
+    shared: &SharedZone<K, Z>,
     keeper: &mut Client,
 ) -> Option<()> {
     for number in 0..FRAMES {
@@ -123,7 +123,7 @@ fn work_beside_rounds<
 >(
     rt: &R,
     alloc: Global,
-    shared: &SharedIn<K, Z>,
+    shared: &SharedZone<K, Z>,
     seats: &mut SeatsIn<Z>,
     keeper: &mut Client,
     crowd: &mut [Client],
@@ -151,7 +151,7 @@ fn take_times<
 >(
     rt: &R,
     alloc: Global,
-    shared: &SharedIn<K, Z>,
+    shared: &SharedZone<K, Z>,
     clients: &mut [Client],
     work: Work,
 ) -> Option<Spread> {

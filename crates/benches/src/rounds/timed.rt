@@ -7,7 +7,7 @@ use super::alone::{half_full, time_moves};
 use crate::opening::Opened;
 use crate::settings::Setting;
 use crate::times::{Times, nanos_since};
-use round_core::{NoGate, SharedIn, ZoneIdentity, compact};
+use round_core::{NoGate, SharedZone, ZoneIdentity, compact};
 use std::alloc::Global;
 use std::io;
 use std::marker::Brand;
@@ -66,7 +66,7 @@ fn time_rounds<
 ) -> io::Result<Times>
     requires identity { HasIdentity K.number K.blocks zone }
 {
-    let shared = SharedIn::<K, Z>::new(zone);
+    let shared = SharedZone::<K, Z>::new(zone);
     let round = time_round(rt, alloc, &shared, seats, setting)?;
     let after = time_round(rt, alloc, &shared, seats, setting)?;
     Ok(Times {
@@ -83,7 +83,7 @@ fn time_round<
 >(
     rt: &R,
     alloc: Global,
-    shared: &SharedIn<K, Z>,
+    shared: &SharedZone<K, Z>,
     seats: &mut SeatsIn<Z>,
     setting: Setting,
 ) -> io::Result<Times> {

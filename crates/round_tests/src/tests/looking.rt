@@ -3,7 +3,7 @@ use super::opening::{Opened, counts_of};
 use super::tally::Tally;
 use super::{Runtime, Trial, tries};
 use frame_core::Record;
-use round_core::{Gate, Keeping, Open, Point, SharedIn, ZoneIdentity};
+use round_core::{Gate, Keeping, Open, Point, SharedZone, ZoneIdentity};
 use std::process::Abort;
 use std::sync::Wait;
 use zone_core::Opening;
@@ -35,7 +35,7 @@ where
     Open<Z>: Keeping,
 {
     rt: &'a R,
-    shared: &'a SharedIn<Z, Z>,
+    shared: &'a SharedZone<Z, Z>,
     told: Tally,
     let_go: Tally,
 }

@@ -7,7 +7,7 @@ use super::calls::{Answer, Call, client_of};
 use client_core::{Client, Unsettled, settle_clients};
 use frame_core::ZoneNo;
 use round_core::{
-    Gate, Keeping, NoGate, Open, Round, RoundError, SharedIn, ZoneIdentity, compact,
+    Gate, Keeping, NoGate, Open, Round, RoundError, SharedZone, ZoneIdentity, compact,
     compact_at_most,
 };
 use std::alloc::Global;
@@ -21,7 +21,7 @@ pub struct Shared<Z: Opening + ZoneIdentity + Send + Sync>
 where
     Open<Z>: Keeping,
 {
-    pub zone: SharedIn<Z, Z>,
+    pub zone: SharedZone<Z, Z>,
 }
 
 /// A shared zone with its seats, and the client that maps its pages.
@@ -67,7 +67,7 @@ pub fn open_zone<Z: Opening + ZoneIdentity + Send + Sync, R: Abort + AllocGlobal
     let (zone, scan, ends) = opened.expect(rt, "a zone");
     Opened {
         shared: Shared {
-            zone: SharedIn::<Z, Z>::new(zone),
+            zone: SharedZone::<Z, Z>::new(zone),
         },
         seats: Seats { scan, ends },
         keeper: client_of(rt, 0),
