@@ -35,10 +35,6 @@ const ROWS: &[(Call, Answer)] = &[
     ),
     (Call::MapAt(HIGHEST, 1), Answer::Refused(ZoneError::Range)),
     (
-        Call::Load(PAST_THE_SPACE, 0),
-        Answer::Refused(ZoneError::Unmapped),
-    ),
-    (
         Call::Pin(PAST_THE_SPACES),
         Answer::Refused(ZoneError::Unmapped),
     ),
@@ -53,6 +49,10 @@ const ROWS: &[(Call, Answer)] = &[
     ),
     (Call::Share(LAST, (1, 0)), Answer::Done),
     (Call::Store((1, 0), 0, 7), Answer::Done),
+    (
+        Call::Load(PAST_THE_SPACE, 0),
+        Answer::Refused(ZoneError::Unmapped),
+    ),
     (Call::Load(LAST, 0), Answer::Value(7)),
     (Call::Load(OTHER, 0), Answer::Value(0)),
     (Call::Unmap(LAST), Answer::Done),
