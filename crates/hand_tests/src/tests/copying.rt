@@ -187,6 +187,7 @@ fn copy_back<R: Wait + Abort>(rt: &R, sender: &mut DoneSender, copy: Copied) -> 
 fn hands_the_copy_back_where_the_taker_is_gone(rt: HostRuntime) {
     let (mut senders, taker) = opened(&rt, rt.alloc(), 2, 1);
     let mut one = last_sender(&rt, &mut senders);
+    assert!(rt; one.most() == 1);
     drop(taker);
     let copy = copy_back(&rt, &mut one, copy_of(&rt, 0, 3));
     assert_is_copy(&rt, copy, 3, 3);
@@ -238,7 +239,7 @@ fn assert_finds_one<R: Wait + Abort>(rt: &R, taker: &mut DoneTaker, serial: Seri
     assert_finds_nothing(rt, taker);
 }
 
-// Tries before each mark and each copy, and after them.
+// Tries before each mark and each copy, and after them. A taker that waits goes on after the first mark too.
 #[test]
 fn takes_without_waiting(rt: HostRuntime) {
     let (mut senders, mut taker) = opened(&rt, rt.alloc(), 2, 4);
@@ -248,6 +249,8 @@ fn takes_without_waiting(rt: HostRuntime) {
     assert_closes(&rt, &mut one);
     assert_sends(&rt, &mut two, copy_of(&rt, 1, 3));
     assert_finds_one(&rt, &mut taker, 1003, 3);
+    assert_sends(&rt, &mut two, copy_of(&rt, 1, 4));
+    assert_is_copy(&rt, taken_copy(&rt, &mut taker), 1004, 4);
     assert_closes(&rt, &mut two);
     assert!(rt; matches!(taker.try_take(&rt), Some(Came::End)));
 }

@@ -2,7 +2,7 @@ ghost use Rattle.std.specs.Prelude.{◌≡◌, ◌+◌, ◌<◌, ◌++◌, ◌�
 
 use super::{assert_of, is_page, isolated};
 use frame_core::{Isolated, Serial};
-use hand_core::{Batch, Giver, Taker, Takers, Took, open, open_in_batches, settle};
+use hand_core::{Batch, Giver, HandError, Taker, Takers, Took, open, open_in_batches, settle};
 use std::alloc::Global;
 use std::process::Abort;
 use std::sync::Wait;
@@ -262,6 +262,12 @@ fn settles_with_no_page(rt: HostRuntime) {
     assert_settles_with_one(&rt, rt.alloc(), giver, one, 0, 0);
 }
 
+#[test]
+fn opens_for_four_takers_at_most(rt: HostRuntime) {
+    let refused = open(&rt, rt.alloc(), BASE, 5, 1);
+    assert!(rt; matches!(refused, Err(HandError::Range)));
+}
+
 fn taken_page<R: Wait + Abort>(rt: &R, taker: &mut Taker) -> Isolated
     requires { taker.old.ended ≡ false }
     ensures { (taker.new.ended ≡ false) × (taker.new.hand_over ≡ taker.old.hand_over) }
@@ -301,6 +307,14 @@ fn answers_gone_after_the_pages_where_the_giver_is_gone(rt: HostRuntime) {
     assert!(rt; taken_page(&rt, &mut one).serial() == BASE);
     assert_gone(&rt, &mut one);
     assert_gone(&rt, &mut one);
+}
+
+#[test]
+fn answers_the_end_where_the_giver_closed_and_is_gone(rt: HostRuntime) {
+    let (mut giver, mut one) = opened_for_one(&rt, rt.alloc(), BASE, 1);
+    assert_closes(&rt, &mut giver);
+    drop(giver);
+    assert!(rt; page_or_end(&rt, &mut one).is_none());
 }
 
 // A hand-over with room for two batches of three pages.
@@ -345,4 +359,13 @@ fn takes_the_pages_of_a_batch_one_by_one(rt: HostRuntime) {
     assert_takes(&rt, &mut one, 2, false);
     assert!(rt; page_or_end(&rt, &mut one).is_none());
     assert_settles_with_one(&rt, rt.alloc(), giver, one, BASE, 3);
+}
+
+#[test]
+fn is_not_settled_while_pages_wait(rt: HostRuntime) {
+    let (mut giver, one) = opened_for_threes(&rt, rt.alloc());
+    assert_gives_three(&rt, &mut giver);
+    assert_closes(&rt, &mut giver);
+    let takers = vec![in rt.alloc(); one].expect(&rt, "memory");
+    assert!(rt; settle(giver, takers).is_err());
 }
