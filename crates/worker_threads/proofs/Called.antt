@@ -1,5 +1,5 @@
 -- Each call that a client makes leaves a move whose words are lent as it is, and the shape of the zone too.
-use Rattle.std.proofs.Common.{◌≡◌, ℕ, Bool, true, false, cond, not, ◌∷◌, refl, ◌∙◌, ap, Option, Some, None, ◌&&◌, if◌then◌else◌, arith}
+use Rattle.std.proofs.Common.{◌≡◌, ℕ, Bool, true, false, cond, not, refl, Option, Some, None, ◌&&◌, if◌then◌else◌, arith}
 use Rattle.std.specs.Prelude.{IsSome, is_some, nat_lt, unwrap_or}
 use Rattle.std.specs.Option.{option_or}
 use Rattle.std.proofs.lemmas.Bool.{and_parts, ltb-true, not-false}

@@ -1,5 +1,5 @@
 -- Where the scanners met, they have met for as long as the round is quiet.
-use Rattle.std.proofs.Common.{◌≡◌, ℕ, Bool, true, false, ◌∷◌, refl, sym, ap, ◌∙◌, Option, Some, nat_eq, if◌then◌else◌}
+use Rattle.std.proofs.Common.{◌≡◌, ℕ, Bool, true, false, refl, sym, ◌∙◌, Some, nat_eq, if◌then◌else◌}
 use Rattle.std.proofs.lemmas.Bool.{both_ways}
 use Rattle.frame_core.specs.declared.record.Cause.{Cause}
 use Rattle.frame_core.specs.declared.record.Cause.TheVariants.{Pinned}
@@ -27,7 +27,7 @@ module _ (z : ZoneState) (law : IsValidZone z) where
       seat_met (isolated z.records) (Some answered.Met) (booked_call client call z law.fingers.begun books) refl refl
 
   -- a round isn't quiet after a page was put back, and else as quiet as before
-  pub loud_back : (serial page : ℕ) (cause : Cause) → is_quiet (put_back_to_source z serial page cause) ≡ false
+  loud_back : (serial page : ℕ) (cause : Cause) → is_quiet (put_back_to_source z serial page cause) ≡ false
   loud_back serial page cause = quiet_ended z.records (Back cause serial) z.round refl law.fingers.begun
 
   pub quiet_committed : (serial page : ℕ) → is_quiet (committed z serial page) ≡ true → is_quiet z ≡ true

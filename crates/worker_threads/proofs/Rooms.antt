@@ -1,11 +1,10 @@
 -- What a room keeps is so after each step.
-use Rattle.std.proofs.Common.{◌≡◌, ◌≢◌, ℕ, zero, suc, ◌+◌, ◌^◌, ◌<◌, ◌≤◌, Bool, true, false, List, [], ◌∷◌, length, ◌⊎◌, inl, inr, refl, sym, ap, subst, ◌∙◌, arith, Option, Some, None, nat_eq, is_none, if◌then◌else◌}
-use Rattle.std.specs.Prelude.{IsTrue, IfOk, Result, Ok, Err, is_ok, replicate, slice_get, slice_set}
+use Rattle.std.proofs.Common.{◌≡◌, ◌≢◌, ℕ, zero, suc, ◌+◌, ◌^◌, ◌<◌, ◌≤◌, Bool, true, false, List, [], length, inl, inr, refl, sym, ap, subst, ◌∙◌, arith, Option, Some, None, IsSome, nat_eq, is_none, if◌then◌else◌}
+use Rattle.std.specs.Prelude.{IfOk, Result, Ok, Err, is_ok, replicate, slice_get, slice_set}
 use Rattle.std.specs.List.{list_any}
-use Rattle.std.specs.FinMap as map
-use Rattle.std.proofs.lemmas.Bool.{both_ways, eq-eqb}
+use Rattle.std.proofs.lemmas.Bool.{eq-eqb}
 use denote.RawPtr.{Ptr}
-use Rattle.frame_core.specs.declared.record.Cause.TheVariants.{NotCopied, Pinned}
+use Rattle.frame_core.specs.declared.record.Cause.TheVariants.{Pinned}
 use Rattle.frame_core.specs.Ends.{AreEndedOnce}
 use Rattle.frame_core.specs.History.{pins}
 use Rattle.frame_core.specs.Moves.{isolated, is_out, out}
@@ -18,7 +17,6 @@ use Rattle.state_core.specs.declared.moves.Ended.{Ended}
 use Rattle.state_core.specs.declared.moves.Ended.TheVariants as ended
 use Rattle.state_core.specs.declared.moves.Next.TheVariants.{Page as Found}
 use Rattle.state_core.specs.declared.placement.Placement.{Placement}
-use Rattle.state_core.specs.declared.placement.Placement.TheVariants.{Moving}
 use Rattle.state_core.specs.declared.round.Pair.{Pair}
 use Rattle.state_core.specs.Calls.{after}
 use Rattle.state_core.specs.Carrying.{words_now}
@@ -30,7 +28,7 @@ use Rattle.state_core.specs.Rounds.{round_begun}
 use Rattle.state_core.specs.Valid.{IsValidZone, is_under}
 use Rattle.state_core.specs.ZoneState.{ZoneState, is_quiet}
 use Rattle.state_core.proofs.Facts.{isolated_bound}
-use Rattle.state_core.proofs.LentMoves.{is_lent, lent_after_lent_back, lent_after_lent_commit, lent_begun, lent_beside}
+use Rattle.state_core.proofs.LentMoves.{is_lent, lent_after_lent_commit, lent_begun, lent_beside}
 use Rattle.state_core.proofs.Packing.{packed_quiet}
 use Rattle.state_core.proofs.Pairing.{pair_found}
 use Rattle.worker_threads.specs.Hands.{AreOf, PageInHand, place_in}
@@ -41,7 +39,7 @@ use Rattle.worker_threads.specs.declared.room.KeptHalf.{KeptHalf}
 use Rattle.worker_threads.specs.declared.round.Round.{Round}
 use Rattle.worker_threads.specs.declared.round.Stop.TheVariants as stop
 use Rattle.worker_threads.proofs.Called.{IsShaped, lent_called, shape_called}
-use Rattle.worker_threads.proofs.Meeting.{loud_back, met_called, quiet_committed, quiet_isolated}
+use Rattle.worker_threads.proofs.Meeting.{met_called, quiet_committed, quiet_isolated}
 use Rattle.worker_threads.proofs.Places.{none_in_hand, one_less, one_more, place_after}
 use Rattle.zone_core.specs.Counted.{IsCounted}
 use Rattle.zone_core.specs.LentMoves.{LendsNext}
@@ -310,21 +308,13 @@ module _ (number blocks : ℕ) (memory : Option Ptr) (size : ℕ) where
           taken (isolated_same r.round round end count) (ended_one r.round round end count)
           (λ noted quiet. (let before = quiet_committed r.zone is.valid k.way.serial k.way.page (subst (λ (z : ZoneState). is_quiet z ≡ true) step quiet) in met before (is.met (sym (stopped_same r.round round end count) ∙ noted) before)))
 
-      pub room_puts_back : (next : ZoneState) (kept : List (Option KeptHalf)) (round : Round) → IsValidZone next → HasIdentity r.zone.number r.zone.blocks next → next ≡ move_returned (put_back_to_source r.zone k.way.serial k.way.page NotCopied) k.way.page
-          → kept ≡ slice_set r.kept place None → round ≡ counted r.round ended.Back
-          → IsRoom number blocks memory size (record { zone = next; kept = kept; round = round })
-      room_puts_back next kept round law identity step taken count = room_gives next kept round law identity
-          (subst (IsShaped r.zone) (sym step) (record { memory = refl; page_size = refl; isolated = refl }))
-          (λ m ne its. subst (λ (z : ZoneState). IsLentMove z m) (sym step) (lent_after_lent_back r.zone m its k.way.page k.way.serial k.way.source k.way.target kept_half.lent.way ne NotCopied))
-          taken (isolated_same r.round round ended.Back count) (ended_one r.round round ended.Back count)
-          (λ noted quiet. absurd (both_ways _ (loud_back r.zone is.valid k.way.serial k.way.page NotCopied) (subst (λ (z : ZoneState). is_quiet z ≡ true) step quiet)))
-
     -- a round whose last page was given back is settled
-    pub room_settled : out r.zone.records ≡ [] → AreEndedOnce r.zone.records → in_hand r.kept ≡ 0 → (round : Round) → round ≡ r.round → WasSettled number blocks memory size round
-    room_settled none once free round same = record {
+    pub room_settled : IsSome r.round.stopped → out r.zone.records ≡ [] → AreEndedOnce r.zone.records → in_hand r.kept ≡ 0 → (round : Round) → round ≡ r.round → WasSettled number blocks memory size round
+    room_settled some none once free round same = record {
       room = r;
       is = is;
       its_round = same;
+      has_stopped = subst (λ (w : Round). IsSome w.stopped) (sym same) some;
       none_out = none;
       once = once;
       sum = omega (arith, is.sum, free, ap (λ (w : Round). w.isolated) same, ap (λ (w : Round). w.moved) same, ap (λ (w : Round). w.back) same);

@@ -1,6 +1,5 @@
 -- A moving page in the hands of a worker, and the hands.
-use Rattle.std.specs.Prelude.{◌≡◌, ℕ, ◌*◌, true, false, List, [], length, Option, Some, refl}
-use Rattle.std.specs.Coded.{Coded, code_by, coded×, coded_list, coded_ℕ, codes}
+use Rattle.std.specs.Prelude.{◌≡◌, ℕ, ◌*◌, false, List, [], length, Option, Some}
 use Rattle.std.specs.Option.{option_map}
 use denote.RawPtr.{Ptr, ◌+ₚ◌}
 use Rattle.row_core.specs.Seen.{Half, Row}

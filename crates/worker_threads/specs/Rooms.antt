@@ -1,10 +1,9 @@
 -- What is under the lock of a zone that workers compact, and what the calls under the lock leave of it.
-use Rattle.std.specs.Prelude.{◌≡◌, ℕ, ◌+◌, ◌-◌, List, [], ◌∷◌, Option, Some, None, Result, Ok, Err, slice_get, slice_set}
+use Rattle.std.specs.Prelude.{◌≡◌, ℕ, ◌+◌, List, [], ◌∷◌, Option, Some, None, Result, Ok, Err, slice_get, slice_set}
 use Rattle.std.specs.Option.{option_map, option_and_then}
 use Rattle.frame_core.specs.Moves.{isolated}
-use Rattle.frame_core.specs.declared.record.Cause.TheVariants.{NotCopied}
 use Rattle.state_core.specs.Carrying.{words_now}
-use Rattle.state_core.specs.Ending.{committed, ended_as, put_back_to_source}
+use Rattle.state_core.specs.Ending.{committed, ended_as}
 use Rattle.state_core.specs.LentMoves.{LentMove, move_lent, move_returned}
 use Rattle.state_core.specs.Pairs.{next_pair}
 use Rattle.state_core.specs.Rounds.{round_begun}
@@ -77,14 +76,6 @@ page_committed r place way = record {
   zone = move_returned (committed r.zone way.serial way.page) way.page;
   kept = slice_set r.kept place None;
   round = counted r.round (ended_as r.zone way.page);
-}
-
--- the room after a worker gave its page back without a copy
-abbrev pub page_put_back : Room → ℕ → Move → Room
-page_put_back r place way = record {
-  zone = move_returned (put_back_to_source r.zone way.serial way.page NotCopied) way.page;
-  kept = slice_set r.kept place None;
-  round = counted r.round ended.Back;
 }
 
 -- a round that has done nothing

@@ -1,5 +1,5 @@
 -- What a worker does under one hold of the lock, and what a round comes to.
-use Rattle.std.specs.Prelude.{◌≡◌, ℕ, ◌+◌, ◌<◌, ◌≤◌, List, [], ◌∷◌, length, map, true, Option, Some}
+use Rattle.std.specs.Prelude.{◌≡◌, ℕ, ◌+◌, ◌≤◌, List, [], ◌∷◌, map, true, Option, Some, IsSome}
 use denote.RawPtr.{Ptr}
 use Rattle.frame_core.specs.Ends.{AreEndedOnce}
 use Rattle.frame_core.specs.Moves.{out}
@@ -31,6 +31,7 @@ pub record WasSettled (number blocks : ℕ) (memory : Option Ptr) (size : ℕ) (
   pub room : Room
   pub is : IsRoom number blocks memory size room
   pub its_round : round ≡ room.round
+  pub has_stopped : IsSome round.stopped
   pub none_out : out room.zone.records ≡ []
   pub once : AreEndedOnce room.zone.records
   pub sum : round.moved + round.back ≡ round.isolated

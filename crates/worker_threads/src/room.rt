@@ -9,7 +9,7 @@ ghost use Rattle.state_core.specs.Ending.{ended_as};
 ghost use Rattle.state_core.specs.Isolating.{isolate_refusal};
 ghost use Rattle.state_core.specs.Valid.{IsValidZone};
 ghost use Rattle.worker_threads.specs.Kept.{IsRoom};
-ghost use Rattle.worker_threads.specs.Rooms.{GetsNext, counted, fresh_round, in_hand, page_committed, page_put_back, round_opened, stopped, way_at};
+ghost use Rattle.worker_threads.specs.Rooms.{GetsNext, counted, fresh_round, in_hand, page_committed, round_opened, stopped, way_at};
 ghost use Rattle.worker_threads.specs.Working.{WasSettled};
 ghost use Rattle.zone_core.specs.Made.{IsMade};
 ghost use Rattle.zone_core.specs.ZoneIdentity.{HasIdentity};
@@ -117,17 +117,16 @@ impl<K: MemoryIdentity, const W: usize> Room<K, W> {
         self.zone.audit().is_ok()
     }
 
-    /// What the latest round did, if no page is on its way.
+    /// What the latest round did, if it has stopped and no page is on its way.
     pub fn settled(&self) -> Option<Round>
-        ensures some { IsSome result ↔ (out self.now.zone.records ≡ []) }
+        ensures some { IsSome result ↔ (IsSome self.now.round.stopped × (out self.now.zone.records ≡ [])) }
         ensures round { IfSome result (λ round. round ≡ self.now.round) }
         ensures settled { IfSome result (WasSettled K.number K.blocks K.memory W) }
     {
-        if self.is_settled() {
-            Some(self.round)
-        } else {
-            None
+        if self.round.stopped.is_none() || !self.is_settled() {
+            return None;
         }
+        Some(self.round)
     }
 
     /// Whether a place is free.
@@ -184,32 +183,6 @@ impl<K: MemoryIdentity, const W: usize> Room<K, W> {
         };
         self.round.count(ended);
         Ok(ended)
-    }
-
-    /// Takes a page back from a worker that didn't copy it: it is in its old frame afterwards. It is handed back unless the zone keeps the
-    /// other half at its place.
-    pub(crate) fn put_back(
-        &mut self,
-        page: PageInHand<K, W>,
-    ) -> Result<(), Stranger<PageInHand<K, W>>>
-        ensures own { IsOk result ↔ (way_at self.old.kept page.place ≡ Some page.way) }
-        ensures back { IfErr result (λ stranger. stranger.0 ≡ page) }
-        ensures err { OnErr result (self.new ≡ self.old) }
-        ensures ok { OnOk result (self.new ≡ page_put_back self.old page.place page.way) }
-    {
-        let way = page.way();
-        let Some(half) = take_half(&mut self.kept, page.place(), &way) else {
-            return Err(Stranger(page));
-        };
-        let (from, to) = page.into_rows();
-        let Ok(()) = self
-            .zone
-            .put_back_lent(LentMove::of(way, half.rejoin(from), to))
-        else {
-            unreachable!()
-        };
-        self.round.count(Ended::Back);
-        Ok(())
     }
 
     /// Takes the zone out, with what the latest round did.

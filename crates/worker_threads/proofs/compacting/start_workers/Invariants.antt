@@ -1,4 +1,4 @@
-use Rattle.std.proofs.Common.{◌≡◌, ◌+◌, ◌≤◌, All, length, vec_len, vec_capacity}
+use Rattle.std.proofs.Common.{◌+◌, ◌≤◌, All, vec_len, vec_capacity}
 use Rattle.worker_threads.specs.Hands.{AreEmpty}
 use Rattle.worker_threads.proofs.compacting.start_workers.Given as goal
 

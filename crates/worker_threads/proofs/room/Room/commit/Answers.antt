@@ -1,5 +1,5 @@
-use Rattle.std.proofs.Common.{◌≡◌, ◌∙◌, ap, subst, sym, arith}
-use Rattle.state_core.specs.LentMoves.{LentMove, lent_committed}
+use Rattle.std.proofs.Common.{◌∙◌, ap, subst, sym, arith}
+use Rattle.state_core.specs.LentMoves.{lent_committed}
 use Rattle.worker_threads.specs.Hands.{AreOf, PageInHand}
 use Rattle.worker_threads.proofs.Rooms.{few_ended, halves_meet, its_copy, places_meet, room_commits, still_lent}
 use Rattle.worker_threads.proofs.room.Room.commit.Goals as goal
