@@ -1,9 +1,10 @@
 //! A keeper, its steps, and the blocks that are taken from it.
 
-ghost use Rattle.std.specs.Prelude.{◌≡◌, ◌+◌, ◌≤◌, ℕ, None, [], length, IfOk, OnErr};
+ghost use Rattle.std.specs.Prelude.{◌≡◌, ◌+◌, ◌≤◌, ℕ, None, [], length, IfOk, OnErr, OnOk};
 ghost use Rattle.std.specs.List.{position};
 ghost use Rattle.std.specs.Result.{result_err};
 ghost use Rattle.keeper_core.specs.Keeping.{claims_dropped, is_ready, keep_refusal, next_ready, next_unfinished, take_refusal, IsKept, IsTaken};
+ghost use Rattle.state_core.specs.Valid.{IsValidZone};
 ghost use Rattle.zone_core.specs.ZoneIdentity.{HasIdentity};
 
 use frame_core::{FrameNo, Order};
@@ -126,6 +127,7 @@ impl Keeper {
         ensures err { OnErr result ((self.new ≡ self.old) × (zone.new ≡ zone.old)) }
         ensures ok { IfOk result (λ taken. IsTaken self.old zone.old taken self.new zone.new) }
         ensures identity { HasIdentity zone.old.number zone.old.blocks zone.new }
+        ensures valid { OnOk result (IsValidZone zone.new) }
     {
         let Some(place) = self.place_of_ready(zone) else {
             return self.take_cheapest(zone);
@@ -176,6 +178,7 @@ impl Keeper {
         ensures err { OnErr result ((self.new ≡ self.old) × (zone.new ≡ zone.old)) }
         ensures ok { IfOk result (λ taken. IsTaken self.old zone.old taken self.new zone.new) }
         ensures identity { HasIdentity zone.old.number zone.old.blocks zone.new }
+        ensures valid { OnOk result (IsValidZone zone.new) }
     {
         let Some(lowest) = FrameNo::in_any_zone(0) else {
             unreachable!();

@@ -6,6 +6,6 @@ use Rattle.keeper_thread.specs.declared.identity.KeeperIdentity.{Ghosts}
 use Rattle.state_core.specs.ZoneState.{ZoneState}
 use Rattle.zone_core.specs.contracts.bare.BareZone.{the_row as zone_row}
 
--- the room ends with the last zone behind r, and is else as it was
+-- once r ends, the room has the last zone that r had, and is else as it was
 abbrev pub LendsZone : (K W : RattleType) (identity : Ghosts K.Denot) → MutBor Room → MutBor ZoneState → Fml
 LendsZone K W identity s r = Lends (the_row K W identity) (zone_row W) s r (λ z. record s.now { zone = z })

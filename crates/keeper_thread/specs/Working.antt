@@ -7,6 +7,7 @@ use Rattle.keeper_thread.specs.declared.work.Work.{Work}
 use Rattle.state_core.specs.ZoneState.{ZoneState}
 use Rattle.state_core.specs.declared.error.ZoneError.{ZoneError}
 
+-- a zone with its keeper, under one lock
 pub record Room : Type 0 where
   pub zone : ZoneState
   -- it has blocks of that zone ready

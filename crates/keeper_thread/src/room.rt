@@ -1,11 +1,12 @@
 //! What is under the lock of a shared pool.
 
-ghost use Rattle.std.specs.Prelude.{◌≡◌, true, IfOk, OnErr};
+ghost use Rattle.std.specs.Prelude.{◌≡◌, true, IfOk, OnErr, OnOk};
 ghost use Rattle.std.specs.Borrow.{sem};
 ghost use Rattle.std.specs.Result.{result_err};
 ghost use Rattle.keeper_core.specs.Keeping.{keep_refusal, take_refusal, IsKept, IsTaken};
 ghost use Rattle.keeper_thread.specs.Lending.{LendsZone};
 ghost use Rattle.keeper_thread.specs.Working.{goes_on, woken, worked, IsWithin};
+ghost use Rattle.state_core.specs.Valid.{IsValidZone};
 
 use crate::guard::Calling;
 use crate::identity::KeeperIdentity;
@@ -130,6 +131,7 @@ impl<K: KeeperIdentity, const W: usize> Room<K, W> {
         ensures ok { IfOk result (λ taken. IsTaken self.old.keeper self.old.zone taken self.new.keeper self.new.zone) }
         ensures awake { IfOk result (λ taken. self.new ≡ woken (record self.old { zone = self.new.zone; keeper = self.new.keeper })) }
         ensures order { self.old.keeper.order ≡ K.order }
+        ensures valid { OnOk result (IsValidZone self.new.zone) }
     {
         let taken = self.keeper.take(&mut self.zone)?;
         self.wake();
