@@ -24,7 +24,8 @@ PROGRAMS = [
 ]
 ADDRESSES = ["-fsanitize=address,undefined", "-fno-sanitize-recover=all"]
 THREADS = ["-fsanitize=thread"]
-VALGRIND = ["valgrind", "-q", "--error-exitcode=9", "--leak-check=full"]
+# Its threads take turns: else one that makes calls all the time keeps the others from going on for minutes.
+VALGRIND = ["valgrind", "-q", "--error-exitcode=9", "--leak-check=full", "--fair-sched=try"]
 OF_C = ["--errors-for-leak-kinds=all"]
 # Rust's library keeps memory of a thread until the program ends.
 OF_RUST = ["--errors-for-leak-kinds=definite", "--show-leak-kinds=definite"]
