@@ -130,11 +130,12 @@ struct Handle {
 } // namespace detail
 
 // The words of a block while they are lent. They are read and written by the pointer, beside calls on the pool too. When this is destroyed,
-// they are returned to the block. It goes before its Huge, which isn't given back meanwhile; or it has the block, and gives it back then.
+// they are returned to the block, which is given back too where its Huge has gone already.
 class BlockWords {
 public:
     BlockWords(BlockWords &&other) noexcept
-        : handle_(std::move(other.handle_)), first_(other.first_), order_(other.order_), has_block_(other.has_block_), words_(other.words_)
+        : handle_(std::move(other.handle_)), first_(other.first_), order_(other.order_), has_block_(std::move(other.has_block_)),
+          words_(other.words_)
     {
         other.words_ = compactd_words();
     }
@@ -146,7 +147,7 @@ public:
             handle_ = std::move(other.handle_);
             first_ = other.first_;
             order_ = other.order_;
-            has_block_ = other.has_block_;
+            has_block_ = std::move(other.has_block_);
             std::swap(words_, other.words_);
         }
         return *this;
@@ -173,8 +174,9 @@ public:
 private:
     friend class Huge;
 
-    BlockWords(const std::shared_ptr<detail::Handle> &handle, std::uint32_t first, std::uint32_t order, const compactd_words &words) noexcept
-        : handle_(handle), first_(first), order_(order), has_block_(false), words_(words)
+    BlockWords(const std::shared_ptr<detail::Handle> &handle, std::uint32_t first, std::uint32_t order,
+               const std::shared_ptr<bool> &has_block, const compactd_words &words) noexcept
+        : handle_(handle), first_(first), order_(order), has_block_(has_block), words_(words)
     {
     }
 
@@ -182,7 +184,7 @@ private:
     {
         if (handle_) {
             detail::ignore(compactd_return_block(&handle_->raw, first_, order_, &words_));
-            if (has_block_)
+            if (*has_block_)
                 detail::ignore(compactd_give_order(&handle_->raw, first_, order_));
         }
         handle_.reset();
@@ -192,7 +194,7 @@ private:
     std::shared_ptr<detail::Handle> handle_;
     std::uint32_t first_;
     std::uint32_t order_;
-    bool has_block_;
+    std::shared_ptr<bool> has_block_; // its Huge has gone, and couldn't give the block back
     compactd_words words_;
 };
 
@@ -268,7 +270,10 @@ private:
 // A block of 2^order frames that a pool handed out, with its words.
 class Huge {
 public:
-    Huge(Huge &&other) noexcept : handle_(std::move(other.handle_)), first_(other.first_), order_(other.order_) {}
+    Huge(Huge &&other) noexcept
+        : handle_(std::move(other.handle_)), first_(other.first_), order_(other.order_), is_left_(std::move(other.is_left_))
+    {
+    }
 
     Huge &operator=(Huge &&other) noexcept
     {
@@ -277,6 +282,7 @@ public:
             handle_ = std::move(other.handle_);
             first_ = other.first_;
             order_ = other.order_;
+            is_left_ = std::move(other.is_left_);
         }
         return *this;
     }
@@ -284,7 +290,8 @@ public:
     Huge(const Huge &) = delete;
     Huge &operator=(const Huge &) = delete;
 
-    // Gives the block back. Where that is refused, as JOURNAL_FULL or LENT can be, it stays handed out until the pool closes.
+    // Gives the block back, or leaves it to its BlockWords. Where that is refused, as JOURNAL_FULL can be, it stays handed out until the pool
+    // closes.
     ~Huge() { let_go(); }
 
     std::uint32_t first() const noexcept { return first_; }
@@ -302,22 +309,14 @@ public:
     }
 
     // Lends the words of the block, in a pool that lies in a Memory: the pointer leads to them until the guard is destroyed. Meanwhile the
-    // block isn't read, written or given back by calls.
-    BlockWords words() &
+    // block isn't read, written or given back by calls. Both may go in any order, as in pool.take_huge().words().
+    BlockWords words()
     {
+        const std::shared_ptr<bool> is_left = std::make_shared<bool>(false);
         compactd_words words = compactd_words();
         detail::done(compactd_block_words(raw(), first_, order_, &words));
-        return BlockWords(handle_, first_, order_, words);
-    }
-
-    // The same where this goes, as in pool.take_huge().words(): the guard has the block then, and gives it back when it is destroyed. Where
-    // lending is refused, the block is still this one's.
-    BlockWords words() &&
-    {
-        BlockWords words = this->words();
-        words.has_block_ = true;
-        handle_.reset();
-        return words;
+        is_left_ = is_left;
+        return BlockWords(handle_, first_, order_, is_left, words);
     }
 
     // Gives the block back. Where that is refused, this throws and the block is still this one's.
@@ -345,14 +344,15 @@ private:
 
     void let_go() noexcept
     {
-        if (handle_)
-            detail::ignore(compactd_give_order(&handle_->raw, first_, order_));
+        if (handle_ && compactd_give_order(&handle_->raw, first_, order_) != COMPACTD_OK && is_left_)
+            *is_left_ = true;
         handle_.reset();
     }
 
     std::shared_ptr<detail::Handle> handle_;
     std::uint32_t first_;
     std::uint32_t order_;
+    std::shared_ptr<bool> is_left_; // what tells the latest BlockWords that it has the block
 };
 
 // A page that is moving, with a copy of its words. One that is empty has no page: isolate returns it where the scanners have met.

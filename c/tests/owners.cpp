@@ -221,14 +221,64 @@ void words_with_blocks()
     Huge huge = pool.take_huge(9);
     {
         BlockWords others = huge.words();
-        HOLDS(refusal([&] { std::move(huge).words(); }) == COMPACTD_LENT && pool.info().huge == 2);
+        HOLDS(refusal([&] { huge.words(); }) == COMPACTD_LENT && pool.info().huge == 2);
         others = std::move(words[0]);
         HOLDS(others[63] == 5);
     }
-    HOLDS(pool.info().huge == 1 && std::move(huge).words().size() == 4096);
+    HOLDS(pool.info().huge == 1 && Huge(std::move(huge)).words().size() == 4096);
     HOLDS(pool.info().free == 1024 && pool.take_huge(9).words().size() == 4096);
     const Huge again = pool.take_huge(9);
     HOLDS(again.first() == huge.first() && refusal([&] { huge.words(); }) == COMPACTD_NOT_HUGE && pool.info().huge == 1);
+}
+
+// Members that are moved and destroyed one by one: the block before its words, or after them.
+struct Guest {
+    Huge block;
+    BlockWords words;
+
+    Guest(Pool &pool, std::uint32_t order) : block(pool.take_huge(order)), words(block.words()) {}
+};
+
+struct Reader {
+    BlockWords words;
+    Huge block;
+};
+
+void words_beside_blocks()
+{
+    Pool pool(PageSize::bytes64, two_blocks, Memory(PageSize::bytes64, 2));
+    {
+        Guest guest(pool, 3), other(pool, 4);
+        other.words[127] = 5;
+        guest = std::move(other); // whose block is moved while that of the guest is lent
+        HOLDS(guest.words[127] == 5 && guest.block.order() == 4 && pool.info().held == 16);
+        guest = Guest(pool, 3);
+        HOLDS(guest.words.size() == 64 && pool.info().held == 8);
+        Guest third(pool, 5);
+        std::swap(guest, third);
+        HOLDS(guest.words.size() == 256 && guest.block.order() == 5 && pool.info().held == 40);
+        std::vector<Guest> guests;
+        for (std::uint32_t order = 3; order < 7; order++)
+            guests.emplace_back(pool, order);
+        guests.erase(guests.begin());
+        HOLDS(guests[0].words.size() == 128 && pool.info().huge == 5 && pool.info().held == 152);
+    }
+    HOLDS(pool.info().free == 1024);
+    {
+        Huge block = pool.take_huge(9);
+        BlockWords words = block.words();
+        Reader reader = {std::move(words), std::move(block)};
+        reader.words[7] = 6;
+    }
+    HOLDS(pool.info().free == 1024);
+    Huge block = pool.take_huge(3);
+    std::unique_ptr<BlockWords> words(new BlockWords(block.words()));
+    words.reset();
+    words.reset(new BlockWords(block.words())); // lent anew
+    block = pool.take_huge(9);
+    HOLDS(pool.info().huge == 2);
+    words.reset();
+    HOLDS(pool.info().huge == 1 && pool.info().held == 512);
 }
 
 // A page that a guard pins, whose words come back to it.
@@ -343,7 +393,7 @@ void words_that_stay()
     BlockWords words = huge->words();
     pool.reset();
     words[4095] = 5;
-    huge.reset(); // the block stays handed out, since its words are lent
+    huge.reset(); // the block stays handed out while its words are lent
     HOLDS(words[4095] == 5);
 }
 
@@ -626,6 +676,7 @@ int main()
     memory();
     words_that_are_lent();
     words_with_blocks();
+    words_beside_blocks();
     words_of_pages();
     words_of_another_page();
     words_that_stay();
