@@ -19,6 +19,7 @@
 #include <cstddef>
 #include <cstdint>
 #include <cstring>
+#include <functional>
 #include <memory>
 #include <stdexcept>
 #include <string>
@@ -69,17 +70,28 @@ inline void done(std::uint32_t answer)
 // For destructors, which can't throw.
 inline void ignore(std::uint32_t) noexcept {}
 
+// Unmaps memory of compactd_map_memory.
+inline void unmap(void *at, std::size_t bytes) noexcept
+{
+    compactd_words words = {static_cast<std::uint64_t *>(at), bytes / 8};
+    compactd_unmap_memory(&words);
+}
+
 } // namespace detail
 
-// Memory for a Pool: a mapping that begins at a huge page of the processor, and may consist of such pages. It is unmapped when this is
-// destroyed. A pool has it until Pool::close_in gives it back, or else until the pool's memory is given back.
+// Memory for a Pool: a mapping that begins at a huge page of the processor, and may consist of such pages; or memory of the caller's. When this
+// is destroyed, it is unmapped, or given back as the caller says. A pool has it until Pool::close_in gives it back, or else until the pool's
+// memory is given back.
 class Memory {
 public:
+    // What gives memory back: it gets where that begins, and its bytes, as munmap does. It doesn't throw.
+    typedef std::function<void(void *, std::size_t)> GiveBack;
+
     // None.
     Memory() noexcept : words_(), is_blank_(false) {}
 
     // Maps so many words. Where the system has no memory, it throws Error as MEMORY; 0 words are out of range.
-    explicit Memory(std::size_t words) : words_(), is_blank_(true)
+    explicit Memory(std::size_t words) : words_(), is_blank_(true), give_back_(detail::unmap)
     {
         const int number = compactd_map_memory(words, &words_);
         if (number != 0)
@@ -87,20 +99,42 @@ public:
     }
 
     // As much as a pool needs with pages of this size and so many pageblocks.
-    Memory(PageSize page_size, std::uint32_t blocks) : Memory(std::size_t(blocks) * 512 * static_cast<std::size_t>(page_size)) {}
+    Memory(PageSize page_size, std::uint32_t blocks) : Memory(bytes_of(page_size, blocks) / 8) {}
 
-    Memory(Memory &&other) noexcept : words_(other.words_), is_blank_(other.is_blank_) { other.words_ = compactd_words(); }
+    // Memory that the caller has: so many bytes, such as a mapping of a file or in huge pages. Nothing else uses it until it is given back, or,
+    // where nothing gives it back, until this is destroyed and so is all that has words of a pool in it. Where it is said to be blank, all of
+    // it is 0. Both numbers are multiples of 8, and neither is 0; else this throws Error as RANGE, and the memory isn't given back.
+    Memory(void *at, std::size_t bytes, GiveBack give_back = GiveBack(), bool is_blank = false)
+        : words_(), is_blank_(is_blank), give_back_(std::move(give_back))
+    {
+        if (!at || reinterpret_cast<std::uintptr_t>(at) % 8 != 0 || bytes == 0 || bytes % 8 != 0)
+            throw Error(COMPACTD_RANGE);
+        words_.at = static_cast<std::uint64_t *>(at);
+        words_.count = bytes / 8;
+    }
+
+    // The bytes that a pool needs with pages of this size and so many pageblocks.
+    static std::size_t bytes_of(PageSize page_size, std::uint32_t blocks)
+    {
+        return std::size_t(blocks) * 512 * static_cast<std::size_t>(page_size) * 8;
+    }
+
+    Memory(Memory &&other) noexcept : Memory() { swap(other); }
 
     Memory &operator=(Memory &&other) noexcept
     {
-        std::swap(words_, other.words_);
-        std::swap(is_blank_, other.is_blank_);
+        swap(other);
         return *this;
     }
 
     Memory(const Memory &) = delete;
     Memory &operator=(const Memory &) = delete;
-    ~Memory() { compactd_unmap_memory(&words_); }
+
+    ~Memory()
+    {
+        if (words_.count > 0 && give_back_)
+            give_back_(words_.at, words_.count * 8);
+    }
 
     // Where it begins, and how many words it has; null and 0 where it is none, as while a pool has it.
     const std::uint64_t *data() const noexcept { return words_.at; }
@@ -110,8 +144,16 @@ private:
     friend class PageWords;
     friend class Pool;
 
+    void swap(Memory &other) noexcept
+    {
+        std::swap(words_, other.words_);
+        std::swap(is_blank_, other.is_blank_);
+        give_back_.swap(other.give_back_);
+    }
+
     compactd_words words_;
     bool is_blank_; // whether its words are known to be 0, as where no pool has had it
+    GiveBack give_back_;
 };
 
 namespace detail {
@@ -167,8 +209,8 @@ public:
     std::uint64_t &operator[](std::size_t at) noexcept { return words_.at[at]; }
     const std::uint64_t &operator[](std::size_t at) const noexcept { return words_.at[at]; }
 
-    // Gives the system the memory back that the words take up, in whole pages of 4 KiB; the words of these are 0 then. Returns whether the
-    // system took it.
+    // Gives the system the memory back that the words take up, in whole pages of 4 KiB; the words of these are 0 then, in memory that a Memory
+    // mapped. Returns whether the system took it.
     bool release() noexcept { return compactd_release_words(&words_) == 0; }
 
 private:

@@ -5,7 +5,9 @@
 #include <memory>
 #include <stdexcept>
 #include <string>
+#include <sys/mman.h>
 #include <type_traits>
+#include <unistd.h>
 #include <utility>
 #include <vector>
 
@@ -175,6 +177,67 @@ void memory()
     HOLDS(refusal([&] { own.close_in(); }) == COMPACTD_OWN_MEMORY && own.info().free == 512);
     huge = own.take_huge(3);
     HOLDS(refusal([&] { huge.words(); }) == COMPACTD_OWN_MEMORY);
+}
+
+// Memory that isn't blank, which goes back once all that has words of it is gone, or isn't given back.
+void memory_of_the_callers()
+{
+    const std::size_t bytes = Memory::bytes_of(PageSize::bytes64, 2);
+    std::vector<std::uint64_t> words(bytes / 8, 7);
+    std::size_t given = 0;
+    const Memory::GiveBack give = [&](void *at, std::size_t count) { given += at == words.data() ? count : 1; };
+    HOLDS(bytes == 65536 && refusal([&] { Memory(nullptr, bytes, give); }) == COMPACTD_RANGE);
+    HOLDS(refusal([&] { Memory(words.data(), 0, give); }) == COMPACTD_RANGE);
+    HOLDS(refusal([&] { Memory(words.data(), bytes - 1, give); }) == COMPACTD_RANGE);
+    HOLDS(refusal([&] { Memory(reinterpret_cast<char *>(words.data()) + 4, bytes - 8, give); }) == COMPACTD_RANGE);
+    {
+        Memory memory(words.data(), bytes, give), other = std::move(memory);
+        HOLDS(other.data() == words.data() && other.size() == 8192 && !memory.data());
+        HOLDS(refusal([&] { Pool(PageSize::bytes64, {3, 1, 1024}, std::move(other)); }) == COMPACTD_RANGE && other.size() == 8192);
+        std::unique_ptr<Pool> pool(new Pool(PageSize::bytes64, two_blocks, std::move(other)));
+        BlockWords block = pool->take_huge(9).words();
+        HOLDS(block.data() == words.data() && block[4095] == 0);
+        pool->map(0, {0, 0});
+        HOLDS(pool->load(0, {0, 0}, 7) == 0);
+        pool.reset();
+        block[4095] = 5;
+        HOLDS(given == 0);
+    }
+    HOLDS(given == bytes && words[4095] == 5 && words[4096 + 7] == 0 && words[8191] == 7);
+    Memory memory(words.data(), bytes);
+    memory = Pool(PageSize::bytes64, two_blocks, Memory(words.data(), bytes, give)).close_in();
+    HOLDS(given == bytes && memory.data() == words.data());
+    memory = Memory();
+    HOLDS(given == 2 * bytes);
+}
+
+// A mapping of the caller's, in huge pages where the system has them, and one of a file.
+void mappings_of_the_callers()
+{
+    const std::size_t bytes = Memory::bytes_of(PageSize::bytes4096, 1);
+    const int access = PROT_READ | PROT_WRITE, kind = MAP_PRIVATE | MAP_ANONYMOUS;
+    void *at = mmap(nullptr, bytes, access, kind | MAP_HUGETLB, -1, 0);
+    if (at == MAP_FAILED)
+        at = mmap(nullptr, bytes, access, kind, -1, 0);
+    bool is_unmapped = false;
+    {
+        const Memory::GiveBack unmap = [&](void *from, std::size_t count) { is_unmapped = from == at && munmap(from, count) == 0; };
+        Pool pool(PageSize::bytes4096, {1, 1, 512}, Memory(at, bytes, unmap, true));
+        BlockWords words = pool.take_huge().words();
+        words[262143] = 5;
+        HOLDS(words.data() == at && words.size() == 262144 && words[0] == 0);
+    }
+    HOLDS(is_unmapped);
+    std::unique_ptr<std::FILE, int (*)(std::FILE *)> file(std::tmpfile(), std::fclose);
+    HOLDS(file && ftruncate(fileno(file.get()), static_cast<off_t>(bytes)) == 0);
+    at = mmap(nullptr, bytes, access, MAP_SHARED, fileno(file.get()), 0);
+    {
+        Pool pool(PageSize::bytes4096, {1, 1, 512}, Memory(at, bytes, munmap));
+        pool.map_at(0, {0, 0}, 511);
+        pool.store(0, {0, 0}, 511, 6);
+    }
+    std::uint64_t found = 0;
+    HOLDS(pread(fileno(file.get()), &found, 8, static_cast<off_t>(bytes) - 8) == 8 && found == 6);
 }
 
 // Words that are lent, written by the pointer and returned, by guards that are moved.
@@ -674,6 +737,8 @@ int main()
     sizes();
     huge_pages();
     memory();
+    memory_of_the_callers();
+    mappings_of_the_callers();
     words_that_are_lent();
     words_with_blocks();
     words_beside_blocks();
