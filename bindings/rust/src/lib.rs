@@ -41,7 +41,8 @@
 //! # Threads
 //!
 //! A `Pool` may be sent to another thread. Threads that share one keep it in a `Mutex`. A [`MovingGuard`] is a page of such a pool that is
-//! moving; it puts the page back when it is dropped. Threads share a round by [`LentMove`]s, which they copy without the lock.
+//! moving; it puts the page back when it is dropped. [`Pool::round`] makes a round in slices, and [`Pool::round_on`] one on several threads,
+//! which copy pages without the lock.
 
 #![deny(missing_docs, unsafe_op_in_unsafe_fn)]
 
@@ -58,6 +59,7 @@ mod questions;
 mod raw;
 mod record;
 mod rounds;
+mod shared_rounds;
 
 pub use claims::Step;
 pub use error::Error;
@@ -71,3 +73,4 @@ pub use questions::{Look, Place};
 pub use raw::{Counts, Geometry, PageRequest, RoundCounts};
 pub use record::Record;
 pub use rounds::{ListedMoves, Reserved, Slice, Stopped};
+pub use shared_rounds::Round;

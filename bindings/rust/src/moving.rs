@@ -150,6 +150,6 @@ impl fmt::Debug for MovingGuard<'_> {
 }
 
 /// The pool, alone. A thread that panicked with the lock was between two calls, each of which leaves the pool whole.
-fn locked(pool: &Mutex<Pool>) -> MutexGuard<'_, Pool> {
+pub(crate) fn locked(pool: &Mutex<Pool>) -> MutexGuard<'_, Pool> {
     pool.lock().unwrap_or_else(PoisonError::into_inner)
 }

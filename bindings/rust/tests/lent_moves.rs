@@ -1,10 +1,8 @@
-//! Moves whose words are lent, and a round that threads share by them.
+//! Moves whose words are lent.
 
-use std::iter;
-use std::sync::Mutex;
 use std::thread;
 
-use compactd::{Address, CopiedMove, Error, Kept, LentMove, Memory, PageSize, Place, Pool, PoolSize, Record};
+use compactd::{Address, Error, Kept, LentMove, Memory, PageSize, Place, Pool, PoolSize, Record};
 
 const SIZE: PoolSize = PoolSize { blocks: 2, spaces: 1, vpages: 1024 };
 const AT: Address = Address { space: 0, vpage: 0 };
@@ -105,43 +103,4 @@ fn stays_open_while_a_move_is_lent() {
     assert_eq!(page.from(), [0; 8]);
     let page = thread::spawn(|| page.copy()).join().unwrap();
     assert_eq!(with_round(PageSize::Bytes64, 1).commit_lent(page).unwrap_err().error, Error::Stranger);
-}
-
-/// Ends moves, and takes the next ones, eight at most. Returns how many pages were moved, and these.
-fn exchange(pool: &mut Pool, copied: Vec<CopiedMove>) -> (usize, Vec<LentMove>) {
-    let moved = copied.into_iter().map(|page| pool.commit_lent(page).unwrap()).filter(|moved| *moved).count();
-    (moved, iter::from_fn(|| pool.lend_move().unwrap()).take(8).collect())
-}
-
-/// Copies pages of a round without the lock, and counts those that were moved.
-fn share(pool: &Mutex<Pool>) -> usize {
-    let (mut sum, mut copied) = (0, Vec::new());
-    loop {
-        let (moved, lent) = exchange(&mut pool.lock().unwrap(), copied);
-        sum += moved;
-        if lent.is_empty() {
-            break sum;
-        }
-        copied = lent.into_iter().map(LentMove::copy).collect();
-    }
-}
-
-#[test]
-fn four_threads_share_a_round() {
-    for page_size in [PageSize::Bytes64, PageSize::Bytes4096] {
-        let (mut alone, pool) = (with_round(page_size, 500), Mutex::new(with_round(page_size, 500)));
-        alone.compact().unwrap();
-        let moved: usize = thread::scope(|threads| {
-            let workers = [(); 4].map(|()| threads.spawn(|| share(&pool)));
-            workers.into_iter().map(|worker| worker.join().unwrap()).sum()
-        });
-        let mut pool = pool.into_inner().unwrap();
-        let counts = pool.audit().unwrap();
-        assert_eq!((moved, counts.isolated, counts.moved, pool.info().moving), (500, 500, 500, 0));
-        for page in 0..500 {
-            assert_eq!(pool.load(0, Address::new(0, page), page_size.words() - 1), Ok(page.into()));
-            assert_eq!(frame(&mut pool, page), frame(&mut alone, page));
-        }
-        assert!(pool.close_in().is_ok());
-    }
 }
