@@ -1,7 +1,7 @@
 // A host whose memory is 16 MiB that it mapped: 8 pageblocks of 512 pages of 4 KiB. It fills all of it with pages, and frees three of four,
-// wherever they lie. A round moves the others together, and each pageblock that is empty then is taken as a huge block. Half of the blocks
-// are written by pointers, and the memory of the rest goes back to the system. Each page and each block keeps its words. How long a random
-// read takes, and how much memory is resident, goes to standard error.
+// wherever they lie. A round on two threads moves the others together, and each pageblock that is empty then is taken as a huge block. Half of
+// the blocks are written by pointers, and the memory of the rest goes back to the system. Each page and each block keeps its words. How long a
+// random read takes, and how much memory is resident, goes to standard error.
 #include "compactd.hpp"
 
 #include <algorithm>
@@ -9,6 +9,7 @@
 #include <cstdint>
 #include <cstdio>
 #include <fstream>
+#include <mutex>
 #include <numeric>
 #include <random>
 #include <string>
@@ -97,7 +98,8 @@ int main()
     const auto read = [&] { return pool.load(client, {0, left[below(kept)]}, below(page_words)); };
     std::printf("%zu of %u pages are left, %u pageblocks are free as a whole\n", left.size(), pages, pool.info().whole);
     tell("in a page by a call", read);
-    pool.compact();
+    std::mutex mutex; // of threads that share the pool; here no other one does
+    pool.round_on(mutex, 2, 64);
     std::printf("%u pages moved, %u pageblocks are free as a whole\n", static_cast<unsigned>(pool.audit().moved), pool.info().whole);
     tell("in a page by a call after a round", read);
     const auto is_kept = [&](std::uint32_t page) { return has(pool.pin_words(client, {0, page}), page); };

@@ -9,20 +9,23 @@
 //
 // As in C, calls on one pool don't overlap, unless all of them are questions. Destroying a Pool, a Huge, a BlockWords, a PageWords, a Moving or
 // a LentMove is a call on its pool that isn't a question. Threads that share a pool make each call under a lock of their own, destructors
-// included. This header isn't proved. It passes what it is given to calls that are.
+// included, and Pool::round and Pool::round_on make rounds under it. This header isn't proved. It passes what it is given to calls that are.
 #ifndef COMPACTD_HPP
 #define COMPACTD_HPP
 
 #include "compactd.h"
 #include "compactd_memory.h"
+#include "compactd_round.h"
 
 #include <cstddef>
 #include <cstdint>
 #include <cstring>
 #include <functional>
 #include <memory>
+#include <mutex>
 #include <stdexcept>
 #include <string>
+#include <system_error>
 #include <utility>
 #include <vector>
 
@@ -70,6 +73,16 @@ inline void done(std::uint32_t answer)
 // For destructors, which can't throw.
 inline void ignore(std::uint32_t) noexcept {}
 
+template <typename Mutex> void take(void *mutex) { static_cast<Mutex *>(mutex)->lock(); }
+template <typename Mutex> void let_go(void *mutex) { static_cast<Mutex *>(mutex)->unlock(); }
+
+// A mutex for the rounds of compactd_round.h.
+template <typename Mutex> compactd_lock lock_of(Mutex &mutex)
+{
+    compactd_lock lock = {std::addressof(mutex), take<Mutex>, let_go<Mutex>};
+    return lock;
+}
+
 // Unmaps memory of compactd_map_memory.
 inline void unmap(void *at, std::size_t bytes) noexcept
 {
@@ -78,6 +91,29 @@ inline void unmap(void *at, std::size_t bytes) noexcept
 }
 
 } // namespace detail
+
+// A mutex that is handed to a thread that waits for it when it is let go, for threads that share a pool beside a round in slices: a std::mutex
+// isn't. It is for std::lock_guard, std::unique_lock and std::condition_variable_any.
+class FairMutex {
+public:
+    FairMutex() { done(compactd_round_lock(&mutex_)); }
+    FairMutex(const FairMutex &) = delete;
+    FairMutex &operator=(const FairMutex &) = delete;
+    ~FairMutex() { pthread_mutex_destroy(&mutex_); }
+
+    void lock() { done(pthread_mutex_lock(&mutex_)); }
+    bool try_lock() noexcept { return pthread_mutex_trylock(&mutex_) == 0; }
+    void unlock() noexcept { pthread_mutex_unlock(&mutex_); }
+
+private:
+    static void done(int number)
+    {
+        if (number != 0)
+            throw std::system_error(number, std::generic_category());
+    }
+
+    pthread_mutex_t mutex_;
+};
 
 // Memory for a Pool: a mapping that begins at a huge page of the processor, and may consist of such pages; or memory of the caller's. When this
 // is destroyed, it is unmapped, or given back as the caller says. A pool has it until Pool::close_in gives it back, or else until the pool's
@@ -570,6 +606,13 @@ struct ListedMoves {
     std::uint32_t stopped;
 };
 
+// What Pool::round and Pool::round_on did: how many pages were isolated, moved and put back, and in `stopped` why there were no more:
+// COMPACTD_MET, COMPACTD_JOURNAL_FULL, or COMPACTD_CLOSED.
+struct Round {
+    compactd_round_counts counts;
+    std::uint32_t stopped;
+};
+
 // What Pool::empty_some did: how many pages it moved, and how many frames of the run aren't claimed yet.
 struct Step {
     std::uint32_t moved;
@@ -849,7 +892,29 @@ public:
         return met;
     }
 
-    // A round in slices: begin_round, then move_pages until its Slice has stopped.
+    // Makes a round in slices on this thread, and lets the mutex go after each so many pages, 1 or more. All calls on the pool are made under
+    // this mutex, which the caller doesn't hold. It has `lock` and `unlock`, which don't throw. Between slices a std::mutex most often isn't
+    // handed to a thread that waits; a FairMutex is. Where the numbers are out of range, this throws Error as RANGE.
+    template <typename Mutex> Round round(Mutex &mutex, std::uint32_t pages)
+    {
+        const compactd_lock lock = detail::lock_of(mutex);
+        const std::shared_ptr<detail::Handle> handle = handle_under(mutex);
+        Round round = Round();
+        return ended(compactd_round_with(&handle->raw, &lock, pages, &round.counts), round);
+    }
+
+    // Makes a round on so many threads, 1 to 64, in a pool that lies in a Memory: this one, and others that are started for it. Each takes so
+    // many moves, 1 to 64, under one hold of the mutex, copies their pages without it, and ends the moves under its next hold. Until then the
+    // pages are moving for others. Where a thread can't be started, the round goes on with those that run. Refused too as OWN_MEMORY.
+    template <typename Mutex> Round round_on(Mutex &mutex, std::uint32_t threads, std::uint32_t pages)
+    {
+        const compactd_lock lock = detail::lock_of(mutex);
+        const std::shared_ptr<detail::Handle> handle = handle_under(mutex);
+        Round round = Round();
+        return ended(compactd_round_on_with(&handle->raw, &lock, threads, pages, &round.counts), round);
+    }
+
+    // A round in slices by hand: begin_round, then move_pages until its Slice has stopped.
     //
     // A round whose pages the caller carries: begin_round, then isolate until it returns an empty Moving, and for each page its commit; or
     // lend_move until it returns an empty LentMove, and for each its copy, without a lock, and its commit.
@@ -995,6 +1060,24 @@ public:
 
 private:
     friend class Keeper;
+
+    // What keeps the pool and its memory while a round is made.
+    template <typename Mutex> std::shared_ptr<detail::Handle> handle_under(Mutex &mutex) const
+    {
+        const std::lock_guard<Mutex> lock(mutex);
+        if (!handle_)
+            throw Error(COMPACTD_CLOSED);
+        return handle_;
+    }
+
+    // A round that has ended with an answer, or that was refused as a whole.
+    static Round ended(std::uint32_t answer, Round round)
+    {
+        if (answer == COMPACTD_RANGE || answer == COMPACTD_OWN_MEMORY)
+            throw Error(answer);
+        round.stopped = answer == COMPACTD_OK ? std::uint32_t(COMPACTD_MET) : answer;
+        return round;
+    }
 
     // Whether each request of a call for many was done.
     static bool are_all_done(std::uint32_t answer)

@@ -27,32 +27,53 @@ extern "C" {
 /* The most threads of compactd_round_on, and the most moves that one of them has in hand. */
 #define COMPACTD_ROUND_MOST 64
 
-/* A program may include this and call only some of it. */
-#ifdef __GNUC__
-#define COMPACTD_ROUND_UNUSED __attribute__((unused))
-#else
-#define COMPACTD_ROUND_UNUSED
-#endif
+/* A lock of any kind: what it is, and how it is taken and let go. */
+typedef struct compactd_lock {
+    void *own;
+    void (*take)(void *own);
+    void (*let_go)(void *own);
+} compactd_lock;
+
+COMPACTD_IN_HEADER void compactd_round_take_mutex(void *own)
+{
+    pthread_mutex_lock(COMPACTD_AS(pthread_mutex_t *, own));
+}
+
+COMPACTD_IN_HEADER void compactd_round_let_mutex_go(void *own)
+{
+    pthread_mutex_unlock(COMPACTD_AS(pthread_mutex_t *, own));
+}
+
+COMPACTD_IN_HEADER compactd_lock compactd_round_mutex(pthread_mutex_t *mutex)
+{
+    compactd_lock lock;
+
+    lock.own = mutex;
+    lock.take = compactd_round_take_mutex;
+    lock.let_go = compactd_round_let_mutex_go;
+    return lock;
+}
 
 /* Begins a round, under the lock. */
-static uint32_t compactd_round_begin(compactd_pool *pool, pthread_mutex_t *lock)
+COMPACTD_IN_HEADER uint32_t compactd_round_begin(compactd_pool *pool, const compactd_lock *lock)
 {
     uint32_t answer;
 
-    pthread_mutex_lock(lock);
+    lock->take(lock->own);
     answer = compactd_begin_round(pool);
-    pthread_mutex_unlock(lock);
+    lock->let_go(lock->own);
     return answer;
 }
 
 /* Moves so many pages under one hold of the lock, and fewer where there are no more. Answers why, or 0. */
-static uint32_t compactd_round_slice(compactd_pool *pool, pthread_mutex_t *lock, uint32_t pages, compactd_round_counts *counts)
+COMPACTD_IN_HEADER uint32_t compactd_round_slice(compactd_pool *pool, const compactd_lock *lock, uint32_t pages,
+                                                 compactd_round_counts *counts)
 {
     uint32_t moved = 0, stopped = COMPACTD_OK, answer;
 
-    pthread_mutex_lock(lock);
+    lock->take(lock->own);
     answer = compactd_move_pages(pool, pages, &moved, &stopped);
-    pthread_mutex_unlock(lock);
+    lock->let_go(lock->own);
     counts->isolated += moved;
     counts->moved += moved;
     return answer == COMPACTD_OK ? stopped : answer;
@@ -64,8 +85,7 @@ static uint32_t compactd_round_slice(compactd_pool *pool, pthread_mutex_t *lock,
  * errno.h, as ENOTSUP where the system has no such lock. A program that is compiled as strict ISO C, as by -std=c99, has this function only
  * if it defines _POSIX_C_SOURCE. */
 #if defined(_POSIX_C_SOURCE) && _POSIX_C_SOURCE >= 199506L
-COMPACTD_ROUND_UNUSED
-static int compactd_round_lock(pthread_mutex_t *lock)
+COMPACTD_IN_HEADER int compactd_round_lock(pthread_mutex_t *lock)
 {
     pthread_mutexattr_t kind;
     int answer = pthread_mutexattr_init(&kind);
@@ -82,15 +102,15 @@ static int compactd_round_lock(pthread_mutex_t *lock)
 
 /* Makes a round on a pool, whose calls are made under this lock, and lets the lock go after each so many pages, 1 or more. The caller
  * doesn't hold the lock, and no other round is made on the pool meanwhile. While a slice is made other threads wait, about as long as its
- * pages are copied.
+ * pages are copied. compactd_round_with takes a lock of any kind, and compactd_round a mutex.
  *
  * Answers 0 where the scanners of the round met, and else a number of enum compactd_refusal. RANGE: no page is asked for at a time, and
  * nothing changes. CLOSED. JOURNAL_FULL: the journal has no room for a further move. In each case it tells how many pages it
  * moved: each of them was isolated, and none was put back.
  *
  * The thread can't be cancelled until the round has ended, whatever its cancelability is. */
-COMPACTD_ROUND_UNUSED
-static uint32_t compactd_round(compactd_pool *pool, pthread_mutex_t *lock, uint32_t pages, compactd_round_counts *counts)
+COMPACTD_IN_HEADER uint32_t compactd_round_with(compactd_pool *pool, const compactd_lock *lock, uint32_t pages,
+                                                compactd_round_counts *counts)
 {
     static const compactd_round_counts none = {0, 0, 0, {0, 0}};
     uint32_t answer;
@@ -109,10 +129,17 @@ static uint32_t compactd_round(compactd_pool *pool, pthread_mutex_t *lock, uint3
     return answer;
 }
 
+COMPACTD_IN_HEADER uint32_t compactd_round(compactd_pool *pool, pthread_mutex_t *lock, uint32_t pages, compactd_round_counts *counts)
+{
+    const compactd_lock mutex = compactd_round_mutex(lock);
+
+    return compactd_round_with(pool, &mutex, pages, counts);
+}
+
 /* What the threads of a round share. The last two are read and written under the lock. */
 typedef struct compactd_round_share {
     compactd_pool *pool;
-    pthread_mutex_t *lock;
+    const compactd_lock *lock;
     uint32_t pages;   /* how many moves a thread takes at a time */
     uint32_t stopped; /* why no further move is taken, or 0 */
     compactd_round_counts counts;
@@ -120,7 +147,7 @@ typedef struct compactd_round_share {
 
 /* Ends a move whose words were copied. Where that is refused, no further move is taken by any thread, and the page is put back, unless the
  * pool is closed. */
-static void compactd_round_end(compactd_round_share *share, compactd_lent_move *move)
+COMPACTD_IN_HEADER void compactd_round_end(compactd_round_share *share, compactd_lent_move *move)
 {
     compactd_bool moved = 0;
     const uint32_t answer = compactd_commit_lent(share->pool, move, &moved);
@@ -134,7 +161,7 @@ static void compactd_round_end(compactd_round_share *share, compactd_lent_move *
 }
 
 /* Takes the next moves of the round, and gets how many. */
-static uint32_t compactd_round_take(compactd_round_share *share, compactd_lent_move *moves)
+COMPACTD_IN_HEADER uint32_t compactd_round_take(compactd_round_share *share, compactd_lent_move *moves)
 {
     uint32_t count = 0;
 
@@ -147,20 +174,20 @@ static uint32_t compactd_round_take(compactd_round_share *share, compactd_lent_m
 }
 
 /* Ends the moves that a thread has in hand and takes the next ones, under one hold of the lock. */
-static uint32_t compactd_round_exchange(compactd_round_share *share, compactd_lent_move *moves, uint32_t count)
+COMPACTD_IN_HEADER uint32_t compactd_round_exchange(compactd_round_share *share, compactd_lent_move *moves, uint32_t count)
 {
     uint32_t at;
 
-    pthread_mutex_lock(share->lock);
+    share->lock->take(share->lock->own);
     for (at = 0; at < count; at++)
         compactd_round_end(share, &moves[at]);
     count = compactd_round_take(share, moves);
-    pthread_mutex_unlock(share->lock);
+    share->lock->let_go(share->lock->own);
     return count;
 }
 
 /* What each thread of a round does: it copies pages without the lock until there are no more, and has no move in hand then. */
-static void *compactd_round_work(void *shared)
+COMPACTD_IN_HEADER void *compactd_round_work(void *shared)
 {
     compactd_round_share *share = COMPACTD_AS(compactd_round_share *, shared);
     compactd_lent_move moves[COMPACTD_ROUND_MOST];
@@ -176,7 +203,7 @@ static void *compactd_round_work(void *shared)
 }
 
 /* Shares a round that was begun with so many threads besides the one that calls, or with as many as can be started. */
-static void compactd_round_with(compactd_round_share *share, uint32_t others)
+COMPACTD_IN_HEADER void compactd_round_start(compactd_round_share *share, uint32_t others)
 {
     pthread_t threads[COMPACTD_ROUND_MOST];
     uint32_t started = 0;
@@ -191,7 +218,8 @@ static void compactd_round_with(compactd_round_share *share, uint32_t others)
 /* Makes a round on a pool that lies in memory of the caller's, whose calls are made under this lock, on so many threads, 1 to 64: the one that
  * calls, and others that are started for it and have ended when it answers. Where one can't be started, the round goes on with those that
  * run. Each thread takes so many moves, 1 to 64, under one hold of the lock, and ends them under its next one; in between it copies their
- * pages without the lock. The caller doesn't hold the lock, and no other round is made on the pool meanwhile.
+ * pages without the lock. The caller doesn't hold the lock, and no other round is made on the pool meanwhile. compactd_round_on_with takes a
+ * lock of any kind, and compactd_round_on a mutex.
  *
  * While a page is in hand, its loads, stores, reads and writes are refused as MOVING, and so are sharing and unmapping it: let the lock go, and
  * try again. It may be pinned; then it is put back.
@@ -206,9 +234,8 @@ static void compactd_round_with(compactd_round_share *share, uint32_t others)
  * opened by the handle.
  *
  * The thread that calls can't be cancelled until the round has ended, whatever its cancelability is. The others have its signal mask. */
-COMPACTD_ROUND_UNUSED
-static uint32_t compactd_round_on(compactd_pool *pool, pthread_mutex_t *lock, uint32_t threads, uint32_t pages,
-                                  compactd_round_counts *counts)
+COMPACTD_IN_HEADER uint32_t compactd_round_on_with(compactd_pool *pool, const compactd_lock *lock, uint32_t threads, uint32_t pages,
+                                                   compactd_round_counts *counts)
 {
     compactd_round_share share;
     int cancelability;
@@ -223,12 +250,20 @@ static uint32_t compactd_round_on(compactd_pool *pool, pthread_mutex_t *lock, ui
     pthread_setcancelstate(PTHREAD_CANCEL_DISABLE, &cancelability);
     share.stopped = compactd_round_begin(pool, lock);
     if (share.stopped == COMPACTD_OK)
-        compactd_round_with(&share, threads - 1);
+        compactd_round_start(&share, threads - 1);
     *counts = share.counts;
     pthread_setcancelstate(cancelability, &cancelability);
     if (share.stopped == COMPACTD_MET)
         share.stopped = COMPACTD_OK;
     return share.stopped;
+}
+
+COMPACTD_IN_HEADER uint32_t compactd_round_on(compactd_pool *pool, pthread_mutex_t *lock, uint32_t threads, uint32_t pages,
+                                              compactd_round_counts *counts)
+{
+    const compactd_lock mutex = compactd_round_mutex(lock);
+
+    return compactd_round_on_with(pool, &mutex, threads, pages, counts);
 }
 
 #ifdef __cplusplus
