@@ -1,0 +1,175 @@
+//! Clients beside workers.
+
+use super::crews::{Meanwhile, with_workers};
+use super::pages::{address, assert_ends, client, first_word, opened};
+use super::{Runtime, Shared, TURNS, Trial, adds_up, tries};
+use std::sync::{Mutex, Wait};
+use std::thread;
+use std::thread::yield_now;
+use worker_threads::{Crew, MemoryIdentity, Stop};
+use zone_core::{ZoneAnswer, ZoneCallOf, ZoneError};
+
+/// How many pages each of the two clients has.
+const PAGES: u32 = 64;
+
+/// How often each client uses each of its pages.
+const TIMES: u64 = 300;
+
+/// Two clients use their pages while workers make rounds.
+pub fn use_beside_rounds<K: MemoryIdentity + Send + Sync, R: Runtime>(rt: &R, shared: &Shared<K>) {
+    with_workers(rt, shared, &Crew::new(), Meanwhile::IsUsed);
+}
+
+/// The rounds of a crew while two clients use their pages.
+pub fn use_and_compact<K: MemoryIdentity + Send + Sync, R: Runtime>(
+    rt: &R,
+    shared: &Shared<K>,
+    crew: &Crew,
+) {
+    let at_work = &Mutex::new(2u32);
+    let (moved, ((), ())) = thread::join(
+        rt,
+        || make_rounds(rt, shared, crew, at_work),
+        || {
+            thread::join(
+                rt,
+                || use_pages(rt, shared, 0, at_work),
+                || use_pages(rt, shared, 1, at_work),
+            )
+        },
+    );
+    assert!(rt; moved != 0, "pages were moved beside the clients");
+}
+
+/// Rounds one after the other, as long as clients are at work. How many pages they moved.
+fn make_rounds<K: MemoryIdentity, R: Runtime>(
+    rt: &R,
+    shared: &Shared<K>,
+    crew: &Crew,
+    at_work: &Mutex<u32>,
+) -> u64 {
+    let mut moved = 0u64;
+    for _round in 0..TURNS {
+        if *at_work.lock(rt) == 0 {
+            return moved;
+        }
+        let round = crew.compact(rt, shared).ok().expect(rt, "a round");
+        assert!(rt; adds_up(round) && round.stopped == Some(Stop::Met));
+        moved = moved.saturating_add(round.moved);
+    }
+    panic!(rt; "the clients don't end")
+}
+
+/// A client uses its pages, again and again.
+fn use_pages<K: MemoryIdentity, R: Runtime>(
+    rt: &R,
+    shared: &Shared<K>,
+    who: u32,
+    at_work: &Mutex<u32>,
+) {
+    for page in 0..PAGES {
+        map(rt, shared, who, place_of(who, page));
+    }
+    for time in 0..TIMES {
+        for page in 0..PAGES {
+            use_page(rt, shared, who, page, time);
+        }
+    }
+    let mut at_work = at_work.lock(rt);
+    *at_work = at_work.wrapping_sub(1);
+}
+
+/// A client finds in a page what it stored there last, and stores something else.
+fn use_page<K: MemoryIdentity, R: Runtime>(
+    rt: &R,
+    shared: &Shared<K>,
+    who: u32,
+    page: u32,
+    time: u64,
+) {
+    let place = place_of(who, page);
+    let before = time.wrapping_mul(256).wrapping_add(u64::from(place));
+    let (address, word) = (address(rt, place), first_word(rt));
+    if time != 0 {
+        let loaded = call(rt, shared, who, &ZoneCallOf::Load { address, word });
+        assert!(rt; loaded == ZoneAnswer::Value(before), "a word is lost");
+    }
+    change(rt, shared, who, place, time);
+    store(rt, shared, who, place, before.wrapping_add(256));
+}
+
+/// Each client has every second place.
+fn place_of(who: u32, page: u32) -> u32 {
+    page.wrapping_mul(2).wrapping_add(who)
+}
+
+fn store<K: MemoryIdentity, R: Runtime>(
+    rt: &R,
+    shared: &Shared<K>,
+    who: u32,
+    place: u32,
+    value: u64,
+) {
+    let (address, word) = (address(rt, place), first_word(rt));
+    let stores = ZoneCallOf::Store {
+        address,
+        word,
+        value,
+    };
+    call(rt, shared, who, &stores);
+}
+
+fn map<K: MemoryIdentity, R: Runtime>(rt: &R, shared: &Shared<K>, who: u32, place: u32) {
+    let address = address(rt, place);
+    let unmovable = false;
+    call(rt, shared, who, &ZoneCallOf::Map { address, unmovable });
+}
+
+/// Every fourth page is pinned in every second turn, and every fourth is mapped anew.
+fn change<K: MemoryIdentity, R: Runtime>(
+    rt: &R,
+    shared: &Shared<K>,
+    who: u32,
+    place: u32,
+    time: u64,
+) {
+    let address = address(rt, place);
+    match place / 2 % 4 {
+        0 if time % 2 == 0 => {
+            call(rt, shared, who, &ZoneCallOf::Pin { address });
+        }
+        0 => {
+            call(rt, shared, who, &ZoneCallOf::Unpin { address });
+        }
+        1 => {
+            call(rt, shared, who, &ZoneCallOf::Unmap { address });
+            map(rt, shared, who, place);
+        }
+        _ => {}
+    }
+}
+
+/// Makes a call until the page isn't moving. Nothing else is a reason to refuse it.
+fn call<K: MemoryIdentity, R: Runtime>(
+    rt: &R,
+    shared: &Shared<K>,
+    who: u32,
+    call: &ZoneCallOf<8>,
+) -> ZoneAnswer {
+    for _turn in 0..TURNS {
+        let made = shared.lock(rt).make(client(rt, who), *call);
+        match made {
+            Ok(answer) => return answer,
+            Err(error) => assert!(rt; error == ZoneError::Moving, "it is refused"),
+        }
+        yield_now();
+    }
+    panic!(rt; "the page moves for ever")
+}
+
+#[test]
+fn clients_find_what_they_stored_beside_workers(rt: HostRuntime) {
+    let zone = tries(&rt, opened::<8, HostRuntime>(&rt, None), Trial::IsUsed);
+    assert!(&rt; zone.info().pages == 2 * PAGES && zone.info().moving == 0);
+    assert_ends(&rt, zone);
+}
