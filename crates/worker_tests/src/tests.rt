@@ -12,7 +12,7 @@ use std::marker::Brand;
 use std::process::Abort;
 use std::sync::Wait;
 use std::thread::Threads;
-use worker_threads::{CompactingZone, MemoryIdentity, Round};
+use worker_threads::{CompactingZone, MemoryIdentity, Open, OpenZone, Round};
 use zone_core::{BareZone, ZoneError};
 
 /// What runs a test: it starts threads, waits, and ends a test that fails.
@@ -21,7 +21,7 @@ pub trait Runtime: Threads + Wait + Abort + AllocGlobal + Sync {}
 impl<R: Threads + Wait + Abort + AllocGlobal + Sync> Runtime for R {}
 
 /// A zone with pages of eight words, which workers compact.
-pub type Shared<K> = CompactingZone<K, 8>;
+pub type Shared<K> = OpenZone<K, 8>;
 
 /// What is done with a zone that is shared.
 #[derive(Clone, Copy)]
@@ -73,7 +73,7 @@ fn tries_in<K: MemoryIdentity + Send + Sync, R: Runtime>(
     requires identity { HasIdentity K.number K.blocks zone }
     requires memory { zone.memory ≡ K.memory }
 {
-    match CompactingZone::<K, 8>::new(rt.alloc(), zone, 4) {
+    match CompactingZone::<Open<K>, 8>::new(rt.alloc(), zone, 4) {
         Ok(shared) => {
             trial.happens(rt, &shared);
             shared.into_parts().0

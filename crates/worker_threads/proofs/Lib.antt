@@ -1,4 +1,6 @@
+pub mod ByHand
 pub mod Called
+pub mod KeptFacts
 pub mod Meeting
 pub mod Places
 pub mod Rooms

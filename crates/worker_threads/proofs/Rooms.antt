@@ -37,6 +37,7 @@ use Rattle.worker_threads.specs.Rooms.{Gets, Room, counted, fresh_round, in_hand
 use Rattle.worker_threads.specs.Working.{WasSettled}
 use Rattle.worker_threads.specs.declared.room.KeptHalf.{KeptHalf}
 use Rattle.worker_threads.specs.declared.round.Round.{Round}
+use Rattle.worker_threads.specs.declared.round.Stop.{Stop}
 use Rattle.worker_threads.specs.declared.round.Stop.TheVariants as stop
 use Rattle.worker_threads.proofs.Called.{IsShaped, lent_called, shape_called}
 use Rattle.worker_threads.proofs.Meeting.{met_called, quiet_committed, quiet_isolated}
@@ -120,12 +121,15 @@ shape_committed z serial page = by (nat_eq (pins z.records page) 0) where
   by true = record { memory = refl; page_size = refl; isolated = refl }
   by false = record { memory = refl; page_size = refl; isolated = refl }
 
+pub isolated_committed : (z : ZoneState) (serial page : ℕ) → isolated (move_returned (committed z serial page) page).records ≡ isolated z.records
+isolated_committed z serial page = (shape_committed z serial page).isolated
+
 module _ (before round : Round) where
   isolated_same : (end : Ended) → round ≡ counted before end → round.isolated ≡ before.isolated
   isolated_same ended.Moved count = ap (λ (r : Round). r.isolated) count
   isolated_same ended.Back count = ap (λ (r : Round). r.isolated) count
 
-  stopped_same : (end : Ended) → round ≡ counted before end → round.stopped ≡ before.stopped
+  pub stopped_same : (end : Ended) → round ≡ counted before end → round.stopped ≡ before.stopped
   stopped_same ended.Moved count = ap (λ (r : Round). r.stopped) count
   stopped_same ended.Back count = ap (λ (r : Round). r.stopped) count
 
@@ -164,8 +168,8 @@ module _ (number blocks : ℕ) (memory : Option Ptr) (size : ℕ) where
       (λ m its. lent_called r.zone law m its client call (sym made.refused)) (met_called r.zone law call client))
 
   -- a round begins, where no worker has a page
-  pub room_begun : (r : Room) (next : ZoneState) → IsRoom number blocks memory size r → in_hand r.kept ≡ 0 → next ≡ round_begun r.zone → IsValidZone next → HasIdentity r.zone.number r.zone.blocks next → IsRoom number blocks memory size (record r { zone = next; round = fresh_round })
-  room_begun r next is none step law identity = record {
+  pub room_begun : (r : Room) (next : ZoneState) (rounds : ℕ) → IsRoom number blocks memory size r → in_hand r.kept ≡ 0 → next ≡ round_begun r.zone → IsValidZone next → HasIdentity r.zone.number r.zone.blocks next → IsRoom number blocks memory size (record r { zone = next; rounds = rounds; round = fresh_round })
+  room_begun r next rounds is none step law identity = record {
     valid = law;
     identity = (identity.0 ∙ is.identity.0, identity.1 ∙ is.identity.1);
     memory_is = ap (λ (z : ZoneState). z.memory) step ∙ is.memory_is;
@@ -177,7 +181,7 @@ module _ (number blocks : ℕ) (memory : Option Ptr) (size : ℕ) where
   }
 
   -- a new room has no page in hand
-  pub room_new : (z : ZoneState) (kept : List (Option KeptHalf)) → IsValidZone z → HasIdentity number blocks z → z.memory ≡ memory → is_none memory ≡ false → kept ≡ replicate (length kept) None → IsRoom number blocks memory size (record { zone = z; kept = kept; round = fresh_round })
+  pub room_new : (z : ZoneState) (kept : List (Option KeptHalf)) → IsValidZone z → HasIdentity number blocks z → z.memory ≡ memory → is_none memory ≡ false → kept ≡ replicate (length kept) None → IsRoom number blocks memory size (record { zone = z; kept = kept; rounds = 0; round = fresh_round })
   room_new z kept law identity memory_is given free =
       let no : (i : ℕ) (k : KeptHalf) → slice_get kept i ≡ Some (Some k) → ⊥ = λ i k has. none_replicated (length kept) i k (ap (λ (l : List (Option KeptHalf)). slice_get l i) (sym free) ∙ has) in
       record {
@@ -194,6 +198,19 @@ module _ (number blocks : ℕ) (memory : Option Ptr) (size : ℕ) where
   module _ (r : Room) (is : IsRoom number blocks memory size r) where
     pub counts_few : r.round.isolated + 1 < 2 ^ 64
     counts_few = omega (arith, is.most, isolated_bound r.zone is.valid)
+
+    -- a worker finds no page
+    pub room_stopped : (reason : Stop) → (reason ≡ stop.Met → HaveMet r.zone) → IsRoom number blocks memory size (record r { round = record r.round { stopped = Some reason } })
+    room_stopped reason have_met = record {
+      valid = is.valid;
+      identity = is.identity;
+      memory_is = is.memory_is;
+      given = is.given;
+      halves = is.halves;
+      sum = is.sum;
+      most = is.most;
+      met = λ noted quiet. have_met (let same : Some reason ≡ Some stop.Met = noted in cc);
+    }
 
     -- a worker gets a page
     module _ (next : ZoneState) (place : ℕ) (free : slice_get r.kept place ≡ Some None) (m : LentMove) (lends : LendsNext r.zone next (Found m)) (step : next ≡ next_lent r.zone (next_pair r.zone)) (k : KeptHalf)
@@ -213,8 +230,8 @@ module _ (number blocks : ℕ) (memory : Option Ptr) (size : ℕ) where
       kept_now : IsKept size (move_lent r.zone pair) k
       kept_now = record { long = ap (λ (h : Half). length h.words) half ∙ long; first = ap (λ (h : Half). h.is_first) half; to = m.to; lent = subst (λ (z : ZoneState). IsLentMove z (lent_by k m.to)) is_next (subst (IsLentMove next) lent_is lends.2) }
 
-      pub room_gets : IsValidZone next → HasIdentity r.zone.number r.zone.blocks next → (round : Round) → round ≡ record r.round { isolated = r.round.isolated + 1 } → IsRoom number blocks memory size (record { zone = next; kept = slice_set r.kept place (Some k); round = round })
-      room_gets law identity round counted = subst (λ (w : Round). IsRoom number blocks memory size (record { zone = next; kept = slice_set r.kept place (Some k); round = w })) (sym counted) (record {
+      pub room_gets : IsValidZone next → HasIdentity r.zone.number r.zone.blocks next → (round : Round) → round ≡ record r.round { isolated = r.round.isolated + 1 } → IsRoom number blocks memory size (record r { zone = next; kept = slice_set r.kept place (Some k); round = round })
+      room_gets law identity round counted = subst (λ (w : Round). IsRoom number blocks memory size (record r { zone = next; kept = slice_set r.kept place (Some k); round = w })) (sym counted) (record {
         valid = law;
         identity = (identity.0 ∙ is.identity.0, identity.1 ∙ is.identity.1);
         memory_is = ap (λ (z : ZoneState). z.memory) is_next ∙ is.memory_is;
@@ -227,7 +244,7 @@ module _ (number blocks : ℕ) (memory : Option Ptr) (size : ℕ) where
             absurd (is.met noted before m.page m.source m.target (pair_found r.zone is.valid pair lends.0)));
       })
 
-      pub page_got : (p : PageInHand) → p ≡ record { place = place; way = k.way; from = m.from.words; to = p.to } → (new : Room) → new ≡ record { zone = next; kept = slice_set r.kept place (Some k); round = record r.round { isolated = r.round.isolated + 1 } }
+      pub page_got : (p : PageInHand) → p ≡ record { place = place; way = k.way; from = m.from.words; to = p.to } → (new : Room) → new ≡ record r { zone = next; kept = slice_set r.kept place (Some k); round = record r.round { isolated = r.round.isolated + 1 } }
           → (x : Pair) × (next_pair r.zone ≡ Some x) × Gets place r new x p
       page_got p page new room = (
         pair,
@@ -235,7 +252,7 @@ module _ (number blocks : ℕ) (memory : Option Ptr) (size : ℕ) where
         record {
           half = k;
           way = way_is;
-          room = room ∙ (λ i. record { zone = is_next i; kept = slice_set r.kept place (Some k); round = record r.round { isolated = r.round.isolated + 1 } });
+          room = room ∙ (λ i. record r { zone = is_next i; kept = slice_set r.kept place (Some k); round = record r.round { isolated = r.round.isolated + 1 } });
           place_is = ap (λ (q : PageInHand). q.place) page;
           page = ap (λ (q : PageInHand). q.way) page ∙ way_is;
           from = ap (λ (q : PageInHand). q.from) page ∙ words_got;
@@ -287,7 +304,7 @@ module _ (number blocks : ℕ) (memory : Option Ptr) (size : ℕ) where
 
       room_gives : (next : ZoneState) (kept : List (Option KeptHalf)) (round : Round) → IsValidZone next → HasIdentity r.zone.number r.zone.blocks next → IsShaped r.zone next → ((m : LentMove) → k.way.serial ≢ m.serial → IsLentMove r.zone m → IsLentMove next m)
           → kept ≡ slice_set r.kept place None → round.isolated ≡ r.round.isolated → round.moved + round.back ≡ r.round.moved + r.round.back + 1 → (round.stopped ≡ Some stop.Met → is_quiet next ≡ true → HaveMet next)
-          → IsRoom number blocks memory size (record { zone = next; kept = kept; round = round })
+          → IsRoom number blocks memory size (record r { zone = next; kept = kept; round = round })
       room_gives next kept round law identity shape others taken same_isolated one_ended met = record {
         valid = law;
         identity = (identity.0 ∙ is.identity.0, identity.1 ∙ is.identity.1);
@@ -301,7 +318,7 @@ module _ (number blocks : ℕ) (memory : Option Ptr) (size : ℕ) where
 
       pub room_commits : (next : ZoneState) (kept : List (Option KeptHalf)) (round : Round) (end : Ended) → IsValidZone next → HasIdentity r.zone.number r.zone.blocks next → next ≡ move_returned (committed r.zone k.way.serial k.way.page) k.way.page
           → kept ≡ slice_set r.kept place None → round ≡ counted r.round end → (is_quiet r.zone ≡ true → HaveMet r.zone → HaveMet next)
-          → IsRoom number blocks memory size (record { zone = next; kept = kept; round = round })
+          → IsRoom number blocks memory size (record r { zone = next; kept = kept; round = round })
       room_commits next kept round end law identity step taken count met = room_gives next kept round law identity
           (subst (IsShaped r.zone) (sym step) (shape_committed r.zone k.way.serial k.way.page))
           (λ m ne its. subst (λ (z : ZoneState). IsLentMove z m) (sym step) (lent_after_lent_commit r.zone m its k.way.page k.way.serial k.way.source k.way.target kept_half.lent.way ne))

@@ -9,6 +9,7 @@ use Rattle.state_core.specs.Valid.{IsValidZone}
 use Rattle.state_core.specs.ZoneState.{ZoneState, is_quiet}
 use Rattle.worker_threads.specs.Rooms.{Room, in_hand}
 use Rattle.worker_threads.specs.declared.room.KeptHalf.{KeptHalf}
+use Rattle.worker_threads.specs.declared.round.Stop.{Stop}
 use Rattle.worker_threads.specs.declared.round.Stop.TheVariants as stop
 use Rattle.zone_core.specs.ZoneIdentity.{HasIdentity}
 
@@ -27,6 +28,11 @@ pub record IsKept (size : ℕ) (z : ZoneState) (k : KeptHalf) : Type 0 where
 pub record AreKept (size : ℕ) (z : ZoneState) (kept : List (Option KeptHalf)) : Type 0 where
   pub each : (i : ℕ) (k : KeptHalf) → slice_get kept i ≡ Some (Some k) → IsKept size z k
   pub apart : (i j : ℕ) (k l : KeptHalf) → slice_get kept i ≡ Some (Some k) → slice_get kept j ≡ Some (Some l) → k.way.serial ≡ l.way.serial → i ≡ j
+
+-- and what more is kept of it: this is so after so many rounds, and where the latest one stopped, it may
+pub record Keeps (keeps : ℕ → ZoneState → Type 0) (stops_at : ℕ → ℕ → Stop → Type 0) (r : Room) : Type 0 where
+  pub fact : keeps r.rounds r.zone
+  pub stops : (reason : Stop) → r.round.stopped ≡ Some reason → stops_at r.rounds (isolated r.zone.records) reason
 
 -- a zone with this number and so many pageblocks lies in this memory of its caller, with pages of so many words; the latest round counts
 -- each page that it isolated once: as moved, as put back, or in the hands of a worker

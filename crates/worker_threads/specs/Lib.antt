@@ -1,3 +1,5 @@
+pub mod Alone
+pub mod AloneLaws
 pub mod Hands
 pub mod Kept
 pub mod Rooms

@@ -1,5 +1,5 @@
 -- What is under the lock of a zone that workers compact, and what the calls under the lock leave of it.
-use Rattle.std.specs.Prelude.{◌≡◌, ℕ, ◌+◌, List, [], ◌∷◌, Option, Some, None, Result, Ok, Err, slice_get, slice_set}
+use Rattle.std.specs.Prelude.{◌≡◌, ℕ, ◌+◌, ◌-◌, ◌^◌, min, List, [], ◌∷◌, Option, Some, None, Result, Ok, Err, slice_get, slice_set}
 use Rattle.std.specs.Option.{option_map, option_and_then}
 use Rattle.frame_core.specs.Moves.{isolated}
 use Rattle.state_core.specs.Carrying.{words_now}
@@ -21,11 +21,21 @@ use Rattle.worker_threads.specs.declared.round.Stop.{Stop}
 use Rattle.worker_threads.specs.declared.round.Stop.TheVariants as stop
 use Rattle.zone_tables.specs.declared.ending.Move.{Move}
 
--- the zone, what it keeps of each page that a worker has, by its place, and what the latest round did so far
+-- the zone, what it keeps of each page that a worker has, by its place, how many rounds were begun, and what the latest one did so far
 pub record Room : Type 0 where
   pub zone : ZoneState
   pub kept : List (Option KeptHalf)
+  pub rounds : ℕ
   pub round : Round
+
+-- how many rounds were begun with one more, of which 2^64 - 1 are counted at most
+abbrev pub one_begun : ℕ → ℕ
+one_begun rounds = min (rounds + 1) (2 ^ 64 - 1)
+
+-- why a round stops, by what the journal refuses to isolate a page as
+abbrev pub stop_for : Option ZoneError → Stop
+stop_for None = stop.Met
+stop_for (Some error) = stop.JournalFull
 
 -- how many pages workers have
 abbrev pub in_hand : List (Option KeptHalf) → ℕ
@@ -45,7 +55,7 @@ way_of z pair = record { page = pair.page; serial = isolated z.records; source =
 pub record Gets (place : ℕ) (old new : Room) (pair : Pair) (p : PageInHand) : Type 0 where
   pub half : KeptHalf
   pub way : half.way ≡ way_of old.zone pair
-  pub room : new ≡ record { zone = move_lent old.zone pair; kept = slice_set old.kept place (Some half); round = record old.round { isolated = old.round.isolated + 1 } }
+  pub room : new ≡ record old { zone = move_lent old.zone pair; kept = slice_set old.kept place (Some half); round = record old.round { isolated = old.round.isolated + 1 } }
   pub place_is : p.place ≡ place
   pub page : p.way ≡ way_of old.zone pair
   pub from : p.from ≡ words_now old.zone pair.page
@@ -72,7 +82,7 @@ counted round ended.Back = record round { back = round.back + 1 }
 
 -- the room after a worker gave the copy of its page back, which is moved, or put back where it has a pin
 abbrev pub page_committed : Room → ℕ → Move → Room
-page_committed r place way = record {
+page_committed r place way = record r {
   zone = move_returned (committed r.zone way.serial way.page) way.page;
   kept = slice_set r.kept place None;
   round = counted r.round (ended_as r.zone way.page);
@@ -84,4 +94,4 @@ fresh_round = record { isolated = 0; moved = 0; back = 0; stopped = None }
 
 -- the room where a round begins
 abbrev pub round_opened : Room → Room
-round_opened r = record r { zone = round_begun r.zone; round = fresh_round }
+round_opened r = record r { zone = round_begun r.zone; rounds = one_begun r.rounds; round = fresh_round }

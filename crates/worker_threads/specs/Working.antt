@@ -2,13 +2,14 @@
 use Rattle.std.specs.Prelude.{◌≡◌, ℕ, ◌+◌, ◌≤◌, List, [], ◌∷◌, map, true, Option, Some, IsSome}
 use denote.RawPtr.{Ptr}
 use Rattle.frame_core.specs.Ends.{AreEndedOnce}
-use Rattle.frame_core.specs.Moves.{out}
+use Rattle.frame_core.specs.Moves.{isolated, out}
 use Rattle.state_core.specs.Packed.{IsPacked}
-use Rattle.state_core.specs.ZoneState.{is_quiet}
+use Rattle.state_core.specs.ZoneState.{ZoneState, is_quiet}
 use Rattle.worker_threads.specs.Hands.{PageInHand}
 use Rattle.worker_threads.specs.Kept.{IsRoom}
 use Rattle.worker_threads.specs.Rooms.{Room, page_committed}
 use Rattle.worker_threads.specs.declared.round.Round.{Round}
+use Rattle.worker_threads.specs.declared.round.Stop.{Stop}
 use Rattle.worker_threads.specs.declared.round.Stop.TheVariants as stop
 
 -- pages after each of them was copied
@@ -19,6 +20,14 @@ all_copied pages = map (λ (p : PageInHand). record p { to = p.from }) pages
 abbrev pub all_committed : Room → List PageInHand → Room
 all_committed r [] = r
 all_committed r (p ∷ pages) = all_committed (page_committed r p.place p.way) pages
+
+-- the only round of a zone, which has stopped as it may, and of which no page is out
+pub record IsOnlyRound (keeps : ℕ → ZoneState → Type 0) (stops_at : ℕ → ℕ → Stop → Type 0) (z : ZoneState) (round : Round) : Type 0 where
+  pub fact : keeps 1 z
+  pub none_out : out z.records ≡ []
+  pub stop : Stop
+  pub stopped : round.stopped ≡ Some stop
+  pub stops : stops_at 1 (isolated z.records) stop
 
 -- a worker got so many pages, at most as many as it has places, and fewer only where the round stopped or a place isn't free
 pub record GotPages (old new : Room) (pages : ℕ) : Type 0 where

@@ -7,7 +7,7 @@ ghost use Rattle.worker_threads.specs.Working.{WasSettled};
 use crate::compacting_zone::CompactingZone;
 use crate::error::WorkError;
 use crate::gate::Gate;
-use crate::identity::MemoryIdentity;
+use crate::keeping::Keeping;
 use crate::round::Round;
 use crate::worker::{Hands, work};
 use std::alloc::{AllocError, Global};
@@ -17,7 +17,7 @@ use std::thread::{JoinHandle, Scope, Threads};
 
 /// The workers of a round: the one that the caller's thread is, and the others, with room for the handles of their threads.
 #[derive(Drop)]
-struct Hired<K: MemoryIdentity, const W: usize> {
+struct Hired<K: Keeping, const W: usize> {
     own: Hands<K, W>,
     others: Vec<Hands<K, W>>,
     threads: Vec<JoinHandle<bool>>,
@@ -28,7 +28,7 @@ struct Hired<K: MemoryIdentity, const W: usize> {
 ///
 /// Refused as Memory where there isn't enough, else as Busy where a page is moving, and then no round was begun; as Broken where a page
 /// is still moving when the workers have ended.
-pub fn compact<K: MemoryIdentity + Send + Sync, const W: usize, G: Gate, R: Threads + Wait + Sync>(
+pub fn compact<K: Keeping + Send + Sync, const W: usize, G: Gate, R: Threads + Wait + Sync>(
     rt: &R,
     alloc: Global,
     shared: &CompactingZone<K, W>,
@@ -47,7 +47,7 @@ pub fn compact<K: MemoryIdentity + Send + Sync, const W: usize, G: Gate, R: Thre
 }
 
 /// Takes the memory of so many workers.
-fn reserve<K: MemoryIdentity, const W: usize>(
+fn reserve<K: Keeping, const W: usize>(
     alloc: Global,
     workers: usize,
 ) -> Result<Hired<K, W>, AllocError>
@@ -65,7 +65,7 @@ fn reserve<K: MemoryIdentity, const W: usize>(
 }
 
 /// Begins a round. Refused as Busy where a page is moving.
-pub(crate) fn begin<K: MemoryIdentity, const W: usize, R: Wait>(
+pub(crate) fn begin<K: Keeping, const W: usize, R: Wait>(
     rt: &R,
     shared: &CompactingZone<K, W>,
 ) -> Result<(), WorkError> {
@@ -78,7 +78,7 @@ pub(crate) fn begin<K: MemoryIdentity, const W: usize, R: Wait>(
 }
 
 /// What a round did whose workers have ended. Refused as Broken where a page is still moving, or a copy wasn't taken back.
-pub(crate) fn settle<K: MemoryIdentity, const W: usize, R: Wait>(
+pub(crate) fn settle<K: Keeping, const W: usize, R: Wait>(
     rt: &R,
     shared: &CompactingZone<K, W>,
     whole: bool,
@@ -92,7 +92,7 @@ pub(crate) fn settle<K: MemoryIdentity, const W: usize, R: Wait>(
 }
 
 /// Runs the workers. The answer is whether each copy was taken back.
-fn in_scope<K: MemoryIdentity + Send + Sync, const W: usize, G: Gate, R: Threads + Wait + Sync>(
+fn in_scope<K: Keeping + Send + Sync, const W: usize, G: Gate, R: Threads + Wait + Sync>(
     rt: &R,
     shared: &CompactingZone<K, W>,
     crew: Hired<K, W>,
@@ -122,7 +122,7 @@ fn in_scope<K: MemoryIdentity + Send + Sync, const W: usize, G: Gate, R: Threads
 fn start_workers<
     's,
     'e,
-    K: MemoryIdentity + Send + Sync,
+    K: Keeping + Send + Sync,
     const W: usize,
     G: Gate,
     R: Threads + Wait + Sync,

@@ -8,7 +8,7 @@ use crate::compacting::{begin, settle};
 use crate::compacting_zone::CompactingZone;
 use crate::error::WorkError;
 use crate::gate::Gate;
-use crate::identity::MemoryIdentity;
+use crate::keeping::Keeping;
 use crate::round::Round;
 use crate::worker::{Hands, work};
 use std::alloc::{AllocError, Global};
@@ -72,7 +72,7 @@ impl Crew {
     ///
     /// Refused as NoWorker where the crew has none, else as Busy where a page is moving, and then no round was begun; as Broken where a page is
     /// still moving when the workers have done their parts.
-    pub fn compact<K: MemoryIdentity, const W: usize, R: Wait>(
+    pub fn compact<K: Keeping, const W: usize, R: Wait>(
         &self,
         rt: &R,
         shared: &CompactingZone<K, W>,
@@ -100,7 +100,7 @@ impl Crew {
     }
 
     /// The body of a worker's thread, which joined the crew after so many rounds.
-    fn run<K: MemoryIdentity, const W: usize, G: Gate, R: Wait>(
+    fn run<K: Keeping, const W: usize, G: Gate, R: Wait>(
         &self,
         rt: &R,
         shared: &CompactingZone<K, W>,
@@ -151,14 +151,7 @@ impl Shift {
 
 /// Starts so many workers of a crew, 1 to 64, of a zone that has places for as many. Where a thread can't be started, the crew has fewer; it
 /// has none where there isn't enough memory. The threads have to be joined, after the crew was told to stop.
-pub fn start<
-    's,
-    'e,
-    K: MemoryIdentity + Send + Sync,
-    const W: usize,
-    G: Gate,
-    R: Threads + Wait + Sync,
->(
+pub fn start<'s, 'e, K: Keeping + Send + Sync, const W: usize, G: Gate, R: Threads + Wait + Sync>(
     scope: &'s Scope<'s, &'e ()>,
     rt: &'e R,
     alloc: Global,
@@ -175,14 +168,7 @@ pub fn start<
 }
 
 /// Starts a thread for each of these workers, until one can't be started. None of them begins before all have joined the crew.
-fn start_all<
-    's,
-    'e,
-    K: MemoryIdentity + Send + Sync,
-    const W: usize,
-    G: Gate,
-    R: Threads + Wait + Sync,
->(
+fn start_all<'s, 'e, K: Keeping + Send + Sync, const W: usize, G: Gate, R: Threads + Wait + Sync>(
     scope: &'s Scope<'s, &'e ()>,
     rt: &'e R,
     crew: &'e Crew,

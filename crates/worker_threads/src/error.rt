@@ -6,6 +6,9 @@ pub enum WorkError {
     /// No round was begun.
     #[error("out of memory")]
     Memory,
+    /// The zone lies in memory of its own. No round was begun.
+    #[error("the zone lies in memory of its own")]
+    OwnMemory,
     /// The crew has no worker. No round was begun.
     #[error("no worker stands")]
     NoWorker,

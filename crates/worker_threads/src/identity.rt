@@ -1,5 +1,7 @@
 ghost use Rattle.std.specs.Prelude.{ℕ, Option, None};
 ghost use denote.RawPtr.{Ptr};
+ghost use Rattle.state_core.specs.Opening.{opened_unrecorded};
+ghost use Rattle.state_core.specs.ZoneState.{ZoneState};
 
 use std::marker::Brand;
 
@@ -22,4 +24,14 @@ impl MemoryIdentity for Brand {
     ghost blocks = { 0 };
 
     ghost memory = { None };
+}
+
+/// What a zone is when a round over it begins that nobody else has. Only contracts know it, and whoever asks for the round chooses it.
+pub trait StartIdentity {
+    ghost start: { ZoneState };
+}
+
+// Any zone: a call that passes `Brand` chooses it.
+impl StartIdentity for Brand {
+    ghost start = { opened_unrecorded 1 0 1 };
 }

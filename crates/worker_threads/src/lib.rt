@@ -5,23 +5,27 @@
 //! lock by the definitions in `specs/Rooms.antt`.
 #![tactic(auto)]
 
+mod alone;
 mod compacting;
 mod compacting_zone;
 mod crew;
 mod error;
 mod gate;
 mod identity;
+mod keeping;
 mod page;
 mod room;
 mod round;
 mod worker;
 
+pub use alone::compact_alone;
 pub use compacting::compact;
-pub use compacting_zone::CompactingZone;
+pub use compacting_zone::{CompactingZone, OpenZone};
 pub use crew::{Crew, start};
 pub use error::WorkError;
 pub use gate::{Gate, NoGate};
-pub use identity::MemoryIdentity;
+pub use identity::{MemoryIdentity, StartIdentity};
+pub use keeping::{Keeping, Open};
 pub use page::{CopiedPage, PageInHand};
 pub use room::Room;
 pub use round::{Round, Stop};

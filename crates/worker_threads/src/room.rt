@@ -1,6 +1,6 @@
 //! What is under the lock of a zone that workers compact.
 
-ghost use Rattle.std.specs.Prelude.{◌≡◌, false, ◌↔◌, ◌+◌, Some, None, [], IsOk, IfOk, IfErr, IfSome, IfNone, IsSome, OnOk, OnErr, OnSome, IsTrue, length, is_none, replicate, slice_get, slice_set};
+ghost use Rattle.std.specs.Prelude.{◌≡◌, false, ◌↔◌, ◌+◌, ◌<◌, Some, None, [], IsOk, IfOk, IfErr, IfSome, IfNone, IsSome, OnOk, OnErr, OnSome, IsTrue, length, is_none, replicate, slice_get, slice_set};
 ghost use Rattle.std.specs.Result.{result_err};
 ghost use Rattle.frame_core.specs.Ends.{AreEndedOnce};
 ghost use Rattle.frame_core.specs.Moves.{out};
@@ -8,13 +8,13 @@ ghost use Rattle.row_core.specs.Seen.{Half as Seen};
 ghost use Rattle.state_core.specs.Ending.{ended_as};
 ghost use Rattle.state_core.specs.Isolating.{isolate_refusal};
 ghost use Rattle.state_core.specs.Valid.{IsValidZone};
-ghost use Rattle.worker_threads.specs.Kept.{IsRoom};
+ghost use Rattle.worker_threads.specs.Kept.{Keeps};
 ghost use Rattle.worker_threads.specs.Rooms.{GetsNext, counted, fresh_round, in_hand, page_committed, round_opened, stopped, way_at};
-ghost use Rattle.worker_threads.specs.Working.{WasSettled};
+ghost use Rattle.worker_threads.specs.Working.{IsOnlyRound, WasSettled};
 ghost use Rattle.zone_core.specs.Made.{IsMade};
 ghost use Rattle.zone_core.specs.ZoneIdentity.{HasIdentity};
 
-use crate::identity::MemoryIdentity;
+use crate::keeping::Keeping;
 use crate::page::{CopiedPage, PageInHand};
 use crate::round::{Round, Stop};
 use frame_core::ClientNo;
@@ -35,41 +35,46 @@ pub(crate) struct KeptHalf {
 
 /// A zone that workers compact, as whoever has the lock sees it.
 #[derive(Drop)]
-pub struct Room<K: MemoryIdentity, const W: usize> {
+pub struct Room<K: Keeping, const W: usize> {
     zone: BareZone<W>,
     kept: Vec<Option<KeptHalf>>,
+    rounds: u64,
     round: Round,
     of: PhantomData<K>,
 }
 
-impl<K: MemoryIdentity, const W: usize> Model for Room<K, W> {
+impl<K: Keeping, const W: usize> Model for Room<K, W> {
     ghost use Rattle.std.specs.Coded.{codes};
     ghost use Rattle.row_core.specs.Seen.{half_code};
     ghost use Rattle.state_core.specs.ZoneCode.{coded_zone};
-    ghost use Rattle.worker_threads.specs.Kept.{IsRoom};
+    ghost use Rattle.worker_threads.specs.Kept.{IsRoom, Keeps};
     ghost use Rattle.worker_threads.specs.Rooms.{Room as Seen};
 
     ghost Value = { Seen };
 
     ghost coded = { Prim.hlevel (codes, coded_zone, half_code) };
 
-    ghost view = { λ r. record { zone = r.zone; kept = r.kept.items; round = r.round } };
+    ghost view = { λ r. record { zone = r.zone; kept = r.kept.items; rounds = r.rounds; round = r.round } };
 
-    ghost invariant = { λ r. IsRoom K.number K.blocks K.memory W (record { zone = r.zone; kept = r.kept.items; round = r.round }) };
+    ghost invariant = { λ r.
+        let room : Seen = record { zone = r.zone; kept = r.kept.items; rounds = r.rounds; round = r.round } in
+        IsRoom K.number K.blocks K.memory W room × Keeps K.keeps K.stops_at room };
 }
 
-impl<K: MemoryIdentity, const W: usize> Room<K, W> {
+impl<K: Keeping, const W: usize> Room<K, W> {
     /// A zone with so many places for pages that workers have, each of them free.
     pub(crate) fn new(zone: BareZone<W>, kept: Vec<Option<KeptHalf>>) -> Self
         requires valid { IsValidZone zone }
         requires identity { HasIdentity K.number K.blocks zone }
         requires memory { (zone.memory ≡ K.memory) × (is_none K.memory ≡ false) }
         requires free { kept.items ≡ replicate (length kept.items) None }
-        ensures { result ≡ record { zone = zone.entry; kept = kept.items; round = fresh_round } }
+        requires keeps { K.keeps 0 zone }
+        ensures { result ≡ record { zone = zone.entry; kept = kept.items; rounds = 0; round = fresh_round } }
     {
         Room {
             zone,
             kept,
+            rounds: 0,
             round: Round::new(),
             of: PhantomData,
         }
@@ -91,8 +96,16 @@ impl<K: MemoryIdentity, const W: usize> Room<K, W> {
         self.round
     }
 
+    /// How many rounds were begun; 2^64 - 1 are counted at most.
+    pub fn rounds(&self) -> u64
+        ensures { result ≡ self.now.rounds }
+    {
+        self.rounds
+    }
+
     /// Makes a call of a client, as `BareZone::make` does.
     pub fn make(&mut self, client: ClientNo, call: Call<W>) -> Result<ZoneAnswer, ZoneError>
+        requires may { K.allows client }
         ensures made { IsMade call.entry client self.old.zone self.new.zone result }
         ensures others { self.new ≡ record self.old { zone = self.new.zone } }
     {
@@ -101,10 +114,12 @@ impl<K: MemoryIdentity, const W: usize> Room<K, W> {
 
     /// Begins a round, which has done nothing yet. No page may be on its way.
     pub(crate) fn begin(&mut self)
-        requires { in_hand self.old.kept ≡ 0 }
+        requires hands { in_hand self.old.kept ≡ 0 }
+        requires none { out self.old.zone.records ≡ [] }
         ensures { self.new ≡ round_opened self.old }
     {
         self.zone.begin_round();
+        self.rounds = self.rounds.saturating_add(1);
         self.round = Round::new();
     }
 
@@ -129,11 +144,11 @@ impl<K: MemoryIdentity, const W: usize> Room<K, W> {
         Some(self.round)
     }
 
-    /// Whether a place is free.
-    pub(crate) fn is_free(&self, place: usize) -> bool
-        ensures { IsTrue result ↔ (slice_get self.now.kept place ≡ Some None) }
+    /// Whether a round has begun, so that pages are isolated, and this place is free for one.
+    pub(crate) fn can_take(&self, place: usize) -> bool
+        ensures { IsTrue result ↔ ((0 < self.now.rounds) × (slice_get self.now.kept place ≡ Some None)) }
     {
-        matches!(self.kept.get(place), Some(None))
+        self.rounds > 0 && matches!(self.kept.get(place), Some(None))
     }
 
     /// Isolates the next page and hands it to a worker, with the rows of both its frames. The zone keeps half of the right to its words
@@ -141,6 +156,7 @@ impl<K: MemoryIdentity, const W: usize> Room<K, W> {
     ///
     /// Refused as JournalFull where `isolate_next` is. A refusal changes nothing but that the round notes it, as it notes Met.
     pub(crate) fn take_page(&mut self, place: usize) -> Result<Next<PageInHand<K, W>>, ZoneError>
+        requires begun { 0 < self.old.rounds }
         requires free { slice_get self.old.kept place ≡ Some None }
         ensures refused { result_err result ≡ isolate_refusal self.old.zone }
         ensures err { OnErr result (self.new ≡ stopped self.old Stop.JournalFull) }
@@ -185,9 +201,21 @@ impl<K: MemoryIdentity, const W: usize> Room<K, W> {
         Ok(ended)
     }
 
+    /// Takes the zone out, with what its first round did, if that has stopped, no page is on its way, and no other round was begun.
+    pub(crate) fn into_first(self) -> (BareZone<W>, Option<Round>)
+        ensures valid { IsValidZone result.0 }
+        ensures identity { HasIdentity K.number K.blocks result.0 }
+        ensures first { IfSome result.1 (IsOnlyRound K.keeps K.stops_at result.0) }
+    {
+        let settled = self.settled();
+        let round = if self.rounds == 1 { settled } else { None };
+        (self.zone, round)
+    }
+
     /// Takes the zone out, with what the latest round did.
     pub(crate) fn into_parts(self) -> (BareZone<W>, Round)
         ensures parts { (result.0 ≡ self.zone) × (result.1 ≡ self.round) }
+        ensures keeps { Keeps K.keeps K.stops_at self }
         ensures identity { HasIdentity K.number K.blocks result.0 }
         ensures memory { result.0.memory ≡ K.memory }
     {

@@ -8,6 +8,7 @@ use crate::SLICE;
 use crate::compacting_zone::CompactingZone;
 use crate::gate::Gate;
 use crate::identity::MemoryIdentity;
+use crate::keeping::Keeping;
 use crate::page::{CopiedPage, PageInHand};
 use crate::room::Room;
 use std::alloc::{AllocError, Global};
@@ -40,7 +41,7 @@ impl<K: MemoryIdentity, const W: usize> Model for Hands<K, W> {
     ghost invariant = { λ h. (h.worker < 64) × (length h.pages.items ≤ 32) × (32 ≤ deque_capacity h.pages) × (32 ≤ deque_capacity h.copies) };
 }
 
-impl<K: MemoryIdentity, const W: usize> Hands<K, W> {
+impl<K: Keeping, const W: usize> Hands<K, W> {
     /// The empty hands of the worker with this number, from 0 on.
     pub(crate) fn new(alloc: Global, worker: usize) -> Result<Self, AllocError>
         requires { worker < 64 }
@@ -103,7 +104,7 @@ impl<K: MemoryIdentity, const W: usize> Hands<K, W> {
     {
         let first = self.worker * SLICE;
         for place in first..first + SLICE {
-            if !room.is_free(place) {
+            if !room.can_take(place) {
                 return;
             }
             match room.take_page(place) {
@@ -116,7 +117,7 @@ impl<K: MemoryIdentity, const W: usize> Hands<K, W> {
 }
 
 /// Moves pages until there is none to take. The answer is whether each copy was taken back.
-pub(crate) fn work<K: MemoryIdentity, const W: usize, G: Gate, R: Wait>(
+pub(crate) fn work<K: Keeping, const W: usize, G: Gate, R: Wait>(
     rt: &R,
     shared: &CompactingZone<K, W>,
     hands: &mut Hands<K, W>,
@@ -138,10 +139,7 @@ pub(crate) fn work<K: MemoryIdentity, const W: usize, G: Gate, R: Wait>(
 }
 
 /// Gives all copies back, and takes the pages that are next. The answer is whether each copy was taken.
-fn exchange<K: MemoryIdentity, const W: usize>(
-    room: &mut Room<K, W>,
-    hands: &mut Hands<K, W>,
-) -> bool
+fn exchange<K: Keeping, const W: usize>(room: &mut Room<K, W>, hands: &mut Hands<K, W>) -> bool
     requires { hands.old.pages ≡ [] }
     ensures { hands.new.copies ≡ [] }
 {

@@ -5,7 +5,7 @@ ghost use Rattle.std.specs.Prelude.{◌≡◌, ◌<◌, ◌≤◌};
 use super::Runtime;
 use row_core::Ground;
 use std::process::Abort;
-use worker_threads::{MemoryIdentity, Room};
+use worker_threads::{MemoryIdentity, Open, Room};
 use zone_core::{
     Address, BareZone, ClientNo, Look, SpaceNo, VPage, WordOf, ZoneAnswer, ZoneCallOf, ZoneNo,
     ZoneSize,
@@ -58,7 +58,7 @@ pub fn stays(page: u32, times: u32) -> bool {
 }
 
 /// Takes out the pages that stayed so far and don't stay so many times.
-pub fn thin<K: MemoryIdentity>(rt: &impl Abort, room: &mut Room<K, 8>, times: u32) {
+pub fn thin<K: MemoryIdentity>(rt: &impl Abort, room: &mut Room<Open<K>, 8>, times: u32) {
     for page in 0..PAGES {
         if stays(page, times.wrapping_sub(1)) && !stays(page, times) {
             let address = address(rt, page);

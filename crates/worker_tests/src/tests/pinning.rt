@@ -6,7 +6,7 @@ use std::process::Abort;
 use std::sync::{Mutex, Wait};
 use std::thread;
 use std::thread::yield_now;
-use worker_threads::{Gate, MemoryIdentity, Room, compact};
+use worker_threads::{Gate, MemoryIdentity, Open, Room, compact};
 use zone_core::{Look, ZoneAnswer, ZoneCallOf};
 
 /// Keeps each worker from copying its pages until another thread has made a call under the lock.
@@ -64,7 +64,7 @@ fn pin_one<K: MemoryIdentity, R: Runtime>(
 }
 
 /// Pins the first moving page, if there is one.
-fn try_pin<K: MemoryIdentity>(rt: &impl Abort, room: &mut Room<K, 8>) -> Option<u32> {
+fn try_pin<K: MemoryIdentity>(rt: &impl Abort, room: &mut Room<Open<K>, 8>) -> Option<u32> {
     for page in 0..PAGES {
         let look = room.zone().look(address(rt, page));
         if matches!(&look, Ok(Look::Moving { .. })) {

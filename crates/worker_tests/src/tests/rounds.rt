@@ -6,13 +6,16 @@ ghost use Rattle.zone_core.specs.ZoneIdentity.{HasIdentity};
 use super::pages::{assert_ends, assert_kept, thinned, used_frames};
 use super::{Runtime, Trial, adds_up, tries};
 use std::marker::Brand;
-use worker_threads::{CompactingZone, MemoryIdentity, NoGate, Stop, compact};
+use worker_threads::{
+    CompactingZone, MemoryIdentity, NoGate, Open, OpenZone, StartIdentity, Stop, compact,
+    compact_alone,
+};
 use zone_core::{Answered, BareZone};
 
 /// So many workers make a round, and another one, which has nothing to do.
 pub fn make_rounds<K: MemoryIdentity + Send + Sync, const W: usize, R: Runtime>(
     rt: &R,
-    shared: &CompactingZone<K, W>,
+    shared: &OpenZone<K, W>,
     workers: usize,
 ) {
     let workers = workers.max(1).min(4);
@@ -35,7 +38,7 @@ fn large_in<K: MemoryIdentity + Send + Sync, R: Runtime>(
     requires identity { HasIdentity K.number K.blocks zone }
     requires memory { zone.memory ≡ K.memory }
 {
-    let shared = CompactingZone::<K, 512>::new(rt.alloc(), zone, 4);
+    let shared = CompactingZone::<Open<K>, 512>::new(rt.alloc(), zone, 4);
     let shared = shared.ok().expect(rt, "a zone that can be shared");
     make_rounds(rt, &shared, workers);
     shared.into_parts().0
@@ -43,6 +46,25 @@ fn large_in<K: MemoryIdentity + Send + Sync, R: Runtime>(
 
 fn large<R: Runtime>(rt: &R, zone: BareZone<512>, workers: usize) -> BareZone<512> {
     large_in::<Brand, R>(rt, zone, workers)
+}
+
+/// A zone with large pages that nobody else has, after a round.
+fn alone_in<K: StartIdentity + Send + Sync, R: Runtime>(
+    rt: &R,
+    zone: BareZone<512>,
+    workers: usize,
+) -> BareZone<512>
+    requires { zone ≡ K.start }
+{
+    let workers = workers.max(1).min(4);
+    let (zone, round) = compact_alone::<K, 512, NoGate, R>(rt, rt.alloc(), zone, workers, &NoGate);
+    let round = round.ok().expect(rt, "a round");
+    assert!(rt; adds_up(round) && round.back == 0, "each page is moved");
+    zone
+}
+
+fn alone<R: Runtime>(rt: &R, zone: BareZone<512>, workers: usize) -> BareZone<512> {
+    alone_in::<Brand, R>(rt, zone, workers)
 }
 
 /// A zone that workers have compacted is what an equal one is that one thread compacts.
@@ -70,5 +92,8 @@ fn workers_come_to_what_one_thread_does(rt: HostRuntime) {
         let large_pages = thinned::<512, HostRuntime>(&rt, None);
         let large_pages = large(&rt, large_pages, workers);
         assert_is_compacted::<512, HostRuntime>(&rt, large_pages);
+        let pages_alone = thinned::<512, HostRuntime>(&rt, None);
+        let pages_alone = alone(&rt, pages_alone, workers);
+        assert_is_compacted::<512, HostRuntime>(&rt, pages_alone);
     }
 }

@@ -8,5 +8,5 @@ pub returns-clause-settled : goal.returns-clause-settled
 returns-clause-settled g c =
     let settled = c.if-not-is_settled.ensures in
     let stopped = c.is_none.ensures ∙ ap not c.if-is_none.false in
-    room_settled _ _ _ _ c.args.self.now (subst (IsRoom _ _ _ _) c.self.view_is c.self.invariant) (subst (λ (r : Room). IsSome r.round.stopped) c.self.view_is stopped)
+    room_settled _ _ _ _ c.args.self.now (subst (IsRoom _ _ _ _) c.self.view_is c.self.invariant.0) (subst (λ (r : Room). IsSome r.round.stopped) c.self.view_is stopped)
     (settled.none.0 refl) (settled.once refl) (settled.hands refl) c.self.inside.round (ap (λ (r : Room). r.round) c.self.view_is)
