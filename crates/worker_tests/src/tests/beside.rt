@@ -9,36 +9,50 @@ use std::thread::yield_now;
 use worker_threads::{Crew, MemoryIdentity, Stop};
 use zone_core::{ZoneAnswer, ZoneCallOf, ZoneError};
 
-/// How many pages each of the two clients has.
+/// How many pages each of the four clients has.
 const PAGES: u32 = 64;
 
-/// How often each client uses each of its pages.
-const TIMES: u64 = 300;
+/// How often each client uses each of its pages: together they make a million calls.
+const TIMES: u64 = 1_450;
 
-/// Two clients use their pages while workers make rounds.
+/// Four clients use their pages while workers make rounds.
 pub fn use_beside_rounds<K: MemoryIdentity + Send + Sync, R: Runtime>(rt: &R, shared: &Shared<K>) {
     with_workers(rt, shared, &Crew::new(), Meanwhile::IsUsed);
 }
 
-/// The rounds of a crew while two clients use their pages.
+/// The rounds of a crew while four clients use their pages.
 pub fn use_and_compact<K: MemoryIdentity + Send + Sync, R: Runtime>(
     rt: &R,
     shared: &Shared<K>,
     crew: &Crew,
 ) {
-    let at_work = &Mutex::new(2u32);
+    let at_work = &Mutex::new(4u32);
     let (moved, ((), ())) = thread::join(
         rt,
         || make_rounds(rt, shared, crew, at_work),
         || {
             thread::join(
                 rt,
-                || use_pages(rt, shared, 0, at_work),
-                || use_pages(rt, shared, 1, at_work),
+                || use_both(rt, shared, 0, at_work),
+                || use_both(rt, shared, 2, at_work),
             )
         },
     );
     assert!(rt; moved != 0, "pages were moved beside the clients");
+}
+
+/// This client and the next one use their pages.
+fn use_both<K: MemoryIdentity + Send + Sync, R: Runtime>(
+    rt: &R,
+    shared: &Shared<K>,
+    first: u32,
+    at_work: &Mutex<u32>,
+) {
+    thread::join(
+        rt,
+        || use_pages(rt, shared, first, at_work),
+        || use_pages(rt, shared, first.wrapping_add(1), at_work),
+    );
 }
 
 /// Rounds one after the other, as long as clients are at work. How many pages they moved.
@@ -98,9 +112,9 @@ fn use_page<K: MemoryIdentity, R: Runtime>(
     store(rt, shared, who, place, before.wrapping_add(256));
 }
 
-/// Each client has every second place.
+/// Each client has every fourth place.
 fn place_of(who: u32, page: u32) -> u32 {
-    page.wrapping_mul(2).wrapping_add(who)
+    page.wrapping_mul(4).wrapping_add(who)
 }
 
 fn store<K: MemoryIdentity, R: Runtime>(
@@ -134,7 +148,7 @@ fn change<K: MemoryIdentity, R: Runtime>(
     time: u64,
 ) {
     let address = address(rt, place);
-    match place / 2 % 4 {
+    match place / 4 % 4 {
         0 if time % 2 == 0 => {
             call(rt, shared, who, &ZoneCallOf::Pin { address });
         }
@@ -170,6 +184,6 @@ fn call<K: MemoryIdentity, R: Runtime>(
 #[test]
 fn clients_find_what_they_stored_beside_workers(rt: HostRuntime) {
     let zone = tries(&rt, opened::<8, HostRuntime>(&rt, None), Trial::IsUsed);
-    assert!(&rt; zone.info().pages == 2 * PAGES && zone.info().moving == 0);
+    assert!(&rt; zone.info().pages == 4 * PAGES && zone.info().moving == 0);
     assert_ends(&rt, zone);
 }
