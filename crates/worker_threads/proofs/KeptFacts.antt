@@ -46,11 +46,14 @@ module _ {keeps : ℕ → ZoneState → Type 0} {stops_at : ℕ → ℕ → Stop
     stops = λ reason noted. subst (λ (n : ℕ). stops_at r.rounds n reason) (sym (shape_called call client r.zone).isolated) (is.stops reason noted);
   })
 
-  pub keeps_begun : (next : ZoneState) (rounds : ℕ) → next ≡ round_begun r.zone → rounds ≡ one_begun r.rounds → (keeps r.rounds r.zone → keeps (one_begun r.rounds) (round_begun r.zone)) → Keeps keeps stops_at (record r { zone = next; rounds = rounds; round = fresh_round })
+  pub keeps_begun : (next : ZoneState) (rounds : ℕ) → next ≡ round_begun r.zone → rounds ≡ one_begun r.rounds → (keeps r.rounds r.zone → keeps (one_begun r.rounds) (round_begun r.zone)) → Keeps keeps stops_at (record r { zone = next; rounds = rounds; is_under_way = true; round = fresh_round })
   keeps_begun next rounds step number begins = record {
     fact = subst (λ (n : ℕ). keeps n next) (sym number) (subst (keeps (one_begun r.rounds)) (sym step) (begins is.fact));
     stops = λ reason noted. cc;
   }
+
+  pub keeps_over : Keeps keeps stops_at (record r { is_under_way = false })
+  keeps_over = record { fact = is.fact; stops = is.stops }
 
   -- a worker finds no page
   none_found : (o : Option ZoneError) (pair : Option Pair) → (o ≡ None → pair ≡ None) → (if is_none o then pair else None) ≡ None

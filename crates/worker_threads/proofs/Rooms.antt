@@ -168,7 +168,7 @@ module _ (number blocks : ℕ) (memory : Option Ptr) (size : ℕ) where
       (λ m its. lent_called r.zone law m its client call (sym made.refused)) (met_called r.zone law call client))
 
   -- a round begins, where no worker has a page
-  pub room_begun : (r : Room) (next : ZoneState) (rounds : ℕ) → IsRoom number blocks memory size r → in_hand r.kept ≡ 0 → next ≡ round_begun r.zone → IsValidZone next → HasIdentity r.zone.number r.zone.blocks next → IsRoom number blocks memory size (record r { zone = next; rounds = rounds; round = fresh_round })
+  pub room_begun : (r : Room) (next : ZoneState) (rounds : ℕ) → IsRoom number blocks memory size r → in_hand r.kept ≡ 0 → next ≡ round_begun r.zone → IsValidZone next → HasIdentity r.zone.number r.zone.blocks next → IsRoom number blocks memory size (record r { zone = next; rounds = rounds; is_under_way = true; round = fresh_round })
   room_begun r next rounds is none step law identity = record {
     valid = law;
     identity = (identity.0 ∙ is.identity.0, identity.1 ∙ is.identity.1);
@@ -181,7 +181,7 @@ module _ (number blocks : ℕ) (memory : Option Ptr) (size : ℕ) where
   }
 
   -- a new room has no page in hand
-  pub room_new : (z : ZoneState) (kept : List (Option KeptHalf)) → IsValidZone z → HasIdentity number blocks z → z.memory ≡ memory → is_none memory ≡ false → kept ≡ replicate (length kept) None → IsRoom number blocks memory size (record { zone = z; kept = kept; rounds = 0; round = fresh_round })
+  pub room_new : (z : ZoneState) (kept : List (Option KeptHalf)) → IsValidZone z → HasIdentity number blocks z → z.memory ≡ memory → is_none memory ≡ false → kept ≡ replicate (length kept) None → IsRoom number blocks memory size (record { zone = z; kept = kept; rounds = 0; is_under_way = false; round = fresh_round })
   room_new z kept law identity memory_is given free =
       let no : (i : ℕ) (k : KeptHalf) → slice_get kept i ≡ Some (Some k) → ⊥ = λ i k has. none_replicated (length kept) i k (ap (λ (l : List (Option KeptHalf)). slice_get l i) (sym free) ∙ has) in
       record {
@@ -198,6 +198,9 @@ module _ (number blocks : ℕ) (memory : Option Ptr) (size : ℕ) where
   module _ (r : Room) (is : IsRoom number blocks memory size r) where
     pub counts_few : r.round.isolated + 1 < 2 ^ 64
     counts_few = omega (arith, is.most, isolated_bound r.zone is.valid)
+
+    pub room_over : IsRoom number blocks memory size (record r { is_under_way = false })
+    room_over = record { valid = is.valid; identity = is.identity; memory_is = is.memory_is; given = is.given; halves = is.halves; sum = is.sum; most = is.most; met = is.met }
 
     -- a worker finds no page
     pub room_stopped : (reason : Stop) → (reason ≡ stop.Met → HaveMet r.zone) → IsRoom number blocks memory size (record r { round = record r.round { stopped = Some reason } })

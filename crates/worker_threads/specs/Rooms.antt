@@ -1,5 +1,5 @@
 -- What is under the lock of a zone that workers compact, and what the calls under the lock leave of it.
-use Rattle.std.specs.Prelude.{◌≡◌, ℕ, ◌+◌, ◌-◌, ◌^◌, min, List, [], ◌∷◌, Option, Some, None, Result, Ok, Err, slice_get, slice_set}
+use Rattle.std.specs.Prelude.{◌≡◌, ℕ, ◌+◌, ◌-◌, ◌^◌, min, Bool, true, List, [], ◌∷◌, Option, Some, None, Result, Ok, Err, slice_get, slice_set}
 use Rattle.std.specs.Option.{option_map, option_and_then}
 use Rattle.frame_core.specs.Moves.{isolated}
 use Rattle.state_core.specs.Carrying.{words_now}
@@ -21,11 +21,13 @@ use Rattle.worker_threads.specs.declared.round.Stop.{Stop}
 use Rattle.worker_threads.specs.declared.round.Stop.TheVariants as stop
 use Rattle.zone_tables.specs.declared.ending.Move.{Move}
 
--- the zone, what it keeps of each page that a worker has, by its place, how many rounds were begun, and what the latest one did so far
+-- the zone, what it keeps of each page that a worker has, by its place, how many rounds were begun, whether the latest one is under way, and
+-- what it did so far
 pub record Room : Type 0 where
   pub zone : ZoneState
   pub kept : List (Option KeptHalf)
   pub rounds : ℕ
+  pub is_under_way : Bool
   pub round : Round
 
 -- how many rounds were begun with one more, of which 2^64 - 1 are counted at most
@@ -94,4 +96,4 @@ fresh_round = record { isolated = 0; moved = 0; back = 0; stopped = None }
 
 -- the room where a round begins
 abbrev pub round_opened : Room → Room
-round_opened r = record r { zone = round_begun r.zone; rounds = one_begun r.rounds; round = fresh_round }
+round_opened r = record r { zone = round_begun r.zone; rounds = one_begun r.rounds; is_under_way = true; round = fresh_round }

@@ -26,8 +26,8 @@ struct Hired<K: Keeping, const W: usize> {
 /// Moves what can be moved, with so many workers, 1 to 64, of which the thread of the caller is one. Where a thread can't be started, fewer
 /// workers do it.
 ///
-/// Refused as Memory where there isn't enough, else as Busy where a page is moving, and then no round was begun; as Broken where a page
-/// is still moving when the workers have ended.
+/// Refused as Memory where there isn't enough, else as Busy where another round is under way or a page is moving, and then no round was
+/// begun; as Broken where a page is still moving when the workers have ended.
 pub fn compact<K: Keeping + Send + Sync, const W: usize, G: Gate, R: Threads + Wait + Sync>(
     rt: &R,
     alloc: Global,
@@ -64,20 +64,21 @@ fn reserve<K: Keeping, const W: usize>(
     })
 }
 
-/// Begins a round. Refused as Busy where a page is moving.
+/// Begins a round. Refused as Busy where another one is under way, or a page is moving.
 pub(crate) fn begin<K: Keeping, const W: usize, R: Wait>(
     rt: &R,
     shared: &CompactingZone<K, W>,
 ) -> Result<(), WorkError> {
     let mut room = shared.lock(rt);
-    if !room.is_settled() {
+    if !room.can_begin() {
         return Err(WorkError::Busy);
     }
     room.begin();
     Ok(())
 }
 
-/// What a round did whose workers have ended. Refused as Broken where a page is still moving, or a copy wasn't taken back.
+/// Ends a round whose workers have ended, and answers what it did. Refused as Broken where a page is still moving, or a copy wasn't taken
+/// back.
 pub(crate) fn settle<K: Keeping, const W: usize, R: Wait>(
     rt: &R,
     shared: &CompactingZone<K, W>,
@@ -85,10 +86,12 @@ pub(crate) fn settle<K: Keeping, const W: usize, R: Wait>(
 ) -> Result<Round, WorkError>
     ensures { IfOk result (WasSettled K.number K.blocks K.memory W) }
 {
+    let mut room = shared.lock(rt);
+    room.end();
     if !whole {
         return Err(WorkError::Broken);
     }
-    shared.lock(rt).settled().ok_or(WorkError::Broken)
+    room.settled().ok_or(WorkError::Broken)
 }
 
 /// Runs the workers. The answer is whether each copy was taken back.

@@ -70,8 +70,8 @@ impl Crew {
     /// Moves what can be moved, with the workers of the crew, and waits until each of them has done its part. Of several calls at once one
     /// waits for the others.
     ///
-    /// Refused as NoWorker where the crew has none, else as Busy where a page is moving, and then no round was begun; as Broken where a page is
-    /// still moving when the workers have done their parts.
+    /// Refused as NoWorker where the crew has none, else as Busy where another round is under way or a page is moving, and then no round was
+    /// begun; as Broken where a page is still moving when the workers have done their parts.
     pub fn compact<K: Keeping, const W: usize, R: Wait>(
         &self,
         rt: &R,

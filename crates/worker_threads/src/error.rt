@@ -12,8 +12,8 @@ pub enum WorkError {
     /// The crew has no worker. No round was begun.
     #[error("no worker stands")]
     NoWorker,
-    /// A page is moving: another round is under way. No round was begun.
-    #[error("a page is moving")]
+    /// Another round is under way, or a page is moving. No round was begun.
+    #[error("another round is under way, or a page is moving")]
     Busy,
     /// A page was still moving when the workers had ended, or a copy wasn't the zone's.
     #[error("a page was still moving after the round")]

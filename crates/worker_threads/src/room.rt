@@ -39,6 +39,7 @@ pub struct Room<K: Keeping, const W: usize> {
     zone: BareZone<W>,
     kept: Vec<Option<KeptHalf>>,
     rounds: u64,
+    is_under_way: bool,
     round: Round,
     of: PhantomData<K>,
 }
@@ -54,10 +55,10 @@ impl<K: Keeping, const W: usize> Model for Room<K, W> {
 
     ghost coded = { Prim.hlevel (codes, coded_zone, half_code) };
 
-    ghost view = { λ r. record { zone = r.zone; kept = r.kept.items; rounds = r.rounds; round = r.round } };
+    ghost view = { λ r. record { zone = r.zone; kept = r.kept.items; rounds = r.rounds; is_under_way = r.is_under_way; round = r.round } };
 
     ghost invariant = { λ r.
-        let room : Seen = record { zone = r.zone; kept = r.kept.items; rounds = r.rounds; round = r.round } in
+        let room : Seen = record { zone = r.zone; kept = r.kept.items; rounds = r.rounds; is_under_way = r.is_under_way; round = r.round } in
         IsRoom K.number K.blocks K.memory W room × Keeps K.keeps K.stops_at room };
 }
 
@@ -69,12 +70,13 @@ impl<K: Keeping, const W: usize> Room<K, W> {
         requires memory { (zone.memory ≡ K.memory) × (is_none K.memory ≡ false) }
         requires free { kept.items ≡ replicate (length kept.items) None }
         requires keeps { K.keeps 0 zone }
-        ensures { result ≡ record { zone = zone.entry; kept = kept.items; rounds = 0; round = fresh_round } }
+        ensures { result ≡ record { zone = zone.entry; kept = kept.items; rounds = 0; is_under_way = false; round = fresh_round } }
     {
         Room {
             zone,
             kept,
             rounds: 0,
+            is_under_way: false,
             round: Round::new(),
             of: PhantomData,
         }
@@ -120,7 +122,23 @@ impl<K: Keeping, const W: usize> Room<K, W> {
     {
         self.zone.begin_round();
         self.rounds = self.rounds.saturating_add(1);
+        self.is_under_way = true;
         self.round = Round::new();
+    }
+
+    /// Whether a round may begin: none is under way, and no page is on its way.
+    pub(crate) fn can_begin(&self) -> bool
+        ensures begins { IsTrue result ↔ ((self.now.is_under_way ≡ false) × (out self.now.zone.records ≡ [])) }
+        ensures hands { IsTrue result → in_hand self.now.kept ≡ 0 }
+    {
+        !self.is_under_way && self.is_settled()
+    }
+
+    /// Ends the round that is under way: another one may begin.
+    pub(crate) fn end(&mut self)
+        ensures { self.new ≡ record self.old { is_under_way = false } }
+    {
+        self.is_under_way = false;
     }
 
     /// Whether no page is on its way: each that was ever isolated was moved or put back, once.

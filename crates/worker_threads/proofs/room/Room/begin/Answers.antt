@@ -1,4 +1,4 @@
-use Rattle.std.proofs.Common.{◌∙◌, ap, subst, sym}
+use Rattle.std.proofs.Common.{◌∙◌, ap, subst, sym, true}
 use Rattle.frame_core.specs.Moves.{out}
 use Rattle.worker_threads.specs.Kept.{IsRoom, Keeps}
 use Rattle.worker_threads.specs.Rooms.{Room, in_hand}
@@ -12,8 +12,8 @@ invariant_of-self g c =
     let r = c.self.inside in
     let is = c.self.invariant in
     let none = ap (λ (r : Room). out r.zone.records) c.self.view_is ∙ c.requires.none in (
-      subst (λ (w : Round). IsRoom _ _ _ _ (record { zone = c.begin_round.new.self; kept = r.kept.items; rounds = c.saturating_add-self-inside.result; round = w })) (sym c.new-self-inside.ensures)
+      subst (λ (w : Round). IsRoom _ _ _ _ (record { zone = c.begin_round.new.self; kept = r.kept.items; rounds = c.saturating_add-self-inside.result; is_under_way = true; round = w })) (sym c.new-self-inside.ensures)
           (room_begun _ _ _ _ _ c.begin_round.new.self c.saturating_add-self-inside.result is.0 (ap (λ (r : Room). in_hand r.kept) c.self.view_is ∙ c.requires.hands) c.begin_round.ensures.zone c.begin_round.ensures.valid c.begin_round.ensures.identity),
-      subst (λ (w : Round). Keeps g.K.Keeping.keeps g.K.Keeping.stops_at (record { zone = c.begin_round.new.self; kept = r.kept.items; rounds = c.saturating_add-self-inside.result; round = w })) (sym c.new-self-inside.ensures)
+      subst (λ (w : Round). Keeps g.K.Keeping.keeps g.K.Keeping.stops_at (record { zone = c.begin_round.new.self; kept = r.kept.items; rounds = c.saturating_add-self-inside.result; is_under_way = true; round = w })) (sym c.new-self-inside.ensures)
           (keeps_begun _ is.1 is.0.valid c.begin_round.new.self c.saturating_add-self-inside.result c.begin_round.ensures.zone c.saturating_add-self-inside.ensures (g.K.Keeping.begins r.rounds r.zone is.0.valid none)),
     )

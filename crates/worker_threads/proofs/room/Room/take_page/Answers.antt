@@ -63,8 +63,8 @@ invariant_of-self g c =
     let refused : isolate_refusal z ≡ Some error = sym (refused_as z given) ∙ sym (subst (λ (r : Result (Next LentMove) ZoneError). result_err r ≡ lend_move_refusal z) found c.lend_move-next.ensures.refused) in
     let same = subst (λ (r : Result (Next LentMove) ZoneError). OnErr r (next ≡ z)) found c.lend_move-next.ensures.err in
     let count = c.note.ensures ∙ ap (noted c.self.inside.round) found in
-    subst (λ (w : ZoneState). IsRoom g.K.MemoryIdentity.number g.K.MemoryIdentity.blocks g.K.MemoryIdentity.memory g.row.W (record { zone = w; kept = c.self.inside.kept.items; rounds = c.self.inside.rounds; round = c.note.new.self }) × Keeps g.K.Keeping.keeps g.K.Keeping.stops_at (record { zone = w; kept = c.self.inside.kept.items; rounds = c.self.inside.rounds; round = c.note.new.self })) (sym same)
-    (subst (λ (w : Round). IsRoom g.K.MemoryIdentity.number g.K.MemoryIdentity.blocks g.K.MemoryIdentity.memory g.row.W (record { zone = z; kept = c.self.inside.kept.items; rounds = c.self.inside.rounds; round = w }) × Keeps g.K.Keeping.keeps g.K.Keeping.stops_at (record { zone = z; kept = c.self.inside.kept.items; rounds = c.self.inside.rounds; round = w })) (sym count) (
+    subst (λ (w : ZoneState). IsRoom g.K.MemoryIdentity.number g.K.MemoryIdentity.blocks g.K.MemoryIdentity.memory g.row.W (record { zone = w; kept = c.self.inside.kept.items; rounds = c.self.inside.rounds; is_under_way = c.self.inside.is_under_way; round = c.note.new.self }) × Keeps g.K.Keeping.keeps g.K.Keeping.stops_at (record { zone = w; kept = c.self.inside.kept.items; rounds = c.self.inside.rounds; is_under_way = c.self.inside.is_under_way; round = c.note.new.self })) (sym same)
+    (subst (λ (w : Round). IsRoom g.K.MemoryIdentity.number g.K.MemoryIdentity.blocks g.K.MemoryIdentity.memory g.row.W (record { zone = z; kept = c.self.inside.kept.items; rounds = c.self.inside.rounds; is_under_way = c.self.inside.is_under_way; round = w }) × Keeps g.K.Keeping.keeps g.K.Keeping.stops_at (record { zone = z; kept = c.self.inside.kept.items; rounds = c.self.inside.rounds; is_under_way = c.self.inside.is_under_way; round = w })) (sym count) (
       room_stopped _ _ _ _ _ c.self.invariant.0 stop.JournalFull (λ never. cc),
       keeps_stopped _ c.self.invariant.1 law stop.JournalFull (ap stop_for (sym refused)) (λ free. (let both : None ≡ Some error = sym free ∙ refused in cc)) (λ none. g.K.Keeping.stops c.self.inside.rounds z law none c.self.invariant.1.fact),
     ))
@@ -76,7 +76,7 @@ returns-clause-ok g c =
     let next = c.lend_move-next.new.self in
     let first = c.halve-half.ensures.first in
     let rows = c.into_parts-way.ensures.rows in
-    subst (λ (old : Room). (x : Pair) × (next_pair old.zone ≡ Some x) × Gets c.args.place old (record { zone = next; kept = slice_set c.self.inside.kept.items c.args.place (Some (record { way = c.way-way.result; half = c.halve-half.result.0 })); rounds = c.self.inside.rounds; round = c.note.new.self }) x c.new-page.result) c.self.view_is
+    subst (λ (old : Room). (x : Pair) × (next_pair old.zone ≡ Some x) × Gets c.args.place old (record { zone = next; kept = slice_set c.self.inside.kept.items c.args.place (Some (record { way = c.way-way.result; half = c.halve-half.result.0 })); rounds = c.self.inside.rounds; is_under_way = c.self.inside.is_under_way; round = c.note.new.self }) x c.new-page.result) c.self.view_is
     (page_got _ _ _ _ _ c.self.invariant.0 next c.args.place (ap (λ (r : Room). slice_get r.kept c.args.place) c.self.view_is ∙ c.requires.free) lent
     (subst (λ (r : Result (Next LentMove) ZoneError). IfOk r (LendsNext c.self.inside.zone next)) found c.lend_move-next.ensures.lent)
     (subst (λ (r : Result (Next LentMove) ZoneError). OnOk r (next ≡ next_lent c.self.inside.zone (next_pair c.self.inside.zone))) found c.lend_move-next.ensures.ok)
@@ -84,4 +84,4 @@ returns-clause-ok g c =
     (c.way-way.ensures ∙ ap (λ (p : PageInHand). p.way) c.new-page.ensures ∙ c.into_parts-way.ensures.way)
     (λ i. record { at = (first.0 ∙ ap (λ r. r.at) rows.0) i; words = (first.1 ∙ ap (λ r. r.words) rows.0) i; is_first = first.2 i })
     (subst (λ (r : Result (Next LentMove) ZoneError). IfOk r (HaveWords _)) found c.lend_move-next.ensures.count).0
-    c.new-page.result (λ i. record { place = ap (λ (p : PageInHand). p.place) c.new-page.ensures i; way = sym c.way-way.ensures i; from = (ap (λ (p : PageInHand). p.from) c.new-page.ensures ∙ c.halve-half.ensures.second.1 ∙ ap (λ r. r.words) rows.0) i; to = c.new-page.result.to }) _ (λ i. record { zone = next; kept = slice_set c.self.inside.kept.items c.args.place (Some (record { way = c.way-way.result; half = c.halve-half.result.0 })); rounds = c.self.inside.rounds; round = (c.note.ensures ∙ ap (noted c.self.inside.round) found) i }))
+    c.new-page.result (λ i. record { place = ap (λ (p : PageInHand). p.place) c.new-page.ensures i; way = sym c.way-way.ensures i; from = (ap (λ (p : PageInHand). p.from) c.new-page.ensures ∙ c.halve-half.ensures.second.1 ∙ ap (λ r. r.words) rows.0) i; to = c.new-page.result.to }) _ (λ i. record { zone = next; kept = slice_set c.self.inside.kept.items c.args.place (Some (record { way = c.way-way.result; half = c.halve-half.result.0 })); rounds = c.self.inside.rounds; is_under_way = c.self.inside.is_under_way; round = (c.note.ensures ∙ ap (noted c.self.inside.round) found) i }))
