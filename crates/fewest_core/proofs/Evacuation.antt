@@ -1,4 +1,4 @@
--- A move outside of a round leaves the zone valid.
+-- A move outside of a round leaves the zone valid, and so does its beginning.
 use Rattle.std.proofs.Common.{◌≡◌, ◌≢◌, ℕ, true, false, List, ◌∷◌, length, inl, inr, refl, sym, ap, subst, ◌∙◌, arith, Option, Some, None, IsSomeAnd, is_some, nat_eq}
 use Rattle.std.specs.FinMap as map
 use Rattle.std.specs.FinSet as set
@@ -6,22 +6,24 @@ use Rattle.std.specs.Cmp.{nat_cmp_total}
 use Rattle.std.specs.Ordering.{nat_cmp}
 use Rattle.std.proofs.lemmas.Bool.{and_parts, both_ways, cond-true, cond-false, eq-eqb, eqb-true, ne_eqb, or_cases, or_left, or_right}
 use Rattle.std.proofs.lemmas.Bool.Decides.{eqb_tells}
+use Rattle.std.proofs.lemmas.Option.{same_Some}
 use Rattle.frame_core.proofs.OnTheWay.{ended_out, length_without, not_moving, out_below, still_out}
 use Rattle.frame_core.specs.declared.record.Record.{Record}
 use Rattle.frame_core.specs.declared.record.Record.TheVariants.{Isolate, Moved}
 use Rattle.frame_core.specs.History.{pins}
 use Rattle.frame_core.specs.Moves.{isolated, out, is_out, page_of, IsWellEnded}
 use Rattle.state_core.specs.declared.placement.Placement.{Placement}
-use Rattle.state_core.specs.declared.placement.Placement.TheVariants.{At}
+use Rattle.state_core.specs.declared.placement.Placement.TheVariants.{At, Moving}
 use Rattle.state_core.specs.Isolating.{isolate_refusal}
 use Rattle.state_core.specs.Valid.{IsValidZone, is_under}
 use Rattle.state_core.specs.ZoneState.{ZoneState, is_free}
 use Rattle.state_core.proofs.Entries.{get_insert_same, get_insert_other}
 use Rattle.state_core.proofs.Facts.{not_none, room_for_two, unpinned_here}
-use Rattle.state_core.proofs.Moving.{CanSettle, some_same}
-use Rattle.state_core.proofs.Places.{IsOutWith, free_count, lent_stay, page_count, valid_places, where_is}
+use Rattle.state_core.proofs.Moving.{CanSettle, IsRecorded, isolate_still, some_same}
+use Rattle.state_core.proofs.Places.{IsOutWith, free_count, lent_stay, page_count, valid_places, ways_of, where_is}
 use Rattle.fewest_core.specs.Evacuation.{moved_away}
 use Rattle.fewest_core.specs.FewestMoves.{Move, IsMove, after_move, under_way}
+use Rattle.fewest_core.proofs.Moves.{target_not_source}
 
 module _ (z : ZoneState) (m : Move) (law : IsValidZone z) (is : IsMove z m) where
   abbrev serial : ℕ
@@ -43,7 +45,20 @@ module _ (z : ZoneState) (m : Move) (law : IsValidZone z) (is : IsMove z m) wher
     at = is.here;
     numbered = is.known;
     takes = λ g e. inr (ap (is_free z) (eqb-true g m.target e) ∙ target_free, omega (arith, eqb-true g m.target e, is.within));
-    upward = λ s source target e. cc;
+    elsewhere = λ s source target e. cc;
+  }
+
+  -- while the page moves, it takes up its target besides its source
+  pub can_start : CanSettle z m.page (At m.source) (Moving serial m.source m.target)
+  can_start = record {
+    valid = law;
+    at = is.here;
+    numbered = is.known;
+    takes = λ g e. elim (or_cases (nat_eq g m.source) (nat_eq g m.target) e) [
+      | inl source ↦ inl source
+      | inr target ↦ inr (ap (is_free z) (eqb-true g m.target target) ∙ target_free, omega (arith, eqb-true g m.target target, is.within))
+    ];
+    elsewhere = λ s source target e same. (let from : m.source ≡ source = cc in let to : m.target ≡ target = cc in absurd (target_not_source z m is (to ∙ sym same ∙ sym from)));
   }
 
   -- the words of the page aren't lent, and those whose words are lent stay where they are
@@ -74,6 +89,38 @@ module _ (z : ZoneState) (m : Move) (law : IsValidZone z) (is : IsMove z m) wher
         record { in_use = used.0; here = not_moving z.records m.page at_rest; unpinned = eqb-true (pins z.records m.page) 0 (and_parts _ _ is.movable).0 }),
     law.journal.well_ended,
   )
+
+  -- a page that is out under another serial than the new one was out before
+  was_out : (q s : ℕ) → serial ≢ s → IsOutWith (Isolate m.page serial ∷ z.records) q s → IsOutWith z.records q s
+  was_out q s ne way = (
+    elim (or_cases (nat_eq s serial) _ way.0) [ inl here ↦ absurd (ne (sym (eqb-true s serial here))) | inr old ↦ old ],
+    sym (cond-false _ (Some m.page) (page_of z.records s) (ne_eqb serial s ne)) ∙ way.1,
+  )
+
+  -- the record with which it starts to move
+  pub start_recorded : isolate_refusal z ≡ None → IsRecorded z (Isolate m.page serial) m.page (Moving serial m.source m.target)
+  start_recorded accepted =
+      let left = room_for_two z accepted in
+      record {
+        still = isolate_still z.records serial m.page;
+        truthful = law.journal.truthful;
+        well_ended = isolated_well;
+        spare = omega (arith, left);
+        room_left = omega (arith, left);
+        here = move_here;
+        own_way = λ s. (
+          λ under. (or_left _ _ (eq-eqb s serial (sym (eqb-true serial s under))), cond-true _ (Some m.page) (page_of z.records s) under),
+          λ way. elim (eqb_tells serial s) [ inl same ↦ same.0 | inr other ↦ (let old = was_out m.page s other.1 way in absurd (at_rest s old.0 old.1)) ],
+        );
+        other_ways = λ q s ne. (
+          λ way. (or_right _ _ way.0, cond-false _ (Some m.page) (page_of z.records s) (ne_eqb serial s (λ same. fresh s way.0 (sym same))) ∙ way.1),
+          λ way. elim (eqb_tells serial s) [
+            | inl same ↦ absurd (ne (same_Some q m.page (sym way.1 ∙ cond-true _ (Some m.page) (page_of z.records s) same.0)))
+            | inr other ↦ was_out q s other.1 way
+          ],
+        );
+        ways = omega (arith, ap ways_of is.here);
+      }
 
   serial_out : is_out (Isolate m.page serial ∷ z.records) serial ≡ true
   serial_out = or_left _ _ (eq-eqb serial serial refl)

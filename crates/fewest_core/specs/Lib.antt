@@ -3,3 +3,4 @@ pub mod Evacuation
 pub mod Example
 pub mod FewestMoves
 pub mod Reservation
+pub mod Sending

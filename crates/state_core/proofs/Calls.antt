@@ -2,7 +2,7 @@
 use Rattle.std.proofs.Common.{◌≡◌, ℕ, ◌+◌, ◌<◌, ◌≤◌, Bool, true, false, cond, length, refl, sym, ap, ◌∙◌, subst, arith, ◌-◌, not, is_some, nat_eq, ◌&&◌, Option, Some, None, IsSome}
 use Rattle.std.specs.Prelude.{IsTrue, ◌∷◌, unwrap_or}
 use Rattle.std.specs.FinMap as map
-use Rattle.std.specs.Option.{option_and_then, option_or}
+use Rattle.std.specs.Option.{option_and_then}
 use Rattle.std.proofs.lemmas.Bool.{and_from, and_parts, not-false, ltb-true, leb-false, eq-eqb, eqb-true}
 use Rattle.std.proofs.lemmas.Bool.Decides.{nat_tests}
 use Rattle.frame_core.proofs.Searches.{lowest_some}
@@ -12,10 +12,9 @@ use Rattle.frame_core.specs.History.{page_at, maps, pins}
 use Rattle.frame_core.specs.Moves.{out}
 use Rattle.state_core.specs.declared.call.ZoneCall.{ZoneCall}
 use Rattle.state_core.specs.declared.call.ZoneCall.TheVariants.{Map, MapAt, Load, Store, Share, Unmap, Pin, Unpin, TakeOrder, GiveOrder, Mark, Unmark}
-use Rattle.state_core.specs.declared.error.ZoneError.{ZoneError}
 use Rattle.state_core.specs.declared.placement.Placement.{Placement}
 use Rattle.state_core.specs.declared.placement.Placement.TheVariants.{At}
-use Rattle.state_core.specs.Access.{placement_refusal, access_refusal, loaded, stored}
+use Rattle.state_core.specs.Access.{access_refusal, loaded, stored}
 use Rattle.state_core.specs.Calls.{refusal_of, answer_of, after, answers, record_of, IsInRange}
 use Rattle.state_core.specs.HandingOut.{is_order, is_run, lowest_run, take_order_refusal, give_order_refusal, block_taken, block_given}
 use Rattle.state_core.specs.Valid.{IsValidZone}
@@ -25,6 +24,7 @@ use Rattle.state_core.specs.Pinning.{pins_at, pin_refusal, unpin_refusal, pinned
 use Rattle.state_core.specs.Sharing.{share_refusal, shared}
 use Rattle.state_core.specs.Unmapping.{is_last, last_refusal, unmap_refusal, unmapped}
 use Rattle.state_core.specs.ZoneState.{ZoneState, frame_count, has_address, has_room, is_free, frame_for, lowest_free_frame, lowest_unused_page, placement_at}
+use Rattle.state_core.proofs.Accepted.{passed, both_passed, in_a_frame}
 use Rattle.state_core.proofs.Accessed.{valid_loaded, valid_stored}
 use Rattle.state_core.proofs.Facts.{in_table, none_is, spare, page_named}
 use Rattle.state_core.proofs.Finding.{frame_for_free, some_lowest, unused_is, unused_left}
@@ -34,19 +34,6 @@ use Rattle.state_core.proofs.Marking.{valid_marked, valid_unmarked}
 use Rattle.state_core.proofs.Pinning.{valid_pinned, valid_unpinned}
 use Rattle.state_core.proofs.Sharing.{valid_shared}
 use Rattle.state_core.proofs.Unmapping.{valid_unmapped}
-
--- a call that isn't refused passed each test
-passed : (b : Bool) (error : ZoneError) (o : Option ZoneError) → cond b (Some error) o ≡ None → (b ≡ false) × (o ≡ None)
-passed true error o e = cc
-passed false error o e = (refl, e)
-
-both_passed : (a b : Option ZoneError) → option_or a b ≡ None → (a ≡ None) × (b ≡ None)
-both_passed None b e = (refl, e)
-both_passed (Some error) b e = cc
-
-in_a_frame : (o : Option Placement) → placement_refusal o ≡ None → (frame : ℕ) × (o ≡ Some (At frame))
-in_a_frame (Some (At frame)) e = (frame, refl)
-in_a_frame _ e = cc
 
 -- a page that loses its last address has no pin
 pub last_unpinned : (z : ZoneState) (address : Address) (page : ℕ) → page_at z.records address ≡ Some page → last_refusal z address ≡ None → maps z.records page ≡ 1 → pins z.records page ≡ 0
@@ -121,7 +108,7 @@ module _ (z : ZoneState) where
     kept_load : (address : Address) (word : ℕ) → access_refusal z address ≡ None → IsValidZone (loaded z client address word)
     kept_load address word accepted =
         let room = passed _ _ _ accepted in
-        let at = in_a_frame _ (both_passed _ _ room.1).0 in
+        let at = in_a_frame _ _ room.1 in
         valid_loaded z law (room_passed room.0) client address at.0 word at.1
 
     kept_store : (address : Address) (word value : ℕ) → access_refusal z address ≡ None → IsValidZone (stored z client address word value)
@@ -132,7 +119,7 @@ module _ (z : ZoneState) where
         let known = passed _ _ _ accepted in
         let room = passed _ _ _ known.1 in
         let both = both_passed _ _ room.1 in
-        let at = in_a_frame _ both.0 in
+        let at = in_a_frame _ _ room.1 in
         let vacant = passed _ _ _ both.1 in
         let few = passed _ _ _ vacant.1 in
         let page = page_named z address (At at.0) at.1 in
@@ -150,7 +137,7 @@ module _ (z : ZoneState) where
     kept_unmap address accepted =
         let room = passed _ _ _ accepted in
         let both = both_passed _ _ room.1 in
-        let at = in_a_frame _ both.0 in
+        let at = in_a_frame _ _ room.1 in
         let page = page_named z address (At at.0) at.1 in
         valid_unmapped z client address page.0 at.0 (record { valid = law; spare = room_passed room.0; named = page.1; at = page.2; unpinned = last_unpinned z address page.0 page.1 both.1 })
 

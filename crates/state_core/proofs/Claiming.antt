@@ -64,7 +64,7 @@ module _ (v : ZoneState) (law : IsValidZone v) (claimed : set.FinSet nat_cmp) (m
     addresses = law.addresses;
     journal = law.journal;
     agrees = law.agrees;
-    pages = record { numbered = law.pages.numbered; upward = law.pages.upward; apart = law.pages.apart; within = law.pages.within; clear = λ page frame e. clear frame (used_by v law page frame e); unmovable = law.pages.unmovable };
+    pages = record { numbered = law.pages.numbered; elsewhere = law.pages.elsewhere; apart = law.pages.apart; within = law.pages.within; clear = λ page frame e. clear frame (used_by v law page frame e); unmovable = law.pages.unmovable };
     blocks = record {
       each = law.blocks.each;
       disjoint = law.blocks.disjoint;

@@ -32,7 +32,7 @@ module _ (v : ZoneState) (page serial source target : ℕ) (law : IsValidZone v)
   known_out = (law.agrees.under_way page serial).0 (ap (λ (o : Option Placement). is_under o serial) at ∙ eq-eqb serial serial refl)
 
   pub frames_apart : source ≢ target
-  frames_apart e = let up = law.pages.upward page serial source target at in absurd (omega arith)
+  frames_apart = law.pages.elsewhere page serial source target at
 
   takes_source : takes_up (Some way) source ≡ true
   takes_source = or_left _ _ (eq-eqb source source refl)
@@ -46,7 +46,7 @@ module _ (v : ZoneState) (page serial source target : ℕ) (law : IsValidZone v)
     at = at;
     numbered = law.pages.numbered page (not_none _ way at);
     takes = λ g e. inl (ap (takes_up (Some way)) (eqb-true g frame e) ∙ had);
-    upward = λ s from to e. cc;
+    elsewhere = λ s from to e. cc;
   }
 
   pub can_move_on : CanSettle v page way (At target)

@@ -191,7 +191,7 @@ module _ (v : ZoneState) (first order : ℕ) (run : is_run v order first ≡ tru
       addresses = law.addresses;
       journal = journal_noted (TakeHuge first order) law.journal spare law.journal.truthful law.journal.well_ended refl;
       agrees = record { named = law.agrees.named; in_use = law.agrees.in_use; under_way = law.agrees.under_way; handed = handed_taken; marks = law.agrees.marks };
-      pages = record { numbered = law.pages.numbered; upward = law.pages.upward; apart = law.pages.apart; within = law.pages.within; clear = clear_taken; unmovable = law.pages.unmovable };
+      pages = record { numbered = law.pages.numbered; elsewhere = law.pages.elsewhere; apart = law.pages.apart; within = law.pages.within; clear = clear_taken; unmovable = law.pages.unmovable };
       blocks = record { each = blocks_taken; disjoint = disjoint_taken; contents = contents_taken; lent = lent_taken; lendable = law.blocks.lendable; claims = law.blocks.claims; unclaimed = unclaimed_taken };
       loans = record { used = law.loans.used; pinned = law.loans.pinned; lendable = law.loans.lendable };
       fingers = fingers_ended v (block_taken v first order) (TakeHuge first order) law law.fingers.ordered refl refl refl;
@@ -283,7 +283,7 @@ module _ (v : ZoneState) (law : IsValidZone v) (first order : ℕ) (at : map.get
     addresses = law.addresses;
     journal = journal_noted (GiveHuge first order) law.journal spare law.journal.truthful law.journal.well_ended refl;
     agrees = record { named = law.agrees.named; in_use = law.agrees.in_use; under_way = law.agrees.under_way; handed = handed_fewer; marks = law.agrees.marks };
-    pages = record { numbered = law.pages.numbered; upward = law.pages.upward; apart = law.pages.apart; within = law.pages.within; clear = (λ page frame e. (or_parts _ _ (sym (held_given frame) ∙ law.pages.clear page frame e)).0); unmovable = law.pages.unmovable };
+    pages = record { numbered = law.pages.numbered; elsewhere = law.pages.elsewhere; apart = law.pages.apart; within = law.pages.within; clear = (λ page frame e. (or_parts _ _ (sym (held_given frame) ∙ law.pages.clear page frame e)).0); unmovable = law.pages.unmovable };
     blocks = record { each = blocks_given; disjoint = (λ a b frame e f. law.blocks.disjoint a b frame (covers_given a frame e).1 (covers_given b frame f).1); contents = contents_given; lent = lent_given unlent; lendable = law.blocks.lendable; claims = law.blocks.claims; unclaimed = λ a frame e. law.blocks.unclaimed a frame (covers_given a frame e).1 };
     loans = record { used = law.loans.used; pinned = law.loans.pinned; lendable = law.loans.lendable };
     fingers = fingers_ended v (block_given v first order) (GiveHuge first order) law law.fingers.ordered refl refl refl;

@@ -39,7 +39,7 @@ module _ (v : ZoneState) (pair : Pair) (law : IsValidZone v) (is : IsPair v pair
       | inl source ↦ inl source
       | inr target ↦ inr (ap (is_free v) (eqb-true g pair.target target) ∙ is.to.free, omega (arith, eqb-true g pair.target target, target_within))
     ];
-    upward = λ serial source target e. (let low = is.to.low in let s : pair.source ≡ source = cc in let t : pair.target ≡ target = cc in omega arith);
+    elsewhere = λ serial source target e same. (let low = is.to.low in let s : pair.source ≡ source = cc in let t : pair.target ≡ target = cc in absurd (omega arith));
   }
 
   -- after a page was isolated, only its target differs in being free

@@ -1,3 +1,4 @@
+pub mod Accepted
 pub mod Accessed
 pub mod Bulk
 pub mod Calls

@@ -49,7 +49,7 @@ module _ (v : ZoneState) (client : ℕ) (address : Address) (unmovable : Bool) (
     at = can.unused;
     numbered = can.numbered;
     takes = λ g e. (let same : frame ≡ g = sym (eqb-true g frame e) in let within = can.within in inr (ap (is_free v) (sym same) ∙ can.free, omega arith));
-    upward = λ serial source target e. cc;
+    elsewhere = λ serial source target e. cc;
   }
 
   -- placements after a fresh page was placed

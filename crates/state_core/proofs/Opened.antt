@@ -60,7 +60,7 @@ module _ (words number : ℕ) (size : ZoneSize) (places : ℕ) where
     };
     pages = record {
       numbered = λ page used. absurd (both_ways _ (ap is_some (no_page page)) used);
-      upward = λ page serial source target e. absurd (none-some _ (sym (no_page page) ∙ e));
+      elsewhere = λ page serial source target e. absurd (none-some _ (sym (no_page page) ∙ e));
       apart = λ p q frame h k. absurd (both_ways _ (untaken p frame) h);
       within = λ page frame h. absurd (both_ways _ (untaken page frame) h);
       clear = λ page frame h. absurd (both_ways _ (untaken page frame) h);

@@ -4,7 +4,7 @@ use Rattle.std.specs.FinMap as map
 use Rattle.std.specs.FinSet as set
 use Rattle.std.specs.Ordering.{nat_cmp}
 use Rattle.std.proofs.Math.Bool.{or-false}
-use Rattle.std.proofs.lemmas.Bool.{and_parts, both_ways, cases_Bool, eq-eqb, false_from_ne_true, ne_eqb, not-true, or_right}
+use Rattle.std.proofs.lemmas.Bool.{and_parts, both_ways, cases_Bool, eq-eqb, false_from_ne_true, ne_eqb, not-true, or_left, or_right}
 use Rattle.std.proofs.lemmas.Bool.Decides.{eqb_tells, leb_tells}
 use Rattle.frame_core.proofs.Searches.{some_at, some_none, none_some, count_more, count_none, count_same}
 use Rattle.frame_core.specs.Address.{InTable}
@@ -53,7 +53,7 @@ pub record CanChangePlace (v : ZoneState) (page : ℕ) (old new : Option Placeme
   pub at : map.get v.placement page ≡ old
   pub numbered : page < frame_count v
   pub takes : (frame : ℕ) → takes_up new frame ≡ true → (takes_up old frame ≡ true) ⊎ ((is_free v frame ≡ true) × (frame < frame_count v))
-  pub upward : (serial source target : ℕ) → new ≡ Some (Moving serial source target) → source < target
+  pub elsewhere : (serial source target : ℕ) → new ≡ Some (Moving serial source target) → source ≢ target
 
 get_put_same : (m : map.FinMap nat_cmp Placement) (page q : ℕ) (place : Option Placement) → q ≡ page → map.get (put m page place) q ≡ place
 get_put_same m page q None e = get_remove_same m page q e
@@ -94,14 +94,13 @@ counts_but_one p r (suc n) k h same = elim (leb_tells n k) [
 one_frame : (frame n : ℕ) → frame < n → count_below (λ g. nat_eq g frame) n ≡ 1
 one_frame frame n h = omega (arith, count_none (λ (g : ℕ). false) n (λ g l. refl), count_more (λ g. false) (λ g. nat_eq g frame) n frame h refl (eq-eqb frame frame refl) (λ g ne. ne_eqb g frame ne))
 
-frames_counted : (o : Option Placement) (n : ℕ) → ((frame : ℕ) → takes_up o frame ≡ true → frame < n) → ((serial source target : ℕ) → o ≡ Some (Moving serial source target) → source < target) → count_below (takes_up o) n ≡ frames_of o
-frames_counted None n within upward = count_none (λ (g : ℕ). false) n (λ g l. refl)
-frames_counted (Some (At frame)) n within upward = one_frame frame n (within frame (eq-eqb frame frame refl))
-frames_counted (Some (Moving serial source target)) n within upward =
-    let up : source < target = upward serial source target refl in
-    let apart : target ≢ source = omega arith in
+frames_counted : (o : Option Placement) (n : ℕ) → ((frame : ℕ) → takes_up o frame ≡ true → frame < n) → ((serial source target : ℕ) → o ≡ Some (Moving serial source target) → source ≢ target) → count_below (takes_up o) n ≡ frames_of o
+frames_counted None n within elsewhere = count_none (λ (g : ℕ). false) n (λ g l. refl)
+frames_counted (Some (At frame)) n within elsewhere = one_frame frame n (within frame (eq-eqb frame frame refl))
+frames_counted (Some (Moving serial source target)) n within elsewhere =
+    let apart : target ≢ source = λ same. elsewhere serial source target refl (sym same) in
     let high : target < n = within target (or_right (nat_eq target source) _ (eq-eqb target target refl)) in
-    let low : source < n = omega arith in
+    let low : source < n = within source (or_left (nat_eq source source) _ (eq-eqb source source refl)) in
     omega (
       arith,
       one_frame source n low,
@@ -160,7 +159,7 @@ module _ {v : ZoneState} {page : ℕ} {old new : Option Placement} (can : CanCha
   pub valid_places : (unmovable : set.FinSet nat_cmp) → ((q : ℕ) → set.contains unmovable q ≡ true → IsSome (map.get next.placement q)) → HasValidPages next.placement unmovable (frame_count v) (is_held v)
   valid_places unmovable stay = record {
     numbered = λ q used. elim (where_is q) [ inl here ↦ omega (arith, here.0, can.numbered) | inr there ↦ can.valid.pages.numbered q (ap is_some (sym there.1) ∙ used) ];
-    upward = λ q serial source target e. elim (where_is q) [ inl here ↦ can.upward serial source target (sym here.2 ∙ e) | inr there ↦ can.valid.pages.upward q serial source target (sym there.1 ∙ e) ];
+    elsewhere = λ q serial source target e. elim (where_is q) [ inl here ↦ can.elsewhere serial source target (sym here.2 ∙ e) | inr there ↦ can.valid.pages.elsewhere q serial source target (sym there.1 ∙ e) ];
     apart = λ p q g a b. elim (took p g a) [
       | inl x ↦ elim (took q g b) [ inl y ↦ x.0 ∙ sym y.0 | inr y ↦ absurd (not_new q g y.0 y.1 x.1) ]
       | inr x ↦ elim (took q g b) [ inl y ↦ absurd (not_new p g x.0 x.1 y.1) | inr y ↦ can.valid.pages.apart p q g x.1 y.1 ]
@@ -207,8 +206,8 @@ module _ {v : ZoneState} {page : ℕ} {old new : Option Placement} (can : CanCha
   free_count = omega (
     arith,
     counts_add_up (is_free next) (takes_up new) (is_free v) (takes_up old) (frame_count v) (λ g h. balanced g (cases_Bool _) (cases_Bool _)),
-    frames_counted new (frame_count v) new_within can.upward,
-    frames_counted old (frame_count v) (λ g e. can.valid.pages.within page g (takes_before g ∙ e)) (λ serial source target e. can.valid.pages.upward page serial source target (can.at ∙ e)),
+    frames_counted new (frame_count v) new_within can.elsewhere,
+    frames_counted old (frame_count v) (λ g e. can.valid.pages.within page g (takes_before g ∙ e)) (λ serial source target e. can.valid.pages.elsewhere page serial source target (can.at ∙ e)),
   )
 
   pub page_count : count_below (λ q. is_some (map.get next.placement q)) (frame_count v) + one_if (is_some old) ≡ count_below (λ q. is_some (map.get v.placement q)) (frame_count v) + one_if (is_some new)

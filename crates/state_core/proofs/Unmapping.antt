@@ -91,7 +91,7 @@ module _ (v : ZoneState) (client : ℕ) (address : Address) (page frame : ℕ) (
   next = with_place v page None
 
   pub can_unmap : maps v.records page ≡ 1 → CanChangePlace v page (Some (At frame)) None
-  can_unmap one = record { valid = can.valid; at = can.at; numbered = can.valid.pages.numbered page (not_none _ (At frame) can.at); takes = λ g e. cc; upward = λ serial source target e. cc }
+  can_unmap one = record { valid = can.valid; at = can.at; numbered = can.valid.pages.numbered page (not_none _ (At frame) can.at); takes = λ g e. cc; elsewhere = λ serial source target e. cc }
 
   still_used : maps v.records page ≡ 1 → (q : ℕ) → q ≢ page → IsSome (map.get v.placement q) → IsSome (map.get next.placement q)
   still_used one q ne used = elim (where_is (can_unmap one) q) [ inl here ↦ absurd (ne here.0) | inr there ↦ ap is_some there.1 ∙ used ]

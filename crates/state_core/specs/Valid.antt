@@ -1,5 +1,5 @@
 -- What is true of every zone, whatever calls were made.
-use Rattle.std.specs.Prelude.{◌≡◌, ℕ, ◌+◌, ◌*◌, ◌^◌, ◌<◌, ◌≤◌, ◌↔◌, Bool, true, false, List, length, nat_eq, Option, Some, None, is_some, IsSome, IsTrue}
+use Rattle.std.specs.Prelude.{◌≡◌, ◌≢◌, ℕ, ◌+◌, ◌*◌, ◌^◌, ◌<◌, ◌≤◌, ◌↔◌, Bool, true, false, List, length, nat_eq, Option, Some, None, is_some, IsSome, IsTrue}
 use Rattle.std.specs.FinMap as map
 use denote.RawPtr.{Ptr}
 use Rattle.std.specs.FinSet as set
@@ -57,8 +57,8 @@ pub record AgreesWithJournal (spaces vpages : ℕ) (records : List Record) (plac
 -- and fixed has the pages that are noted as unmovable
 pub record HasValidPages (placement : map.FinMap nat_cmp Placement) (fixed : set.FinSet nat_cmp) (frames : ℕ) (held : ℕ → Bool) : Type 0 where
   pub numbered : (page : ℕ) → IsSome (map.get placement page) → page < frames
-  -- a moving page goes to a higher frame
-  pub upward : (page serial source target : ℕ) → map.get placement page ≡ Some (Moving serial source target) → source < target
+  -- a moving page goes to another frame
+  pub elsewhere : (page serial source target : ℕ) → map.get placement page ≡ Some (Moving serial source target) → source ≢ target
   -- a frame is of one page at most; it is in the zone, and isn't held
   pub apart : (p q frame : ℕ) → takes_up (map.get placement p) frame ≡ true → takes_up (map.get placement q) frame ≡ true → p ≡ q
   pub within : (page frame : ℕ) → takes_up (map.get placement page) frame ≡ true → frame < frames
