@@ -177,6 +177,30 @@ module _ (z : ZoneState) (order : ℕ) (firsts : List ℕ) (picked : ArePicked z
       (ap (λ (k : ℕ). is_aligned order (first place) && nat_le (first place + size) (512 * k)) blocks ∙ picked.block place h)
       (eq-eqb (count_from (is_free v) (first place) size) size (count_from_all (is_free v) (first place) size (λ frame low high. free frame (list_any_at (λ k. is_in_run k size frame) firsts place 0 h (in_run (first place) size frame low high)))))
 
+  chosen_is : (run : ℕ) → run < runs → chosen run ≡ is_picked z size n run
+  chosen_is = chosen_picked (λ i h. (first i / size, run_within i h, picked.opened i h, picked.ranked i h))
+
+  none_past : chosen runs ≡ false
+  none_past = false_from_ne_true _ (λ e. absurd (omega (arith, (chosen_open runs e).0)))
+
+  fit : size * runs ≤ frame_count z
+  fit = omega arith
+
+  over : frame_count z < size * runs + size
+  over = omega (arith, pow_pos order)
+
+  -- where so many runs are open, these have the fewest pages that so many have
+  module _ (opened : n ≤ length (costs z size)) where
+    chosen_count : count_below chosen runs ≡ n
+    chosen_count = count_same chosen (is_picked z size n) runs chosen_is ∙ (cheapest size n z opened).0
+
+    chosen_cost : cost_below chosen (cost z size) runs ≡ least n z size
+    chosen_cost = cost_of_same chosen (cost z size) chosen (is_picked z size n) runs chosen_is ∙ (cheapest size n z opened).1
+
+    pub pages_are : pages_below is_in z (frame_count z) ≡ least n z size
+    pages_are = count_same (λ frame. is_in frame && is_used z frame) (λ frame. chosen (frame / size) && is_used z frame) (frame_count z) (λ frame h. ap (λ (b : Bool). b && is_used z frame) (in_chosen_run frame))
+        ∙ run_by_run_all size chosen (is_used z) (frame_count z) runs fit over none_past ∙ chosen_cost
+
   module _ (accepted : reserve_refusal z n order ≡ None) where
     tests : (can_reserve z n size ≡ true) × (has_room_to_reserve z (least n z size) n ≡ true)
     tests = two_tests (can_reserve z n size) (has_room_to_reserve z (least n z size) n) _ _ accepted
@@ -184,30 +208,11 @@ module _ (z : ZoneState) (order : ℕ) (firsts : List ℕ) (picked : ArePicked z
     can : (nat_le n (length (costs z size)) ≡ true) × (nat_le (size * n) (unmarked_free z) ≡ true)
     can = and_parts (nat_le n (length (costs z size))) _ tests.0
 
-    pub enough_open : n ≤ length (costs z size)
+    enough_open : n ≤ length (costs z size)
     enough_open = leb-true _ _ can.0
 
-    chosen_is : (run : ℕ) → run < runs → chosen run ≡ is_picked z size n run
-    chosen_is = chosen_picked (λ i h. (first i / size, run_within i h, picked.opened i h, picked.ranked i h))
-
-    chosen_count : count_below chosen runs ≡ n
-    chosen_count = count_same chosen (is_picked z size n) runs chosen_is ∙ (cheapest size n z enough_open).0
-
-    chosen_cost : cost_below chosen (cost z size) runs ≡ least n z size
-    chosen_cost = cost_of_same chosen (cost z size) chosen (is_picked z size n) runs chosen_is ∙ (cheapest size n z enough_open).1
-
-    none_past : chosen runs ≡ false
-    none_past = false_from_ne_true _ (λ e. absurd (omega (arith, (chosen_open runs e).0)))
-
-    fit : size * runs ≤ frame_count z
-    fit = omega arith
-
-    over : frame_count z < size * runs + size
-    over = omega (arith, pow_pos order)
-
-    pub pages_are : pages_below is_in z (frame_count z) ≡ least n z size
-    pages_are = count_same (λ frame. is_in frame && is_used z frame) (λ frame. chosen (frame / size) && is_used z frame) (frame_count z) (λ frame h. ap (λ (b : Bool). b && is_used z frame) (in_chosen_run frame))
-        ∙ run_by_run_all size chosen (is_used z) (frame_count z) runs fit over none_past ∙ chosen_cost
+    pages_few : pages_below is_in z (frame_count z) ≡ least n z size
+    pages_few = pages_are enough_open
 
     spare_are : least n z size ≤ frames_beside is_in z
     spare_are =
@@ -215,21 +220,21 @@ module _ (z : ZoneState) (order : ℕ) (firsts : List ℕ) (picked : ArePicked z
         let less = count_within (is_spare size runs chosen z) (is_beside is_in z) (frame_count z) (λ frame h e.
         let parts = and_parts (is_free_unmarked z frame) _ e in
         and_from (not (is_in frame)) _ (ap not (in_chosen_run frame) ∙ parts.1) parts.0) in
-        let whole : size * count_below chosen runs ≡ size * n = ap (λ (k : ℕ). size * k) chosen_count in
-        omega (arith, room, less, whole, chosen_cost, leb-true _ _ can.1)
+        let whole : size * count_below chosen runs ≡ size * n = ap (λ (k : ℕ). size * k) (chosen_count enough_open) in
+        omega (arith, room, less, whole, chosen_cost enough_open, leb-true _ _ can.1)
 
     places : length (out z.records) + 2 * least n z size + n ≤ z.room
     places = leb-true (length (out z.records) + 2 * least n z size + n) z.room tests.1
 
     pub enough : HasEnough is_in z
     enough = record {
-      spare = omega (arith, pages_are, spare_are);
-      room = omega (arith, pages_are, places);
+      spare = omega (arith, pages_few, spare_are);
+      room = omega (arith, pages_few, places);
     }
 
     module _ (v : ZoneState) (m : ℕ) (is : IsEmptying is_in z v m) (all : m ≡ frame_count z) where
       done : pages_below is_in z m ≡ least n z size
-      done = ap (pages_below is_in z) all ∙ pages_are
+      done = ap (pages_below is_in z) all ∙ pages_few
 
       pub all_free : (frame : ℕ) → is_in frame ≡ true → is_free v frame ≡ true
       all_free frame there =

@@ -2,7 +2,7 @@ pub mod Alone
 pub mod ByHand
 pub mod Calls
 pub mod Claims
-mod Clearing
+pub mod Clearing
 pub mod Coming
 pub mod Emptying
 pub mod Ending
@@ -25,6 +25,7 @@ pub mod Same
 pub mod Scanner
 pub mod Scanning
 pub mod Seated
+mod Sending
 pub mod StaysBooked
 pub mod Steps
 mod Stepping

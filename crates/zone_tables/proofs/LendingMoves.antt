@@ -18,8 +18,6 @@ use Rattle.frame_core.specs.Words.{HasBlock, block_words, with_words, words_of}
 use Rattle.row_core.specs.Seen.{Row}
 use Rattle.state_core.specs.Ending.{IsSettled}
 use Rattle.state_core.specs.LentMoves.{IsCopiedMove, IsLentMove, LentMove, is_lent_move, is_on_way, move_returned}
-use Rattle.state_core.specs.Isolating.{isolated_next}
-use Rattle.state_core.specs.declared.round.Pair.{Pair}
 use Rattle.state_core.specs.declared.placement.Placement.{Placement}
 use Rattle.state_core.specs.declared.placement.Placement.TheVariants.{At, Moving}
 use Rattle.state_core.specs.ZoneState.{ZoneState, takes_up, words_frame}
@@ -28,6 +26,7 @@ use Rattle.state_core.proofs.Facts.{not_none, takes_own}
 use Rattle.state_core.proofs.Lending.{valid_page_back, valid_page_lent}
 use Rattle.state_core.proofs.LentMoves.{lent_way}
 use Rattle.state_core.proofs.Settled.{frames_apart, target_in}
+use Rattle.fewest_core.specs.FewestMoves.{Move, under_way}
 use Rattle.zone_tables.specs.Carried.{AreRowsOf, IfRows}
 use Rattle.zone_tables.specs.Fits.{WordsFit}
 use Rattle.zone_tables.specs.LentPages.{IsLentNow}
@@ -75,14 +74,14 @@ lent_by_page v m at =
     ∙ and_from (nat_eq m.serial m.serial && nat_eq m.source m.source) _ (and_from (nat_eq m.serial m.serial) _ (eq-eqb m.serial m.serial refl) (eq-eqb m.source m.source refl)) (eq-eqb m.target m.target refl) in
     sym (ap (λ b. b && set.contains v.lent_pages m.page) is)
 
--- the page of a pair is moving once its move began, and its words aren't lent yet
-module _ (v next : ZoneState) (pair : Pair) (way : Way) (is : way ≡ record { page = pair.page; serial = isolated v.records; source = pair.source; target = pair.target }) where
-  pub begun_at : next ≡ isolated_next v pair → map.get next.placement way.page ≡ Some (Moving way.serial way.source way.target)
+-- a page is moving once its move began, and its words aren't lent yet
+module _ (v next : ZoneState) (m : Move) (way : Way) (is : way ≡ record { page = m.page; serial = isolated v.records; source = m.source; target = m.target }) where
+  pub begun_at : next.placement ≡ (under_way v m).placement → map.get next.placement way.page ≡ Some (Moving way.serial way.source way.target)
   begun_at step =
-      let at = ap (λ (u : ZoneState). map.get u.placement pair.page) step ∙ get_insert_same v.placement pair.page pair.page (Moving (isolated v.records) pair.source pair.target) refl in
+      let at = ap (λ (places : map.FinMap nat_cmp Placement). map.get places m.page) step ∙ get_insert_same v.placement m.page m.page (Moving (isolated v.records) m.source m.target) refl in
       subst (λ (w : Way). map.get next.placement w.page ≡ Some (Moving w.serial w.source w.target)) (sym is) at
 
-  pub begun_here : set.contains next.lent_pages pair.page ≡ false → set.contains next.lent_pages way.page ≡ false
+  pub begun_here : set.contains next.lent_pages m.page ≡ false → set.contains next.lent_pages way.page ≡ false
   begun_here here = ap (λ (w : Way). set.contains next.lent_pages w.page) is ∙ here
 
 -- whether words are lent is of no matter to where a page is
@@ -197,7 +196,7 @@ module _ {W : ℕ} {z : Inside W} {v : ZoneState} (view : state_of z ≡ v) (inv
       }
 
   -- what is true of the rows that come back, where they do
-  pub copied_rows : {P : Type 0} (carried : Carried P) → IfRows carried (λ from to. IsCopiedMove v (record { page = page; serial = serial; source = source; target = target; from = from; to = to })) → IfRows carried (λ from to. AreRowsOf W z.words source target from to × (to.words ≡ from.words))
+  pub copied_rows : {S : Type 0} (carried : Carried S) → IfRows carried (λ from to. IsCopiedMove v (record { page = page; serial = serial; source = source; target = target; from = from; to = to })) → IfRows carried (λ from to. AreRowsOf W z.words source target from to × (to.words ≡ from.words))
   copied_rows (Rows from to) its = (rows_of_move from to its.lent, its.copied)
   copied_rows (Copy page) its = tt
   copied_rows Source its = tt

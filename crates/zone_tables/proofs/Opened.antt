@@ -17,7 +17,6 @@ use Rattle.table_core.specs.Tables.{IsBlank}
 use Rattle.frame_core.specs.Page.{blank_words}
 use Rattle.frame_core.specs.FrameSet.{has_frame}
 use Rattle.frame_core.specs.LentWords.{NoneLent}
-use Rattle.frame_core.specs.Words.{words_of}
 use Rattle.zone_tables.specs.declared.note.PageNote.{PageNote}
 use Rattle.zone_tables.specs.Moves.{Moves}
 use Rattle.zone_tables.proofs.Copies.{no_placement, all_false, all_movable, no_order}

@@ -4,20 +4,20 @@ use Rattle.frame_core.specs.LentWords.{Words, place_of}
 use Rattle.frame_core.specs.Words.{words_of}
 use Rattle.row_core.specs.Seen.{Row}
 use Rattle.zone_tables.specs.declared.ending.Carried.{Carried}
-use Rattle.zone_tables.specs.declared.ending.Carried.TheVariants.{Copy, Source, Rows}
+use Rattle.zone_tables.specs.declared.ending.Carried.TheVariants.{Copy, Rows}
 
 -- what is true of the copy, where there is one
-abbrev pub IfCopy : {P : Type 0} → Carried P → (P → Type 0) → Type 0
-IfCopy (Copy page) is = is page
+abbrev pub IfCopy : {S : Type 0} → Carried S → (S → Type 0) → Type 0
+IfCopy (Copy words) is = is words
 IfCopy _ is = ⊤
 
 -- what is true of the rows of both frames, where they come back
-abbrev pub IfRows : {P : Type 0} → Carried P → (Row → Row → Type 0) → Type 0
+abbrev pub IfRows : {S : Type 0} → Carried S → (Row → Row → Type 0) → Type 0
 IfRows (Rows from to) is = is from to
 IfRows _ is = ⊤
 
 -- whether the rows of both frames come back
-abbrev pub has_rows : {P : Type 0} → Carried P → Bool
+abbrev pub has_rows : {S : Type 0} → Carried S → Bool
 has_rows (Rows from to) = true
 has_rows _ = false
 

@@ -1,5 +1,5 @@
 -- How the tables of a zone stand for its state.
-use Rattle.std.specs.Prelude.{◌≡◌, ◌≢◌, ℕ, ◌^◌, ◌<◌, Bool, true, false, List, length, nat_eq, if◌then◌else◌, slice_get, Option, Some, None, IsSome}
+use Rattle.std.specs.Prelude.{◌≡◌, ℕ, ◌^◌, ◌<◌, Bool, true, false, List, length, nat_eq, if◌then◌else◌, slice_get, Option, Some, None, IsSome}
 use Rattle.std.specs.FinMap as map
 use Rattle.std.specs.FinSet as set
 use Rattle.frame_core.specs.Below.{count_below}

@@ -32,9 +32,9 @@ pub struct Move {
 
 /// What the target of a moving page gets its words from.
 #[derive(Drop)]
-pub(crate) enum Carried<P> {
-    /// A copy of the page.
-    Copy(P),
+pub(crate) enum Carried<S> {
+    /// The words of a copy of the page.
+    Copy(S),
     /// The frame that it leaves.
     Source,
     /// The rows of both frames, which were lent: the second one has the words already.
@@ -103,13 +103,12 @@ impl<const W: usize> ZoneTables<W> {
         ensures valid { IsValidZone self.new }
         ensures settled { IsSettled self.old self.new way.now.page way.now.target way.now.source }
     {
-        self.arrive_with(way, Carried::Copy(copy));
+        self.arrive_with(way, Carried::Copy(copy.words()));
     }
 
     /// Ends a move of which nobody has a copy: the page is in its target, with the words of its source.
     #[inline(always)]
     pub fn carry(&mut self, way: &Move)
-        requires size { W ≤ 65536 }
         requires placed { map.get self.old.placement way.now.page ≡ Some (Moving way.now.serial way.now.source way.now.target) }
         requires here { set.contains self.old.lent_pages way.now.page ≡ false }
         requires unpinned { pins self.old.records way.now.page ≡ 0 }
@@ -122,11 +121,11 @@ impl<const W: usize> ZoneTables<W> {
 
     /// Ends a move: the page is in its target, with the words that are carried there. Where they were lent, they aren't any more.
     #[inline(always)]
-    pub(crate) fn arrive_with(&mut self, way: &Move, carried: Carried<&PageOf<W>>)
+    pub(crate) fn arrive_with(&mut self, way: &Move, carried: Carried<&[u64]>)
         requires placed { map.get self.old.placement way.now.page ≡ Some (Moving way.now.serial way.now.source way.now.target) }
         requires unpinned { pins self.old.records way.now.page ≡ 0 }
         requires lent { set.contains self.old.lent_pages way.now.page ≡ has_rows carried }
-        requires copy { IfCopy carried (λ page. page.now.words ≡ words_now self.old way.now.page) }
+        requires copy { IfCopy carried (λ words. words.now ≡ words_now self.old way.now.page) }
         requires rows { IfRows carried (λ from to. IsCopiedMove self.old (record { page = way.now.page; serial = way.now.serial; source = way.now.source; target = way.now.target; from = from; to = to })) }
         ensures step { self.new ≡ move_returned (moved_to_target self.old way.now.serial way.now.page) way.now.page }
         ensures valid { IsValidZone self.new }
@@ -204,19 +203,20 @@ impl<const W: usize> ZoneTables<W> {
 
 /// Gives the target of a moving page the words that are carried there.
 #[inline(always)]
-fn fill_target<const W: usize>(words: &mut WordsOf<W>, way: &Move, carried: Carried<&PageOf<W>>)
+fn fill_target<const W: usize>(words: &mut WordsOf<W>, way: &Move, carried: Carried<&[u64]>)
     requires apart { way.now.source ≢ way.now.target }
     requires source { way.now.source < length words.old.rows }
     requires target { way.now.target < length words.old.rows }
     requires here { has_rows carried ≡ false → IsHere words.old way.now.source 1 × IsHere words.old way.now.target 1 }
-    requires copy { IfCopy carried (λ page. page.now.words ≡ words_of words.old.rows way.now.source) }
+    requires sizes { (length (words_of words.old.rows way.now.source) ≡ W) × (length (words_of words.old.rows way.now.target) ≡ W) }
+    requires copy { IfCopy carried (λ copy. copy.now ≡ words_of words.old.rows way.now.source) }
     requires rows { IfRows carried (λ from to. AreRowsOf W words.old way.now.source way.now.target from to × (to.words ≡ from.words)) }
     ensures rows { words.new.rows ≡ with_words words.old.rows way.now.target (words_of words.old.rows way.now.source) }
     ensures lent { IsLentNow words.old.lent words.new.lent (Moving way.now.serial way.now.source way.now.target) false }
     ensures at { (words.new.at ≡ words.old.at) × (words.new.given ≡ words.old.given) }
 {
     match carried {
-        Carried::Copy(page) => words.write_in(way.target, page),
+        Carried::Copy(copy) => words.store_words(way.target, 0, copy),
         Carried::Source => words.copy(way.source, way.target),
         Carried::Rows(from, to) => take_rows_back(words, way, from, to),
     }

@@ -1,15 +1,16 @@
 //! Rounds, and the page that a round isolates next.
 
-ghost use Rattle.std.specs.Prelude.{◌≡◌, ◌+◌, ◌<◌, ℕ, length, IsSome, IfSome, IfNone, None, Some, true, false};
+ghost use Rattle.std.specs.Prelude.{◌≡◌, ◌+◌, ◌<◌, ◌≤◌, ℕ, length, IsSome, IfSome, IfNone, None, Some, true, false};
 ghost use Rattle.std.specs.FinMap as map;
 ghost use Rattle.std.specs.FinSet as set;
+ghost use Rattle.fewest_core.specs.FewestMoves.{IsMove, under_way};
 ghost use Rattle.frame_core.specs.Moves.{isolated, out};
 ghost use Rattle.state_core.specs.Valid.{IsValidZone};
 ghost use Rattle.state_core.specs.Rounds.{round_begun};
 ghost use Rattle.state_core.specs.Carrying.{flags_of, page_now};
 ghost use Rattle.state_core.specs.Isolating.{isolate_refusal, isolated_next};
 ghost use Rattle.state_core.specs.Pairs.{IsPair, is_calm, holder, next_pair};
-ghost use Rattle.state_core.specs.Swept.{IsSwept};
+ghost use Rattle.state_core.specs.Swept.{IsSwept, SweptIfQuiet};
 ghost use Rattle.state_core.specs.ZoneState.{frame_count};
 ghost use Rattle.state_core.specs.declared.placement.Placement.TheVariants.{At};
 
@@ -89,6 +90,31 @@ impl<const W: usize> ZoneTables<W> {
             source,
             target,
         } = pair;
+        let mut fingers = self.fingers;
+        fingers.migrate = source.get() + 1;
+        fingers.free = target.get();
+        self.start_move(page, source, target, fingers)
+    }
+
+    /// Isolates a page under the next serial, on its way from its frame to a free one, and sets the fingers. Its words stay in its frame
+    /// until its move ends.
+    #[inline(always)]
+    pub(crate) fn start_move(
+        &mut self,
+        page: PageNo,
+        source: FrameNo,
+        target: FrameNo,
+        fingers: Fingers,
+    ) -> Move
+        requires may_move { IsMove self.old (record { page = page; source = source; target = target }) }
+        requires accepted { isolate_refusal self.old ≡ None }
+        requires ordered { (fingers.migrate ≤ fingers.free) × (fingers.free ≤ frame_count self.old) }
+        requires swept { SweptIfQuiet (record (under_way self.old (record { page = page; source = source; target = target })) { migrate = fingers.migrate; free = fingers.free }) }
+        ensures way { result ≡ record { page = page; serial = isolated self.old.records; source = source; target = target } }
+        ensures here { set.contains self.new.lent_pages page ≡ false }
+        ensures step { self.new ≡ record (under_way self.old (record { page = page; source = source; target = target })) { migrate = fingers.migrate; free = fingers.free } }
+        ensures valid { IsValidZone self.new }
+    {
         let serial = self.moves.isolate();
         self.frames.to_source(source, page);
         self.frames.to_target(target, page);
@@ -99,8 +125,7 @@ impl<const W: usize> ZoneTables<W> {
             target,
         };
         self.notes.place(page, way);
-        self.fingers.migrate = source.get() + 1;
-        self.fingers.free = target.get();
+        self.fingers = fingers;
         self.history.note(Record::Isolate { serial, page });
         Move {
             page,

@@ -1,7 +1,11 @@
-//! Moving pages whose words are lent: the page of the next pair is isolated and the words of its two frames are lent, and its move ends when
-//! they come back.
+//! Moving pages whose words are lent: the page of the next pair, or one that is sent to a free frame outside of a round, is isolated and the
+//! words of its two frames are lent, and its move ends when they come back.
 
-ghost use Rattle.std.specs.Prelude.{◌≡◌, ◌≤◌, length, IsSome, None};
+ghost use Rattle.std.specs.Prelude.{◌≡◌, ◌≤◌, length, IsSome, None, Some, false};
+ghost use Rattle.std.specs.FinMap as map;
+ghost use Rattle.std.specs.FinSet as set;
+ghost use Rattle.fewest_core.specs.FewestMoves.{IsMove};
+ghost use Rattle.fewest_core.specs.Sending.{sent};
 ghost use Rattle.frame_core.specs.History.{pins};
 ghost use Rattle.frame_core.specs.Moves.{isolated};
 ghost use Rattle.state_core.specs.Ending.{HasCause, IsSettled, moved_to_target, put_back_to_source};
@@ -9,11 +13,12 @@ ghost use Rattle.state_core.specs.Isolating.{isolate_refusal};
 ghost use Rattle.state_core.specs.LentMoves.{IsCopiedMove, IsLentMove, is_lent_move, move_lent, move_returned};
 ghost use Rattle.state_core.specs.Pairs.{IsPair};
 ghost use Rattle.state_core.specs.Valid.{IsValidZone};
+ghost use Rattle.state_core.specs.declared.placement.Placement.TheVariants.{Moving};
 
-use crate::ending::{Carried, take_rows_back};
+use crate::ending::{Carried, Move, take_rows_back};
 use crate::lent_move::{CopiedMove, LentMove};
 use crate::zone::ZoneTables;
-use frame_core::Cause;
+use frame_core::{Cause, FrameNo, PageNo};
 use state_core::{Pair, Placement};
 
 impl<const W: usize> ZoneTables<W> {
@@ -30,6 +35,40 @@ impl<const W: usize> ZoneTables<W> {
         ensures valid { IsValidZone self.new }
     {
         let way = self.begin_move(pair);
+        self.lend_rows(way)
+    }
+
+    /// Isolates a page that rests in a frame under the next serial, on its way to a free one, and lends the words of both. The latest round
+    /// is forgotten, since frames change on both sides of its fingers.
+    pub fn send(&mut self, page: PageNo, source: FrameNo, target: FrameNo) -> LentMove
+        requires may_move { IsMove self.old (record { page = page; source = source; target = target }) }
+        requires accepted { isolate_refusal self.old ≡ None }
+        requires given { IsSome self.old.memory }
+        ensures lent { IsLentMove self.new result }
+        ensures count { (length result.from.words ≡ W) × (length result.to.words ≡ W) }
+        ensures page { (result.page ≡ page) × (result.serial ≡ isolated self.old.records) }
+        ensures frames { (result.source ≡ source) × (result.target ≡ target) }
+        ensures step { self.new ≡ sent self.old (record { page = page; source = source; target = target }) }
+        ensures valid { IsValidZone self.new }
+    {
+        self.forget_round();
+        let fingers = self.fingers;
+        let way = self.start_move(page, source, target, fingers);
+        self.lend_rows(way)
+    }
+
+    /// Lends the words of the two frames of a moving page.
+    fn lend_rows(&mut self, way: Move) -> LentMove
+        requires placed { map.get self.old.placement way.page ≡ Some (Moving way.serial way.source way.target) }
+        requires here { set.contains self.old.lent_pages way.page ≡ false }
+        requires given { IsSome self.old.memory }
+        ensures lent { IsLentMove self.new result }
+        ensures count { (length result.from.words ≡ W) × (length result.to.words ≡ W) }
+        ensures page { (result.page ≡ way.page) × (result.serial ≡ way.serial) }
+        ensures frames { (result.source ≡ way.source) × (result.target ≡ way.target) }
+        ensures step { self.new ≡ record self.old { lent_pages = set.insert self.old.lent_pages way.page } }
+        ensures valid { IsValidZone self.new }
+    {
         let from = self.words.lend_block(way.source, 1);
         let to = self.words.lend_block(way.target, 1);
         LentMove::of(way, from, to)
@@ -59,7 +98,6 @@ impl<const W: usize> ZoneTables<W> {
 
     /// Ends a move whose words were lent, and copied: they come back, and the page is in its target.
     pub fn arrive_lent(&mut self, copied: CopiedMove)
-        requires size { W ≤ 65536 }
         requires copied { IsCopiedMove self.old copied }
         requires unpinned { pins self.old.records copied.page ≡ 0 }
         ensures step { self.new ≡ move_returned (moved_to_target self.old copied.serial copied.page) copied.page }

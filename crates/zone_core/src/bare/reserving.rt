@@ -1,6 +1,6 @@
 //! Reservations: the cheapest open runs are emptied and handed out.
 
-ghost use Rattle.std.specs.Prelude.{◌≡◌, ◌+◌, ◌*◌, ◌/◌, ◌^◌, ◌<◌, ◌≤◌, ℕ, None, Some, true, false, [], ◌∷◌, is_some, length, nat_le, nat_lt, slice_index, IfOk, IfSome, OnOk, OnErr};
+ghost use Rattle.std.specs.Prelude.{◌≡◌, ◌+◌, ◌*◌, ◌/◌, ◌^◌, ◌<◌, ◌≤◌, ℕ, None, Some, true, false, [], ◌∷◌, is_some, length, nat_le, nat_lt, slice_index, IfNone, IfOk, IfSome, OnSome, OnOk, OnErr};
 ghost use Rattle.std.specs.FinMap as map;
 ghost use Rattle.std.specs.Result.{result_err};
 ghost use Rattle.fewest_core.specs.Claims.{claim_refusal};
@@ -113,6 +113,21 @@ impl<const W: usize> BareZone<W> {
             first,
             pages: run.pages,
         })
+    }
+
+    /// How many pages the cheapest open runs of an order have together, as many runs as `firsts` has places, or none where fewer are open.
+    /// Their first frames are written into `firsts`, the cheapest first, and the lowest first of equals. Where there is no answer nothing is
+    /// written. A run is open as `cheapest_run` says. Other runs may be the cheapest after the next call that changes the zone.
+    pub fn cheapest_runs(&self, order: Order, firsts: &mut [FrameNo]) -> Option<u32>
+        ensures there { is_some result ≡ nat_le (length firsts.old) (length (costs self.now (2 ^ order))) }
+        ensures pages { IfSome result (λ pages. pages ≡ least (length firsts.old) self.now (2 ^ order)) }
+        ensures picked { OnSome result (ArePicked self.now order firsts.new) }
+        ensures none { IfNone result (firsts.new ≡ firsts.old) }
+        ensures count { length firsts.new ≡ length firsts.old }
+    {
+        let pages = self.least_pages(order, firsts.len())?;
+        self.pick(order, firsts);
+        Some(pages)
     }
 
     /// How many pages move for so many blocks, or why their reservation is refused.

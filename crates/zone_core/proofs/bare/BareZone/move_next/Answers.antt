@@ -14,4 +14,4 @@ carry-requires g c =
     let unpinned = begun_unpinned c.args.self.now z c.deref_mut-in-Ok-Some.result.now c.in-Ok-Some.pair c.begin_move-way.result same c.begin_move-way.ensures.way begun is_pair.from.movable in
     let here = begun_here c.args.self.now z c.deref_mut-in-Ok-Some.result.now c.in-Ok-Some.pair c.begin_move-way.result same c.begin_move-way.ensures.way begun
     (ap (λ (v : ZoneState). set.contains v.lent_pages c.in-Ok-Some.pair.page) c.deref_mut-in-Ok-Some.ensures.value ∙ c.begin_move-way.ensures.here) in
-    (omega arith, (c.self.inside.size, (placed, (here, unpinned))))
+    (omega arith, (placed, (here, unpinned)))

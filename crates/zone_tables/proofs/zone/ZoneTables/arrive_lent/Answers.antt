@@ -9,4 +9,4 @@ arrive_with-requires g c =
     let v = c.args.self.now in
     let is : move_of c.into_parts-way.result.0 c.into_parts-way.result.1 c.into_parts-way.result.2 ≡ c.args.copied = parts_of c.into_parts-way.ensures.way c.into_parts-way.ensures.rows ∙ c.into_lent.ensures in
     let its = subst (IsCopiedMove v) (sym is) c.requires.copied in
-    (omega arith, (omega arith, (its.lent.way, (ap (λ (m : LentMove). pins v.records m.page) is ∙ c.requires.unpinned, (its.lent.lent, (tt, its))))))
+    (omega arith, (its.lent.way, (ap (λ (m : LentMove). pins v.records m.page) is ∙ c.requires.unpinned, (its.lent.lent, (tt, its)))))

@@ -46,11 +46,14 @@ fill_target-requires g c =
     let source = source_row c.self.view_is c.self.invariant way.page c.requires.placed in
     let target = target_row c.self.view_is c.self.invariant way.page c.requires.placed in
     let seen : words_of c.self.inside.words.rows way.source ≡ words_now c.args.self.now way.page = words_seen c.self.inside.words.rows c.args.self.now sound.words sound.valid way.page (Moving way.serial way.source way.target) c.requires.placed in
-    let copy = subst (λ (words : List ℕ). IfCopy c.args.carried (λ page. page.now.words ≡ words)) (sym seen) c.requires.copy in
+    let width = ap (λ (u : ZoneState). u.page_size) c.self.view_is in
+    let of_source = sound.words.sized way.source (source_within c.args.self.now way.page way.serial way.source way.target sound.valid c.requires.placed) in
+    let of_target = sound.words.sized way.target (target_in c.args.self.now way.page way.serial way.source way.target sound.valid c.requires.placed) in
+    let copy = subst (λ (words : List ℕ). IfCopy c.args.carried (λ copy. copy.now ≡ words)) (sym seen) c.requires.copy in
     let here : has_rows c.args.carried ≡ false → IsHere c.self.inside.words way.source 1 × IsHere c.self.inside.words way.target 1 = λ off.
     (let back = c.requires.lent ∙ off in
     (source_here c.self.inside c.args.self.now sound way.page way.serial way.source way.target c.requires.placed back, target_here c.self.inside c.args.self.now sound way.page way.serial way.source way.target c.requires.placed back)) in
-    (omega arith, (omega arith, (apart, (source, (target, (here, (copy, copied_rows c.self.view_is c.self.invariant way.page c.requires.placed c.args.carried c.requires.rows)))))))
+    (omega arith, (apart, (source, (target, (here, ((omega (arith, of_source, width), omega (arith, of_target, width)), (copy, copied_rows c.self.view_is c.self.invariant way.page c.requires.placed c.args.carried c.requires.rows)))))))
 
 pub place-requires : goal.place-requires
 place-requires g c = ap is_some (placement_seen c.self.inside c.args.self.now c.self.view_is c.args.way.now.page ∙ c.requires.placed)
