@@ -85,11 +85,11 @@ HAND_PROOFS = {
     ),
     "crates/compactd_c/proofs/memory/compactd_return_block/Answers.antt": (
         "it says that the words lie where those of the block do, and proves no function by hand",
-        "e14205536f90b8e03b4e0ef5d6de780e24d45a481744af7b006bf7bfa04173dd",
+        "4a7d84d61321711a9d17629032ac56295e9f352bc234a02cb52491d1cf6212d7",
     ),
     "crates/compactd_c/proofs/memory/compactd_return_page/Answers.antt": (
         "it says that the words lie where those of the page do, and proves no function by hand",
-        "82fb728e2f37334354619c8efd0fe481c49d3adbe3cc7b5e833101e02b29571a",
+        "533c4be5c0256c79be2e06b30238d5d0858d0965eba41c69df5b0774508cd857",
     ),
     "crates/compactd_c/proofs/pool/Pool/TheSendSync/Send.antt": (
         "the prover finds no pointer fit to go to another thread",

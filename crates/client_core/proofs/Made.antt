@@ -1,7 +1,7 @@
 -- What a call that was made says in the words of its own method.
-use Rattle.std.proofs.Common.{◌≡◌, ℕ, Bool, true, false, refl, sym, ap, ◌∙◌, Option, None, Some}
+use Rattle.std.proofs.Common.{◌≡◌, ℕ, Bool, refl, sym, ap, ◌∙◌, Option, None, Some}
 use Rattle.std.proofs.lemmas.Bool.{not-false}
-use Rattle.std.specs.Prelude.{is_none, is_some, not, unwrap_or, IsSome, ◌&&◌, if◌then◌else◌}
+use Rattle.std.specs.Prelude.{is_none, is_some, not, unwrap_or, IsSome}
 use Rattle.frame_core.specs.declared.place.Address.{Address}
 use Rattle.frame_core.specs.declared.record.Record.TheVariants as entry
 use Rattle.frame_core.specs.History.{page_at}
@@ -14,10 +14,10 @@ use Rattle.state_core.specs.Access.{access_refusal, value_at}
 use Rattle.state_core.specs.Calls.{refusal_of, answer_of, after, record_of}
 use Rattle.state_core.specs.Mapping.{map_refusal, map_at_refusal, mapped}
 use Rattle.state_core.specs.ZoneState.{ZoneState, frame_for, has_address, has_room, lowest_free_frame, lowest_unused_page}
+use Rattle.state_core.proofs.Accepted.{passed}
 use Rattle.state_core.proofs.Finding.{frame_for_found}
 use Rattle.client_core.specs.Calls.{HasMade, IsAccepted, leaving, loading, mapping, mapping_free}
 use Rattle.client_core.specs.Receipts.{Client, with_receipt}
-use Rattle.client_core.proofs.ManyCalls.{passes}
 
 -- there was a frame for the page, where a zone accepted a map
 found : (o : Option ℕ) → IsSome o → o ≡ Some (unwrap_or o 0)
@@ -25,11 +25,11 @@ found None some = cc
 found (Some n) some = refl
 
 free_frame : (z : ZoneState) (address : Address) (unmovable : Bool) → map_refusal z address ≡ None → frame_for z unmovable ≡ Some (unwrap_or (frame_for z unmovable) 0)
-free_frame z address unmovable passed =
-    let unless_ranged = passes (not (has_address z address)) Range _ passed in
-    let unless_full = passes (not (has_room z)) JournalFull _ unless_ranged.1 in
-    let unless_occupied = passes (is_some (page_at z.records address)) Occupied _ unless_full.1 in
-    let unless_none = passes (is_none (lowest_free_frame z)) NoFrame None unless_occupied.1 in
+free_frame z address unmovable unrefused =
+    let unless_ranged = passed (not (has_address z address)) Range _ unrefused in
+    let unless_full = passed (not (has_room z)) JournalFull _ unless_ranged.1 in
+    let unless_occupied = passed (is_some (page_at z.records address)) Occupied _ unless_full.1 in
+    let unless_none = passed (is_none (lowest_free_frame z)) NoFrame None unless_occupied.1 in
     let free = frame_for_found z unmovable (not-false _ unless_none.0) in
     found (frame_for z unmovable) (ap is_some free.1)
 
@@ -43,7 +43,7 @@ module _ {W : ℕ} (old new : Client) (answer : ZoneAnswer) where
     accepted = accepted_by (leaving (after call old.number)) tt refl
 
     -- and its receipt is the record of what the zone answers
-    receipt_is : new ≡ with_receipt old (record_of call old.number (answer_of call made.0.zone))
+    pub receipt_is : new ≡ with_receipt old (record_of call old.number (answer_of call made.0.zone))
     receipt_is = made.1 ∙ ap (λ (a : ZoneAnswer). with_receipt old (record_of call old.number a)) made.0.answer_is
 
   -- a load has the value in its receipt

@@ -1,7 +1,6 @@
 -- Calls of a client, one after the other: those of a read or a write of several words, and what they leave.
-use Rattle.std.proofs.Common.{◌≡◌, ℕ, zero, suc, ◌+◌, ◌≤◌, Bool, true, false, not, if◌then◌else◌, List, [], ◌∷◌, ◌++◌, length, refl, sym, ap, subst, ◌∙◌, append-nil, append_assoc, eq-eqb, Option, None, Some, arith}
+use Rattle.std.proofs.Common.{◌≡◌, ℕ, zero, suc, ◌+◌, ◌≤◌, true, false, not, List, [], ◌∷◌, ◌++◌, length, refl, sym, ap, subst, ◌∙◌, append-nil, append_assoc, eq-eqb, Option, None, Some, arith}
 use Rattle.std.specs.Prelude.{Result, Ok, Err, OnOk, is_some}
-use Rattle.std.specs.Option.{option_or}
 use Rattle.std.specs.Result.{result_err}
 use Rattle.std.proofs.lemmas.Bool.{not-false}
 use Rattle.std.proofs.lemmas.Bool.Decides.{nat_tests}
@@ -12,39 +11,25 @@ use Rattle.frame_core.specs.declared.record.Record.TheVariants.{Load, Store}
 use Rattle.frame_core.specs.Moves.{out}
 use Rattle.hand_core.specs.Told.{Pair, Told, pair_of, written_if}
 use Rattle.state_core.specs.declared.error.ZoneError.{ZoneError}
-use Rattle.state_core.specs.declared.placement.Placement.{Placement}
-use Rattle.state_core.specs.declared.placement.Placement.TheVariants.{At, Moving}
-use Rattle.state_core.specs.Access.{placement_refusal, value_at, loaded, stored}
+use Rattle.state_core.specs.declared.placement.Placement.TheVariants.{At}
+use Rattle.state_core.specs.Access.{value_at, loaded, stored}
 use Rattle.state_core.specs.Bulk.{bulk_refusal, has_room_for, values_at, loaded_all, stored_all}
 use Rattle.state_core.specs.Valid.{IsValidZone}
 use Rattle.state_core.specs.ZoneState.{ZoneState, placement_at}
+use Rattle.state_core.proofs.Accepted.{passed, in_a_frame}
 use Rattle.state_core.proofs.Accessed.{valid_loaded, valid_stored}
 use Rattle.round_core.specs.Calls.{IsCall}
 use Rattle.client_core.specs.Bulk.{AreCalls, records_each, written_all}
 use Rattle.client_core.proofs.Calls.{Holds, holds_more, holds_same}
 
--- a test that doesn't refuse
-pub passes : (b : Bool) (first : ZoneError) (o : Option ZoneError) → (if b then Some first else o) ≡ None → (b ≡ false) × (o ≡ None)
-passes false first o e = (refl, e)
-passes true first o e = cc
-
-at_then : (o : Option Placement) → placement_refusal o ≡ None → (frame : ℕ) × (o ≡ Some (At frame))
-at_then None e = cc
-at_then (Some (At frame)) e = (frame, refl)
-at_then (Some (Moving serial source target)) e = cc
-
-first_none : (first second : Option ZoneError) → option_or first second ≡ None → first ≡ None
-first_none None second e = refl
-first_none (Some error) second e = cc
-
 -- a zone that accepts a call in bulk has a place in its journal for each word, and the page is in a frame
 bulk_accepted : (z : ZoneState) (address : Address) (from count : ℕ) → bulk_refusal z address from count ≡ None
     → (length (out z.records) + count ≤ z.room) × ((frame : ℕ) × (placement_at z address ≡ Some (At frame)))
 bulk_accepted z address from count accepted =
-    let room = passes (not (has_room_for z count)) _ _ (passes _ _ _ accepted).1 in
+    let room = passed (not (has_room_for z count)) _ _ (passed _ _ _ accepted).1 in
     let fits : has_room_for z count ≡ true = not-false (has_room_for z count) room.0 in
     let spare : length (out z.records) + count ≤ z.room = grind (arith, nat_tests) in
-    (spare, at_then (placement_at z address) (first_none (placement_refusal (placement_at z address)) _ room.1))
+    (spare, in_a_frame (placement_at z address) _ room.1)
 
 -- a read is the loads of its words
 loads_are_calls : (z : ZoneState) (client : ℕ) (address : Address) (frame from count : ℕ) → IsValidZone z

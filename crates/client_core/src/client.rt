@@ -1,13 +1,14 @@
-ghost use Rattle.std.specs.Prelude.{◌≡◌, ◌≢◌, ℕ, [], Some, IfOk, IfErr, OnOk, OnErr};
+ghost use Rattle.std.specs.Prelude.{◌≡◌, ◌≢◌, ℕ, [], Some, IsTrue, IfOk, IfErr, OnOk, OnErr};
 ghost use Rattle.std.specs.Int.RustNames.{bit_and};
 ghost use Rattle.frame_core.specs.declared.record.Record.TheVariants.{Map, Share, Unmap, Store, Load, Pin, Unpin};
 ghost use Rattle.frame_core.specs.PageFlags.{is_unmovable};
 ghost use Rattle.state_core.specs.Access.{access_refusal, stored};
-ghost use Rattle.state_core.specs.Calls.{refusal_of};
+ghost use Rattle.state_core.specs.Calls.{after, answer_of, is_of_client, record_of, refusal_of};
 ghost use Rattle.state_core.specs.Mapping.{map_refusal, map_at_refusal};
 ghost use Rattle.state_core.specs.Pinning.{pin_refusal, unpin_refusal, pinned, unpinned};
 ghost use Rattle.state_core.specs.Sharing.{share_refusal, shared as shared_by};
 ghost use Rattle.state_core.specs.Unmapping.{unmap_refusal, unmapped};
+ghost use Rattle.state_core.specs.ZoneState.{ZoneState};
 ghost use Rattle.client_core.specs.Calls.{HasMade, IsAccepted, IsFailed, leaving, loading, mapping, mapping_free};
 ghost use Rattle.client_core.specs.Receipts.{AreSince, with_receipt};
 ghost use Rattle.hand_core.specs.Told.{pair_of};
@@ -182,6 +183,26 @@ impl<J: Telling, T: Receipts> Client<J, T> {
         Ok(answer)
     }
 
+    /// Makes a call to which the zone answers nothing.
+    fn make_done<K: Keeping, Z: Opening, R: Wait>(
+        &mut self,
+        rt: &R,
+        shared: &KeptIn<K, Z>,
+        call: ZoneCall,
+    ) -> Result<(), ClientError>
+        requires allows { K.allows self.old.number J.pair }
+        requires of_client { IsTrue (is_of_client call) }
+        requires done { (zone : ZoneState) → answer_of call zone ≡ ZoneAnswer.Done }
+        ensures ok { OnOk result (self.new ≡ with_receipt self.old (record_of call self.old.number ZoneAnswer.Done)) }
+        ensures accepted { IfOk result (IsAccepted (refusal_of call) (leaving (after call self.old.number))) }
+        ensures err { OnErr result (self.new ≡ self.old) }
+        ensures refused { IfErr result (IsFailed T.takes_memory (refusal_of call)) }
+        ensures there { IfErr result (λ error. error ≢ ClientError.Zone ZoneError.Moving) }
+    {
+        self.make(rt, shared, of_client(call))?;
+        Ok(())
+    }
+
     /// Makes an address name a fresh page in the lowest free frame, or in one by its pageblock where unmovable pages are mapped apart, and
     /// answers this frame. The receipt has the number of the page. The flags must not have DIRTY.
     ///
@@ -252,9 +273,7 @@ impl<J: Telling, T: Receipts> Client<J, T> {
         ensures refused { IfErr result (IsFailed T.takes_memory (λ zone. share_refusal zone address alias)) }
         ensures there { IfErr result (λ error. error ≢ ClientError.Zone ZoneError.Moving) }
     {
-        let call = of_client(ZoneCall::Share { address, alias });
-        self.make(rt, shared, call)?;
-        Ok(())
+        self.make_done(rt, shared, ZoneCall::Share { address, alias })
     }
 
     /// Makes an address name no page any more.
@@ -273,9 +292,7 @@ impl<J: Telling, T: Receipts> Client<J, T> {
         ensures refused { IfErr result (IsFailed T.takes_memory (λ zone. unmap_refusal zone address)) }
         ensures there { IfErr result (λ error. error ≢ ClientError.Zone ZoneError.Moving) }
     {
-        let call = of_client(ZoneCall::Unmap { address });
-        self.make(rt, shared, call)?;
-        Ok(())
+        self.make_done(rt, shared, ZoneCall::Unmap { address })
     }
 
     /// Reads a word of the page that an address names.
@@ -325,8 +342,7 @@ impl<J: Telling, T: Receipts> Client<J, T> {
             word,
             value,
         };
-        self.make(rt, shared, of_client(call))?;
-        Ok(())
+        self.make_done(rt, shared, call)
     }
 
     /// Pins the page that an address names, also while the page is moving.
@@ -344,9 +360,7 @@ impl<J: Telling, T: Receipts> Client<J, T> {
         ensures err { OnErr result (self.new ≡ self.old) }
         ensures refused { IfErr result (IsFailed T.takes_memory (λ zone. pin_refusal zone address)) }
     {
-        let call = of_client(ZoneCall::Pin { address });
-        self.make(rt, shared, call)?;
-        Ok(())
+        self.make_done(rt, shared, ZoneCall::Pin { address })
     }
 
     /// Takes a pin off the page that an address names, also while the page is moving.
@@ -364,8 +378,6 @@ impl<J: Telling, T: Receipts> Client<J, T> {
         ensures err { OnErr result (self.new ≡ self.old) }
         ensures refused { IfErr result (IsFailed T.takes_memory (λ zone. unpin_refusal zone address)) }
     {
-        let call = of_client(ZoneCall::Unpin { address });
-        self.make(rt, shared, call)?;
-        Ok(())
+        self.make_done(rt, shared, ZoneCall::Unpin { address })
     }
 }

@@ -11,10 +11,10 @@ ghost use Rattle.state_core.specs.Pairs.{HaveMet, next_pair};
 ghost use Rattle.state_core.specs.ZoneState.{ZoneState, is_quiet};
 
 use crate::calls::{CLOSED, MET, number, told};
+use crate::memory::taken;
 use crate::pool::Pool;
 use row_core::{HeldWords, Row};
 use state_core::{Ended, ZoneError};
-use std::mem::replace;
 use zone_core::LentMove;
 
 /// The move of a page whose words C has: those of the frame that it leaves, and those of the one that it goes to.
@@ -84,14 +84,6 @@ impl HeldMove {
         self.from = HeldWords::of(from);
         self.to = HeldWords::of(to);
     }
-}
-
-/// Takes the words that C has, if it has some.
-fn taken(words: &mut HeldWords) -> Option<Row>
-    ensures row { (result ≡ words.old.row) × (words.new.row ≡ None) }
-    ensures some { IfSome result (λ row. 0 < length row.words) }
-{
-    replace(words, HeldWords::none()).into_row()
 }
 
 /// Isolates the next page of a round, and lends the words of the frame that it leaves and of the one that it goes to. It is moving from here

@@ -54,7 +54,7 @@ pub extern "C" fn compactd_open_in(
     if let Some(_) = pool.zone() {
         return OPEN;
     }
-    let Some(row) = replace(memory, HeldWords::none()).into_row() else {
+    let Some(row) = taken(memory) else {
         return number(ZoneError::Range);
     };
     let size = ZoneSize {
@@ -132,6 +132,14 @@ fn ended(alloc: Global, pool: &mut Pool) -> Option<Row>
     Box::into_inner(zone).end()
 }
 
+/// Takes the words that C has, if it has some.
+pub(crate) fn taken(words: &mut HeldWords) -> Option<Row>
+    ensures row { (result ≡ words.old.row) × (words.new.row ≡ None) }
+    ensures some { IfSome result (λ row. 0 < length row.words) }
+{
+    replace(words, HeldWords::none()).into_row()
+}
+
 /// Lends the words of a block that is handed out. They are the caller's until `compactd_return_block`. A fresh block holds zeros. Nothing
 /// is copied.
 ///
@@ -181,7 +189,7 @@ pub extern "C" fn compactd_return_block(
     let Some(zone) = pool.zone() else {
         return CLOSED;
     };
-    let Some(row) = replace(words, HeldWords::none()).into_row() else {
+    let Some(row) = taken(words) else {
         return number(ZoneError::Range);
     };
     match zone.return_block(first, order, row) {
@@ -245,7 +253,7 @@ pub extern "C" fn compactd_return_page(
     let Some(zone) = pool.zone() else {
         return CLOSED;
     };
-    let Some(row) = replace(words, HeldWords::none()).into_row() else {
+    let Some(row) = taken(words) else {
         return number(ZoneError::Range);
     };
     match zone.return_page(client, space, vpage, row) {

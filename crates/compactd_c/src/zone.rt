@@ -379,7 +379,12 @@ impl Zone {
         ensures err { OnErr result (self.new ≡ self.old) }
         ensures ok { OnOk result (self.new ≡ put_back_to_source self.old serial number Cause.NotCopied) }
     {
-        of_zone!(&mut self.kind, zone => put_back(zone, serial, number))
+        of_zone!(&mut self.kind, zone => {
+            let number = page_no(zone, number).ok_or(ZoneError::Stranger)?;
+            let page = PageOf::new(zone.number(), number);
+            zone.put_back(IsolatedOf::new(serial, page))
+                .or(Err(ZoneError::Stranger))
+        })
     }
 
     /// Runs a whole round, and tells whether its scanners met; else the journal was full.
@@ -536,7 +541,24 @@ impl Zone {
         ensures packed { result ≡ Ok None → is_quiet self.new ≡ true → length (out self.new.records) ≡ 0 → IsPacked self.new }
         ensures ok { OnOk result (self.new ≡ next_state self.old (next_pair self.old)) }
     {
-        of_zone!(&mut self.kind, zone => isolate(zone, words))
+        of_zone!(&mut self.kind, zone => {
+            if words.len() != zone.page_words() {
+                return Err(ZoneError::Range);
+            }
+            match zone.isolate_next() {
+                Ok(Next::Page(isolated)) => {
+                    words.copy_from_slice(isolated.page().words());
+                    Ok(Some(MovingPage {
+                        serial: isolated.serial(),
+                        number: isolated.page_no().get(),
+                        flags: u32::from(isolated.page().flags().bits()),
+                        reserved: RESERVED,
+                    }))
+                }
+                Ok(Next::Met) => Ok(None),
+                Err(error) => Err(error),
+            }
+        })
     }
 
     /// Ends the move of a page that C copied.
@@ -579,7 +601,6 @@ fn make<const W: usize>(
     client: u32,
     asked: Asked,
 ) -> Result<ZoneAnswer, ZoneError>
-    requires { W ≤ 65536 }
     ensures refused { result_err result ≡ refusal_for client asked zone.old }
     ensures err { OnErr result (zone.new ≡ zone.old) }
     ensures answer { IfOk result (λ answer. answer ≡ answer_for asked zone.old) }
@@ -600,30 +621,12 @@ fn lowest() -> ZoneNo
     number
 }
 
-fn put_back<const W: usize>(
-    zone: &mut BareZone<W>,
-    serial: u64,
-    number: u32,
-) -> Result<(), ZoneError>
-    requires { W ≤ 65536 }
-    ensures own { IsOk result ↔ IsTrue (is_carried zone.old number serial) }
-    ensures stranger { IfErr result (λ error. error ≡ ZoneError.Stranger) }
-    ensures err { OnErr result (zone.new ≡ zone.old) }
-    ensures ok { OnOk result (zone.new ≡ put_back_to_source zone.old serial number Cause.NotCopied) }
-{
-    let number = page_no(zone, number).ok_or(ZoneError::Stranger)?;
-    let page = PageOf::new(zone.number(), number);
-    zone.put_back(IsolatedOf::new(serial, page))
-        .or(Err(ZoneError::Stranger))
-}
-
 fn empty_some<const W: usize>(
     zone: &mut BareZone<W>,
     first: FrameNo,
     order: Order,
     most: u32,
 ) -> Result<Step, ZoneError>
-    requires { W ≤ 65536 }
     ensures refused { result_err result ≡ step_refusal zone.old first order most }
     ensures err { OnErr result (zone.new ≡ zone.old) }
     ensures ok { OnOk result (zone.new ≡ stepped first (2 ^ order) zone.old most) }
@@ -663,37 +666,6 @@ fn page_no<const W: usize>(zone: &BareZone<W>, number: u32) -> Option<PageNo>
         return None;
     }
     PageNo::in_any_zone(number)
-}
-
-fn isolate<const W: usize>(
-    zone: &mut BareZone<W>,
-    words: &mut [u64],
-) -> Result<Option<MovingPage>, ZoneError>
-    requires { W ≤ 65536 }
-    ensures refused { result_err result ≡ isolate_refused zone.old (length words.old) }
-    ensures err { OnErr result ((zone.new ≡ zone.old) × (words.new ≡ words.old)) }
-    ensures page { IfOk result (λ page. page ≡ moving_page_of zone.old (next_pair zone.old)) }
-    ensures words { OnOk result (words.new ≡ words_of zone.old (next_pair zone.old) words.old) }
-    ensures met { result ≡ Ok None → HaveMet zone.old × (words.new ≡ words.old) }
-    ensures packed { result ≡ Ok None → is_quiet zone.new ≡ true → length (out zone.new.records) ≡ 0 → IsPacked zone.new }
-    ensures ok { OnOk result (zone.new ≡ next_state zone.old (next_pair zone.old)) }
-{
-    if words.len() != zone.page_words() {
-        return Err(ZoneError::Range);
-    }
-    match zone.isolate_next() {
-        Ok(Next::Page(isolated)) => {
-            words.copy_from_slice(isolated.page().words());
-            Ok(Some(MovingPage {
-                serial: isolated.serial(),
-                number: isolated.page_no().get(),
-                flags: u32::from(isolated.page().flags().bits()),
-                reserved: RESERVED,
-            }))
-        }
-        Ok(Next::Met) => Ok(None),
-        Err(error) => Err(error),
-    }
 }
 
 fn commit<const W: usize>(

@@ -1,51 +1,49 @@
 -- What a world carries stays its own when its zone changes.
-use Rattle.std.proofs.Common.{◌≡◌, ◌≢◌, ℕ, zero, suc, ◌+◌, ◌*◌, ◌<◌, Bool, true, false, cond, not, List, [], ◌∷◌, ◌++◌, length, ◌⊎◌, inl, inr, refl, sym, ap, subst, ◌∙◌, arith}
-use Rattle.std.specs.Prelude.{Option, Some, None, IsSome, Result, Ok, Err, IfOk, OnOk, OnErr, map as each, slice_get, slice_set, unwrap_or, nat_eq, nat_lt, ◌&&◌, is_some, if◌then◌else◌}
+use Rattle.std.proofs.Common.{◌≡◌, ◌≢◌, ℕ, zero, suc, ◌+◌, ◌*◌, ◌<◌, Bool, true, false, not, List, [], ◌∷◌, ◌++◌, length, ◌⊎◌, inl, inr, refl, sym, ap, subst, ◌∙◌, arith}
+use Rattle.std.specs.Prelude.{Option, Some, None, IsSome, Result, Ok, Err, IfOk, OnOk, OnErr, map as each, slice_get, slice_set, unwrap_or, nat_eq, nat_lt, if◌then◌else◌}
 use Rattle.std.specs.FinMap as map
 use Rattle.std.specs.FinSet as set
 use Rattle.std.specs.List.{list_any}
-use Rattle.std.specs.Option.{option_or}
-use Rattle.std.proofs.lemmas.Bool.{and_parts, eq-eqb, eqb-true, ltb-true, not-false, or_cases, or_left, or_right}
+use Rattle.std.proofs.lemmas.Bool.{eq-eqb, or_left, or_right}
 use Rattle.std.proofs.lemmas.Bool.Decides.{eqb_tells}
 use Rattle.std.proofs.lemmas.List.{length-set, length-map, map-append}
 use Rattle.std.proofs.lemmas.Option.{slice_get_within}
 use Rattle.frame_core.proofs.Lists.{slice_get_set_same, slice_get_set_other}
 use Rattle.frame_core.specs.declared.place.Address.{Address}
-use Rattle.frame_core.specs.History.{page_at}
 use Rattle.frame_core.specs.Moves.{isolated, out, page_of}
 use Rattle.frame_core.specs.Page.{IsolatedPage}
 use Rattle.frame_core.specs.Serials.{serials_of}
 use Rattle.state_core.specs.declared.call.ZoneCall.{ZoneCall}
 use Rattle.state_core.specs.declared.call.ZoneCall.TheVariants.{Map, MapAt, Store, Unmap}
 use Rattle.state_core.specs.declared.error.ZoneError.{ZoneError}
-use Rattle.state_core.specs.declared.error.ZoneError.TheVariants.{Range, JournalFull, Occupied, NoFrame}
+use Rattle.state_core.specs.declared.error.ZoneError.TheVariants.{Range, JournalFull}
 use Rattle.machine_core.specs.declared.hands.Held.TheVariants.{Nothing, Page, Copy}
-use Rattle.machine_core.specs.Carried.{AreOwn, InHand, hand_as, world_of, IsCarried}
+use Rattle.machine_core.specs.Carried.{InHand, hand_as, world_of, IsCarried}
 use Rattle.machine_core.specs.Hands.{page_held, copy_held, is_nothing}
 use Rattle.state_core.specs.declared.moves.Next.TheVariants.{Page as Found, Met}
 use Rattle.state_core.specs.declared.round.Pair.{Pair}
-use Rattle.state_core.specs.declared.placement.Placement.{Placement}
-use Rattle.state_core.specs.declared.placement.Placement.TheVariants.{At, Moving}
+use Rattle.state_core.specs.declared.placement.Placement.TheVariants.{At}
 use Rattle.state_core.specs.Valid.{IsValidZone}
 use Rattle.state_core.specs.Pairs.{next_pair}
-use Rattle.state_core.specs.Ending.{IsOwnCopy, is_own}
+use Rattle.state_core.specs.Ending.{IsOwnCopy}
 use Rattle.state_core.specs.Carrying.{page_now}
 use Rattle.state_core.specs.Rounds.{round_begun}
 use Rattle.state_core.specs.Isolating.{isolate_refusal, isolated_next, next_answer, next_state, Scans}
 use Rattle.zone_core.specs.Seats.{ScanSeat, EndSeat, seat_begun, seat_noted}
 use Rattle.std.specs.Result.{result_err}
-use Rattle.state_core.specs.Access.{placement_refusal, access_refusal, loaded, stored}
+use Rattle.state_core.specs.Access.{loaded, stored}
 use Rattle.state_core.specs.Calls.{refusal_of, after}
 use Rattle.state_core.specs.Bulk.{has_room_for, bulk_refusal, loaded_all, stored_all}
-use Rattle.state_core.specs.Mapping.{map_refusal, map_at_refusal, mapped, placed}
+use Rattle.state_core.specs.Mapping.{map_refusal, mapped, placed}
 use Rattle.state_core.specs.Unmapping.{is_last}
 use Rattle.state_core.specs.HandingOut.{block_taken}
 use Rattle.machine_core.specs.World.{WorldState, IsOrderly, isolated_by}
-use Rattle.state_core.specs.ZoneState.{ZoneState, frame_count, has_address, has_room, is_free, placement_at, lowest_free_frame, lowest_unused_page}
-use Rattle.state_core.proofs.Finding.{some_lowest, unused_left, unused_is}
+use Rattle.state_core.specs.ZoneState.{ZoneState, placement_at, lowest_free_frame, lowest_unused_page}
+use Rattle.state_core.proofs.Accepted.{passed, at_address, in_a_frame, frame_left, frame_left_at}
+use Rattle.state_core.proofs.Finding.{unused_left, unused_is}
 use Rattle.state_core.proofs.Pairing.{pair_found}
 use Rattle.state_core.proofs.Settled.{pair_here}
-use Rattle.state_core.proofs.Carried.{own_begun, own_loaded, own_stored, own_placed, own_isolated, own_fresh, own_here, own_page, own_unmapped}
+use Rattle.state_core.proofs.Carried.{own_begun, own_loaded, own_stored, own_placed, own_isolated, own_fresh, own_unmapped}
 use Rattle.machine_core.proofs.Orderly.{orderly_with_zone, orderly_round_opened, orderly_noted, orderly_isolated}
 
 -- Lists of what hands hold
@@ -177,36 +175,6 @@ module _ (zone next : ZoneState) (scan : ScanSeat) (ends : EndSeat) (is_open : B
       omega (arith, was.room, was.orderly.few.0, was.orderly.few.1, length-map list (λ (q : IsolatedPage). q.serial), scans.pair.from.low, scans.pair.to.low, scans.pair.to.high)
 
 -- Calls of the zone that leave moving pages as they are.
--- a call that isn't refused passed each test
-passed : (b : Bool) (error : ZoneError) (o : Option ZoneError) → cond b (Some error) o ≡ None → (b ≡ false) × (o ≡ None)
-passed b error o e = (grind arith, grind arith)
-
-at_then : (o : Option Placement) → placement_refusal o ≡ None → (frame : ℕ) × (o ≡ Some (At frame))
-at_then None e = cc
-at_then (Some (At frame)) e = (frame, refl)
-at_then (Some (Moving serial source target)) e = cc
-
-option_or_none : {A : Type 0} (o other : Option A) → option_or o other ≡ None → o ≡ None
-option_or_none o other e = grind arith
-
--- a page that an accepted access finds is in a frame
-pub accessed_at : (z : ZoneState) (address : Address) → access_refusal z address ≡ None → (frame : ℕ) × (placement_at z address ≡ Some (At frame))
-accessed_at z address accepted =
-    let room = passed (not (has_room z)) JournalFull _ accepted in
-    at_then _ (option_or_none (placement_refusal (placement_at z address)) _ room.1)
-
--- an accepted map finds a free frame
-pub frame_left : (z : ZoneState) (address : Address) → map_refusal z address ≡ None → IsSome (lowest_free_frame z)
-frame_left z address accepted = grind arith
-
-pub frame_left_at : (z : ZoneState) (address : Address) (frame : ℕ) → map_at_refusal z address frame ≡ None → IsSome (lowest_free_frame z)
-frame_left_at z address frame accepted =
-    let within = passed (not (has_address z address && nat_lt frame (frame_count z))) Range _ accepted in
-    let room = passed (not (has_room z)) JournalFull _ within.1 in
-    let vacant = passed (is_some (page_at z.records address)) Occupied _ room.1 in
-    let free = passed (not (is_free z frame)) NoFrame _ vacant.1 in
-    some_lowest z frame (not-false _ free.0) (ltb-true _ _ (and_parts _ _ (not-false _ within.0)).1)
-
 -- a call leaves the moving pages and the fingers as they are
 pub record LeavesMoves (zone after : ZoneState) : Type 0 where
   pub same_out : out after.records ≡ out zone.records
@@ -236,11 +204,8 @@ own_mapped z client address unmovable frame law free = by_page (lowest_unused_pa
 own_called : {W : ℕ} (call : ZoneCall W) (client : ℕ) (z : ZoneState) → IsValidZone z → refusal_of call z ≡ None → (p : IsolatedPage) → IsOwnCopy z p → IsOwnCopy (after call client z) p
 own_called (Map address unmovable) client z law accepted = own_mapped z client address unmovable _ law (frame_left z address accepted)
 own_called (MapAt address unmovable frame) client z law accepted = own_mapped z client address unmovable frame law (frame_left_at z address frame accepted)
-own_called (Store address word value) client z law accepted = let at = accessed_at z address accepted in own_stored z client address word value at.0 at.1
-own_called (Unmap address) client z law accepted =
-    let room = passed (not (has_room z)) JournalFull _ accepted in
-    let at = at_then _ (option_or_none (placement_refusal (placement_at z address)) _ room.1) in
-    own_unmapped z client address at.0 at.1
+own_called (Store address word value) client z law accepted = let at = at_address z address _ accepted in own_stored z client address word value at.0 at.1
+own_called (Unmap address) client z law accepted = let at = at_address z address _ accepted in own_unmapped z client address at.0 at.1
 own_called _ client z law accepted = λ p own. record { own = own.own; same = own.same }
 
 -- words that are read or written in bulk, one after the other
@@ -301,5 +266,5 @@ module _ (zone next : ZoneState) (scan : ScanSeat) (ends : EndSeat) (is_open : B
   carried_written client address from values (Ok done) law refused err ok =
       let within = passed (nat_lt zone.page_size (from + length values)) Range _ (sym refused) in
       let room = passed (not (has_room_for zone (length values))) JournalFull _ within.1 in
-      let at = at_then _ (option_or_none (placement_refusal (placement_at zone address)) _ room.1) in
+      let at = in_a_frame (placement_at zone address) _ room.1 in
       changed (stored_all zone client address from values) ok law (written_leaves zone client address from values) (own_written zone client address from values at.0 at.1)

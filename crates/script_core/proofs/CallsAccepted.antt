@@ -9,9 +9,9 @@ use Rattle.state_core.specs.Access.{access_refusal}
 use Rattle.state_core.specs.Valid.{IsValidZone}
 use Rattle.state_core.specs.Mapping.{mapped, placed}
 use Rattle.state_core.specs.ZoneState.{ZoneState, lowest_free_frame, lowest_unused_page}
+use Rattle.state_core.proofs.Accepted.{at_address}
 use Rattle.state_core.proofs.Facts.{page_named}
 use Rattle.state_core.proofs.Finding.{unused_is, unused_left}
-use Rattle.machine_core.proofs.Carrying.{accessed_at}
 
 -- the number of a fresh page, which names no page yet
 pub record Fresh (z : ZoneState) (page : ℕ) : Type 0 where
@@ -30,6 +30,6 @@ mapped_is z address unmovable frame page fresh = ap (λ (o : Option ℕ). placed
 -- the page that an accepted load finds
 pub accessed_page : (z : ZoneState) (address : Address) → access_refusal z address ≡ None → (page : ℕ) × (page_at z.records address ≡ Some page)
 accessed_page z address accepted =
-    let at = accessed_at z address accepted in
+    let at = at_address z address _ accepted in
     let page = page_named z address (At at.0) at.1 in
     (page.0, page.1)

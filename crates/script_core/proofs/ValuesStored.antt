@@ -14,8 +14,8 @@ use Rattle.state_core.specs.Valid.{IsValidZone}
 use Rattle.state_core.specs.Mapping.{mapped}
 use Rattle.state_core.specs.Unmapping.{is_last, unmapped, without_page}
 use Rattle.state_core.specs.ZoneState.{ZoneState, frame_for, lowest_free_frame, noted}
+use Rattle.state_core.proofs.Accepted.{frame_left, frame_left_at}
 use Rattle.state_core.proofs.Placed.{clash}
-use Rattle.machine_core.proofs.Carrying.{frame_left, frame_left_at}
 use Rattle.machine_core.specs.World.{IsOrderly, WorldState, with_zone, world_opened}
 use Rattle.text_core.specs.declared.command.Call.{Call}
 use Rattle.text_core.specs.declared.command.Call.TheVariants.{Info, InfoWithHeld}

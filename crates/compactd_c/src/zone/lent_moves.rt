@@ -1,6 +1,6 @@
 //! A zone in memory of its caller, which lends the words of moving pages.
 
-ghost use Rattle.std.specs.Prelude.{◌≡◌, ◌≢◌, ◌<◌, ◌≤◌, ℕ, true, length, None, Some, IfErr, IfNone, IfOk, IfSome, OnErr, OnOk};
+ghost use Rattle.std.specs.Prelude.{◌≡◌, ◌≢◌, ◌<◌, ℕ, true, length, None, Some, IfErr, IfOk, IfSome, OnErr, OnOk};
 ghost use Rattle.std.specs.FinMap as map;
 ghost use Rattle.std.specs.Result.{result_err};
 ghost use Rattle.compactd_c.specs.LentMoves.{end_move_refusal, held_committed, held_put_back, move_of, HasNone, HasNumbers, HoldsNext, IsKept};
@@ -29,7 +29,11 @@ impl Zone {
         ensures met { result ≡ Ok None → HaveMet self.old }
         ensures packed { result ≡ Ok None → is_quiet self.new ≡ true → length (out self.new.records) ≡ 0 → IsPacked self.new }
     {
-        of_zone!(&mut self.kind, zone => lend_move(zone))
+        of_zone!(&mut self.kind, zone => match zone.lend_move() {
+            Ok(Next::Page(lent)) => Ok(Some(HeldMove::of(lent))),
+            Ok(Next::Met) => Ok(None),
+            Err(error) => Err(error),
+        })
     }
 
     /// Takes the words of a move back that were copied, and ends it.
@@ -42,7 +46,17 @@ impl Zone {
         ensures ok { OnOk result (self.new ≡ held_committed (move_of held.old) self.old) }
         ensures taken { OnOk result (HasNone held.new) }
     {
-        of_zone!(&mut self.kind, zone => commit_lent(zone, held))
+        of_zone!(&mut self.kind, zone => {
+            let lent = bring(zone, held)?;
+            match zone.commit_lent(CopiedMove::of(lent)) {
+                Ok(ended) => Ok(ended),
+                Err(Stranger(copied)) => {
+                    let (_, from, to) = copied.into_lent().into_parts();
+                    held.put(from, to);
+                    Err(ZoneError::Stranger)
+                }
+            }
+        })
     }
 
     /// Takes the words of a move back that isn't to be made, and ends it.
@@ -53,69 +67,17 @@ impl Zone {
         ensures ok { OnOk result (self.new ≡ held_put_back (move_of held.old) self.old) }
         ensures taken { OnOk result (HasNone held.new) }
     {
-        of_zone!(&mut self.kind, zone => put_back_lent(zone, held))
-    }
-}
-
-fn lend_move<const W: usize>(zone: &mut BareZone<W>) -> Result<Option<HeldMove>, ZoneError>
-    requires size { (0 < W) × (W ≤ 65536) }
-    ensures refused { result_err result ≡ lend_move_refusal zone.old }
-    ensures err { OnErr result (zone.new ≡ zone.old) }
-    ensures ok { OnOk result (zone.new ≡ next_lent zone.old (next_pair zone.old)) }
-    ensures lent { IfOk result (HoldsNext zone.old zone.new) }
-    ensures met { result ≡ Ok None → HaveMet zone.old }
-    ensures packed { result ≡ Ok None → is_quiet zone.new ≡ true → length (out zone.new.records) ≡ 0 → IsPacked zone.new }
-{
-    match zone.lend_move() {
-        Ok(Next::Page(lent)) => Ok(Some(HeldMove::of(lent))),
-        Ok(Next::Met) => Ok(None),
-        Err(error) => Err(error),
-    }
-}
-
-fn commit_lent<const W: usize>(
-    zone: &mut BareZone<W>,
-    held: &mut HeldMove,
-) -> Result<Ended, ZoneError>
-    requires size { W ≤ 65536 }
-    requires copied { IfSome (move_of held.old) (λ m. m.to.words ≡ m.from.words) }
-    requires rows { IfSome (move_of held.old) (λ m. is_lent_move zone.old m ≡ true → IsLentMove zone.old m) }
-    ensures refused { result_err result ≡ end_move_refusal (move_of held.old) zone.old }
-    ensures err { OnErr result ((zone.new ≡ zone.old) × IsKept held.old held.new) }
-    ensures ended { IfOk result (λ ended. ended ≡ ended_as zone.old held.old.page) }
-    ensures ok { OnOk result (zone.new ≡ held_committed (move_of held.old) zone.old) }
-    ensures taken { OnOk result (HasNone held.new) }
-{
-    let lent = bring(zone, held)?;
-    match zone.commit_lent(CopiedMove::of(lent)) {
-        Ok(ended) => Ok(ended),
-        Err(Stranger(copied)) => {
-            let (_, from, to) = copied.into_lent().into_parts();
-            held.put(from, to);
-            Err(ZoneError::Stranger)
-        }
-    }
-}
-
-fn put_back_lent<const W: usize>(
-    zone: &mut BareZone<W>,
-    held: &mut HeldMove,
-) -> Result<(), ZoneError>
-    requires size { W ≤ 65536 }
-    requires rows { IfSome (move_of held.old) (λ m. is_lent_move zone.old m ≡ true → IsLentMove zone.old m) }
-    ensures refused { result_err result ≡ end_move_refusal (move_of held.old) zone.old }
-    ensures err { OnErr result ((zone.new ≡ zone.old) × IsKept held.old held.new) }
-    ensures ok { OnOk result (zone.new ≡ held_put_back (move_of held.old) zone.old) }
-    ensures taken { OnOk result (HasNone held.new) }
-{
-    let lent = bring(zone, held)?;
-    match zone.put_back_lent(lent) {
-        Ok(()) => Ok(()),
-        Err(Stranger(lent)) => {
-            let (_, from, to) = lent.into_parts();
-            held.put(from, to);
-            Err(ZoneError::Stranger)
-        }
+        of_zone!(&mut self.kind, zone => {
+            let lent = bring(zone, held)?;
+            match zone.put_back_lent(lent) {
+                Ok(()) => Ok(()),
+                Err(Stranger(lent)) => {
+                    let (_, from, to) = lent.into_parts();
+                    held.put(from, to);
+                    Err(ZoneError::Stranger)
+                }
+            }
+        })
     }
 }
 
