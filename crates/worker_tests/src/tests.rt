@@ -3,6 +3,7 @@ ghost use Rattle.zone_core.specs.ZoneIdentity.{HasIdentity};
 
 mod beside;
 mod crews;
+mod emptying;
 mod pages;
 mod pinning;
 mod refusals;
@@ -38,6 +39,10 @@ enum Trial {
     IsBusy,
     /// The journal has no place for all moves.
     FillsJournal,
+    /// Runs are emptied between the rounds of a crew.
+    EmptiesRuns,
+    /// No block can begin at runs that are to be emptied.
+    HasWrongRuns,
     /// It can't be shared, since it lies in memory of its own.
     IsOwn,
 }
@@ -59,6 +64,8 @@ impl Trial {
             Trial::HasCrew => crews::call_and_stop(rt, shared),
             Trial::IsBusy => refusals::begin_while_moving(rt, shared),
             Trial::FillsJournal => refusals::fill_journal(rt, shared),
+            Trial::EmptiesRuns => emptying::empty_with_crew(rt, shared),
+            Trial::HasWrongRuns => emptying::refuse_runs(rt, shared),
             Trial::IsOwn => panic!(rt; "it is shared"),
         }
     }

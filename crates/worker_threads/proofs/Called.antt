@@ -1,52 +1,19 @@
 -- Each call that a client makes leaves a move whose words are lent as it is, and the shape of the zone too.
-use Rattle.std.proofs.Common.{◌≡◌, ℕ, Bool, true, false, cond, not, refl, Option, Some, None, ◌&&◌, if◌then◌else◌, arith}
-use Rattle.std.specs.Prelude.{IsSome, is_some, nat_lt, unwrap_or}
-use Rattle.std.specs.Option.{option_or}
-use Rattle.std.proofs.lemmas.Bool.{and_parts, ltb-true, not-false}
+use Rattle.std.proofs.Common.{◌≡◌, ℕ, Bool, true, false, cond, refl, Option, Some, None}
+use Rattle.std.specs.Prelude.{IsSome, unwrap_or}
 use Rattle.frame_core.specs.declared.place.Address.{Address}
 use Rattle.frame_core.specs.Moves.{isolated}
-use Rattle.frame_core.specs.History.{page_at}
 use Rattle.state_core.specs.declared.call.ZoneCall.{ZoneCall}
 use Rattle.state_core.specs.declared.call.ZoneCall.TheVariants.{Map, MapAt, Store, Unmap}
-use Rattle.state_core.specs.declared.error.ZoneError.{ZoneError}
-use Rattle.state_core.specs.declared.error.ZoneError.TheVariants.{Range, JournalFull, Occupied, NoFrame}
-use Rattle.state_core.specs.declared.placement.Placement.{Placement}
-use Rattle.state_core.specs.declared.placement.Placement.TheVariants.{At, Moving}
-use Rattle.state_core.specs.Access.{placement_refusal}
 use Rattle.state_core.specs.Calls.{refusal_of, after}
 use Rattle.state_core.specs.LentMoves.{LentMove, IsLentMove}
-use Rattle.state_core.specs.Mapping.{map_refusal, map_at_refusal, mapped, placed}
+use Rattle.state_core.specs.Mapping.{mapped, placed}
 use Rattle.state_core.specs.Unmapping.{is_last}
 use Rattle.state_core.specs.Valid.{IsValidZone}
-use Rattle.state_core.specs.ZoneState.{ZoneState, frame_count, has_address, has_room, is_free, lowest_free_frame, lowest_unused_page, placement_at}
-use Rattle.state_core.proofs.Finding.{some_lowest, unused_is, unused_left}
+use Rattle.state_core.specs.ZoneState.{ZoneState, lowest_free_frame, lowest_unused_page}
+use Rattle.state_core.proofs.Accepted.{at_address, frame_left, frame_left_at}
+use Rattle.state_core.proofs.Finding.{unused_is, unused_left}
 use Rattle.state_core.proofs.LentMoves.{lent_kept, lent_placed, lent_stored, lent_unmapped}
-
--- a call that isn't refused passed each test
-passed : (b : Bool) (error : ZoneError) (o : Option ZoneError) → cond b (Some error) o ≡ None → (b ≡ false) × (o ≡ None)
-passed true error o e = cc
-passed false error o e = (refl, e)
-
-in_a_frame : (o : Option Placement) (other : Option ZoneError) → option_or (placement_refusal o) other ≡ None → (frame : ℕ) × (o ≡ Some (At frame))
-in_a_frame (Some (At frame)) other e = (frame, refl)
-in_a_frame None other e = cc
-in_a_frame (Some (Moving serial source target)) other e = cc
-
-module _ (z : ZoneState) where
-  -- the page of an address is in a frame, where nothing but that may be amiss once the journal has room
-  at_address : (address : Address) (other : Option ZoneError) → (if not (has_room z) then Some JournalFull else option_or (placement_refusal (placement_at z address)) other) ≡ None → (frame : ℕ) × (placement_at z address ≡ Some (At frame))
-  at_address address other accepted = in_a_frame _ other (passed _ _ _ accepted).1
-
-  frame_left : (address : Address) → map_refusal z address ≡ None → IsSome (lowest_free_frame z)
-  frame_left address accepted = grind arith
-
-  frame_left_at : (address : Address) (frame : ℕ) → map_at_refusal z address frame ≡ None → IsSome (lowest_free_frame z)
-  frame_left_at address frame accepted =
-      let within = passed (not (has_address z address && nat_lt frame (frame_count z))) Range _ accepted in
-      let room = passed (not (has_room z)) JournalFull _ within.1 in
-      let vacant = passed (is_some (page_at z.records address)) Occupied _ room.1 in
-      let free = passed (not (is_free z frame)) NoFrame _ vacant.1 in
-      some_lowest z frame (not-false _ free.0) (ltb-true _ _ (and_parts _ _ (not-false _ within.0)).1)
 
 module _ (z : ZoneState) (law : IsValidZone z) (m : LentMove) (its : IsLentMove z m) (client : ℕ) where
   lent_mapped : (address : Address) (unmovable : Bool) (frame : ℕ) → IsSome (lowest_free_frame z) → IsLentMove (mapped z client address unmovable frame) m

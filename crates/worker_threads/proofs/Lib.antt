@@ -4,3 +4,4 @@ pub mod KeptFacts
 pub mod Meeting
 pub mod Places
 pub mod Rooms
+pub mod Steps

@@ -27,7 +27,7 @@ module _ (z : ZoneState) (law : IsValidZone z) where
       seat_met (isolated z.records) (Some answered.Met) (booked_call client call z law.fingers.begun books) refl refl
 
   -- a round isn't quiet after a page was put back, and else as quiet as before
-  loud_back : (serial page : ℕ) (cause : Cause) → is_quiet (put_back_to_source z serial page cause) ≡ false
+  pub loud_back : (serial page : ℕ) (cause : Cause) → is_quiet (put_back_to_source z serial page cause) ≡ false
   loud_back serial page cause = quiet_ended z.records (Back cause serial) z.round refl law.fingers.begun
 
   pub quiet_committed : (serial page : ℕ) → is_quiet (committed z serial page) ≡ true → is_quiet z ≡ true

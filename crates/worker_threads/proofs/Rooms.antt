@@ -1,12 +1,10 @@
 -- What a room keeps is so after each step.
-use Rattle.std.proofs.Common.{◌≡◌, ◌≢◌, ℕ, zero, suc, ◌+◌, ◌^◌, ◌<◌, ◌≤◌, Bool, true, false, List, [], length, inl, inr, refl, sym, ap, subst, ◌∙◌, arith, Option, Some, None, IsSome, nat_eq, is_none, if◌then◌else◌}
+use Rattle.std.proofs.Common.{◌≡◌, ◌≢◌, ℕ, zero, suc, ◌+◌, ◌*◌, ◌^◌, ◌<◌, ◌≤◌, true, false, List, [], length, inl, inr, refl, sym, ap, subst, ◌∙◌, arith, Option, Some, None, IsSome, nat_eq, is_none}
 use Rattle.std.specs.Prelude.{IfOk, Result, Ok, Err, is_ok, replicate, slice_get, slice_set}
 use Rattle.std.specs.List.{list_any}
 use Rattle.std.proofs.lemmas.Bool.{eq-eqb}
 use denote.RawPtr.{Ptr}
-use Rattle.frame_core.specs.declared.record.Cause.TheVariants.{Pinned}
 use Rattle.frame_core.specs.Ends.{AreEndedOnce}
-use Rattle.frame_core.specs.History.{pins}
 use Rattle.frame_core.specs.Moves.{isolated, is_out, out}
 use Rattle.frame_core.proofs.OnTheWay.{out_below}
 use Rattle.row_core.specs.Seen.{Half, Row}
@@ -17,33 +15,33 @@ use Rattle.state_core.specs.declared.moves.Ended.{Ended}
 use Rattle.state_core.specs.declared.moves.Ended.TheVariants as ended
 use Rattle.state_core.specs.declared.moves.Next.TheVariants.{Page as Found}
 use Rattle.state_core.specs.declared.placement.Placement.{Placement}
-use Rattle.state_core.specs.declared.round.Pair.{Pair}
+use Rattle.fewest_core.specs.FewestMoves.{Move}
 use Rattle.state_core.specs.Calls.{after}
 use Rattle.state_core.specs.Carrying.{words_now}
-use Rattle.state_core.specs.Ending.{committed, moved_to_target, put_back_to_source}
 use Rattle.state_core.specs.Lending.{block_place}
-use Rattle.state_core.specs.LentMoves.{LentMove, IsCopiedMove, IsLentMove, is_lent_move, move_lent, move_returned, next_lent}
-use Rattle.state_core.specs.Pairs.{HaveMet, IsPair, next_pair}
-use Rattle.state_core.specs.Rounds.{round_begun}
+use Rattle.state_core.specs.LentMoves.{LentMove, IsCopiedMove, IsLentMove, is_lent_move}
+use Rattle.state_core.specs.Pairs.{HaveMet}
 use Rattle.state_core.specs.Valid.{IsValidZone, is_under}
-use Rattle.state_core.specs.ZoneState.{ZoneState, is_quiet}
+use Rattle.state_core.specs.ZoneState.{ZoneState, frame_count, is_quiet}
 use Rattle.state_core.proofs.Facts.{isolated_bound}
-use Rattle.state_core.proofs.LentMoves.{is_lent, lent_after_lent_commit, lent_begun, lent_beside}
+use Rattle.state_core.proofs.LentMoves.{is_lent}
 use Rattle.state_core.proofs.Packing.{packed_quiet}
-use Rattle.state_core.proofs.Pairing.{pair_found}
 use Rattle.worker_threads.specs.Hands.{AreOf, PageInHand, place_in}
 use Rattle.worker_threads.specs.Kept.{AreKept, IsKept, IsRoom, lent_by}
 use Rattle.worker_threads.specs.Rooms.{Gets, Room, counted, fresh_round, in_hand, way_of}
+use Rattle.worker_threads.specs.Work.{AreRuns, Lends, next_move, next_sent, page_ended, page_sent, work_begun, work_left}
 use Rattle.worker_threads.specs.Working.{WasSettled}
 use Rattle.worker_threads.specs.declared.room.KeptHalf.{KeptHalf}
 use Rattle.worker_threads.specs.declared.round.Round.{Round}
 use Rattle.worker_threads.specs.declared.round.Stop.{Stop}
 use Rattle.worker_threads.specs.declared.round.Stop.TheVariants as stop
+use Rattle.worker_threads.specs.declared.work.Work.{Work}
+use Rattle.worker_threads.specs.declared.work.Work.TheVariants.{Compact}
 use Rattle.worker_threads.proofs.Called.{IsShaped, lent_called, shape_called}
-use Rattle.worker_threads.proofs.Meeting.{met_called, quiet_committed, quiet_isolated}
+use Rattle.worker_threads.proofs.Meeting.{met_called}
 use Rattle.worker_threads.proofs.Places.{none_in_hand, one_less, one_more, place_after}
+use Rattle.worker_threads.proofs.Steps.{isolated_sent, lent_after_end, lent_sent, lent_work_begun, memory_begun, memory_sent, not_met, page_here, quiet_ended_page, quiet_sent, runs_left, shape_ended, words_sent}
 use Rattle.zone_core.specs.Counted.{IsCounted}
-use Rattle.zone_core.specs.LentMoves.{LendsNext}
 use Rattle.zone_core.specs.Made.{IsMade}
 use Rattle.zone_core.specs.ZoneIdentity.{HasIdentity}
 
@@ -71,28 +69,25 @@ stays z next k is moves = record { first = is.first; long = is.long; to = is.to;
 pub all_stay : {size : ℕ} (z next : ZoneState) (kept : List (Option KeptHalf)) → AreKept size z kept → ((m : LentMove) → IsLentMove z m → IsLentMove next m) → AreKept size next kept
 all_stay z next kept are moves = record { each = λ i k has. stays z next k (are.each i k has) (λ to. moves (lent_by k to)); apart = are.apart }
 
--- a worker gets the page of a pair, under the next serial
-module _ {size : ℕ} (z : ZoneState) (law : IsValidZone z) (kept : List (Option KeptHalf)) (are : AreKept size z kept) (place : ℕ) (free : slice_get kept place ≡ Some None) (pair : Pair) (found : next_pair z ≡ Some pair) (k : KeptHalf) (way : k.way ≡ way_of z pair) (is : IsKept size (move_lent z pair) k) where
-  its : IsPair z pair.page pair.source pair.target
-  its = pair_found z law pair found
-
+-- a worker gets the page of a move, under the next serial
+module _ {size : ℕ} (work : Work) (z : ZoneState) (law : IsValidZone z) (kept : List (Option KeptHalf)) (are : AreKept size z kept) (place : ℕ) (free : slice_get kept place ≡ Some None) (m : Move) (found : next_move work z ≡ Some m) (k : KeptHalf) (way : k.way ≡ way_of z m) (is : IsKept size (page_sent work z m) k) where
   fresh : (i : ℕ) (l : KeptHalf) → slice_get kept i ≡ Some (Some l) → l.way.serial ≢ k.way.serial
   fresh i l has same = (let below = kept_below z law l (are.each i l has) in omega (arith, below, same, ap (λ w. w.serial) way))
 
-  pub gets : AreKept size (move_lent z pair) (slice_set kept place (Some k))
+  pub gets : AreKept size (page_sent work z m) (slice_set kept place (Some k))
   gets = record {
     each = λ i l has. elim (place_after kept place None (Some k) free i (Some l) has) [
-      | inl here ↦ (let same : k ≡ l = cc in subst (IsKept size (move_lent z pair)) same is)
-      | inr there ↦ (stays z (move_lent z pair) l (are.each i l there.1) (λ to old. lent_beside z (lent_by l to) old pair pair.source its.from.here))
+      | inl here ↦ (let same : k ≡ l = cc in subst (IsKept size (page_sent work z m)) same is)
+      | inr there ↦ (stays z (page_sent work z m) l (are.each i l there.1) (λ to. lent_sent work z (lent_by l to) m (page_here work z law m found)))
     ];
-    apart = λ i j l m has_l has_m same. elim (place_after kept place None (Some k) free i (Some l) has_l) [
-      | inl here ↦ (elim (place_after kept place None (Some k) free j (Some m) has_m) [
+    apart = λ i j l other has_l has_other same. elim (place_after kept place None (Some k) free i (Some l) has_l) [
+      | inl here ↦ (elim (place_after kept place None (Some k) free j (Some other) has_other) [
         | inl too ↦ here.0 ∙ sym too.0
-        | inr there ↦ absurd (fresh j m there.1 (sym same ∙ ap (λ (x : KeptHalf). x.way.serial) (let is_k : k ≡ l = cc in sym is_k)))
+        | inr there ↦ absurd (fresh j other there.1 (sym same ∙ ap (λ (x : KeptHalf). x.way.serial) (let is_k : k ≡ l = cc in sym is_k)))
       ])
-      | inr there ↦ (elim (place_after kept place None (Some k) free j (Some m) has_m) [
-        | inl too ↦ absurd (fresh i l there.1 (same ∙ ap (λ (x : KeptHalf). x.way.serial) (let is_k : k ≡ m = cc in sym is_k)))
-        | inr also ↦ are.apart i j l m there.1 also.1 same
+      | inr there ↦ (elim (place_after kept place None (Some k) free j (Some other) has_other) [
+        | inl too ↦ absurd (fresh i l there.1 (same ∙ ap (λ (x : KeptHalf). x.way.serial) (let is_k : k ≡ other = cc in sym is_k)))
+        | inr also ↦ are.apart i j l other there.1 also.1 same
       ])
     ];
   }
@@ -113,16 +108,6 @@ module _ {size : ℕ} (z next : ZoneState) (kept : List (Option KeptHalf)) (are 
       ])
     ];
   }
-
--- the shape of a zone after a commit, and what a round counts then
-shape_committed : (z : ZoneState) (serial page : ℕ) → IsShaped z (move_returned (committed z serial page) page)
-shape_committed z serial page = by (nat_eq (pins z.records page) 0) where
-  by : (b : Bool) → IsShaped z (move_returned (if b then moved_to_target z serial page else put_back_to_source z serial page Pinned) page)
-  by true = record { memory = refl; page_size = refl; isolated = refl }
-  by false = record { memory = refl; page_size = refl; isolated = refl }
-
-pub isolated_committed : (z : ZoneState) (serial page : ℕ) → isolated (move_returned (committed z serial page) page).records ≡ isolated z.records
-isolated_committed z serial page = (shape_committed z serial page).isolated
 
 module _ (before round : Round) where
   isolated_same : (end : Ended) → round ≡ counted before end → round.isolated ≡ before.isolated
@@ -155,6 +140,7 @@ module _ (number blocks : ℕ) (memory : Option Ptr) (size : ℕ) where
     halves = all_stay r.zone next r.kept is.halves moves;
     sum = is.sum;
     most = subst (λ (n : ℕ). r.round.isolated ≤ n) (sym shape.isolated) is.most;
+    runs = is.runs;
     met = λ noted. met (is.met noted);
   }
 
@@ -167,21 +153,23 @@ module _ (number blocks : ℕ) (memory : Option Ptr) (size : ℕ) where
       (room_with r (after call client r.zone) is (subst IsValidZone made.ok made.valid) (subst (HasIdentity r.zone.number r.zone.blocks) made.ok made.identity) (shape_called call client r.zone)
       (λ m its. lent_called r.zone law m its client call (sym made.refused)) (met_called r.zone law call client))
 
-  -- a round begins, where no worker has a page
-  pub room_begun : (r : Room) (next : ZoneState) (rounds : ℕ) → IsRoom number blocks memory size r → in_hand r.kept ≡ 0 → next ≡ round_begun r.zone → IsValidZone next → HasIdentity r.zone.number r.zone.blocks next → IsRoom number blocks memory size (record r { zone = next; rounds = rounds; is_under_way = true; round = fresh_round })
-  room_begun r next rounds is none step law identity = record {
+  -- work begins, where no worker has a page
+  pub room_begun : (r : Room) (work : Work) (next : ZoneState) (rounds : ℕ) → IsRoom number blocks memory size r → AreRuns (frame_count r.zone) work → in_hand r.kept ≡ 0 → next ≡ work_begun work r.zone → IsValidZone next → HasIdentity r.zone.number r.zone.blocks next
+      → IsRoom number blocks memory size (record r { zone = next; work = work; rounds = rounds; is_under_way = true; round = fresh_round })
+  room_begun r work next rounds is runs none step law identity = record {
     valid = law;
     identity = (identity.0 ∙ is.identity.0, identity.1 ∙ is.identity.1);
-    memory_is = ap (λ (z : ZoneState). z.memory) step ∙ is.memory_is;
+    memory_is = ap (λ (z : ZoneState). z.memory) step ∙ memory_begun work r.zone ∙ is.memory_is;
     given = is.given;
-    halves = subst (λ (z : ZoneState). AreKept size z r.kept) (sym step) (all_stay r.zone (round_begun r.zone) r.kept is.halves (λ m its. lent_begun r.zone m its));
+    halves = subst (λ (z : ZoneState). AreKept size z r.kept) (sym step) (all_stay r.zone (work_begun work r.zone) r.kept is.halves (λ m its. lent_work_begun work r.zone m its));
     sum = omega (arith, none);
     most = omega arith;
+    runs = subst (λ (n : ℕ). AreRuns (512 * n) work) is.identity.1 runs;
     met = λ noted. cc;
   }
 
   -- a new room has no page in hand
-  pub room_new : (z : ZoneState) (kept : List (Option KeptHalf)) → IsValidZone z → HasIdentity number blocks z → z.memory ≡ memory → is_none memory ≡ false → kept ≡ replicate (length kept) None → IsRoom number blocks memory size (record { zone = z; kept = kept; rounds = 0; is_under_way = false; round = fresh_round })
+  pub room_new : (z : ZoneState) (kept : List (Option KeptHalf)) → IsValidZone z → HasIdentity number blocks z → z.memory ≡ memory → is_none memory ≡ false → kept ≡ replicate (length kept) None → IsRoom number blocks memory size (record { zone = z; kept = kept; work = Compact; rounds = 0; is_under_way = false; round = fresh_round })
   room_new z kept law identity memory_is given free =
       let no : (i : ℕ) (k : KeptHalf) → slice_get kept i ≡ Some (Some k) → ⊥ = λ i k has. none_replicated (length kept) i k (ap (λ (l : List (Option KeptHalf)). slice_get l i) (sym free) ∙ has) in
       record {
@@ -192,6 +180,7 @@ module _ (number blocks : ℕ) (memory : Option Ptr) (size : ℕ) where
         halves = record { each = λ i k has. absurd (no i k has); apart = λ i j k l has also same. absurd (no i k has) };
         sum = omega (arith, none_in_hand kept no);
         most = omega arith;
+        runs = tt;
         met = λ noted. cc;
       }
 
@@ -200,11 +189,11 @@ module _ (number blocks : ℕ) (memory : Option Ptr) (size : ℕ) where
     counts_few = omega (arith, is.most, isolated_bound r.zone is.valid)
 
     pub room_over : IsRoom number blocks memory size (record r { is_under_way = false })
-    room_over = record { valid = is.valid; identity = is.identity; memory_is = is.memory_is; given = is.given; halves = is.halves; sum = is.sum; most = is.most; met = is.met }
+    room_over = record { valid = is.valid; identity = is.identity; memory_is = is.memory_is; given = is.given; halves = is.halves; sum = is.sum; most = is.most; runs = is.runs; met = is.met }
 
     -- a worker finds no page
-    pub room_stopped : (reason : Stop) → (reason ≡ stop.Met → HaveMet r.zone) → IsRoom number blocks memory size (record r { round = record r.round { stopped = Some reason } })
-    room_stopped reason have_met = record {
+    pub room_stopped : (work : Work) (reason : Stop) → AreRuns (512 * blocks) work → (reason ≡ stop.Met → HaveMet r.zone) → IsRoom number blocks memory size (record r { work = work; round = record r.round { stopped = Some reason } })
+    room_stopped work reason runs have_met = record {
       valid = is.valid;
       identity = is.identity;
       memory_is = is.memory_is;
@@ -212,57 +201,57 @@ module _ (number blocks : ℕ) (memory : Option Ptr) (size : ℕ) where
       halves = is.halves;
       sum = is.sum;
       most = is.most;
+      runs = runs;
       met = λ noted quiet. have_met (let same : Some reason ≡ Some stop.Met = noted in cc);
     }
 
     -- a worker gets a page
-    module _ (next : ZoneState) (place : ℕ) (free : slice_get r.kept place ≡ Some None) (m : LentMove) (lends : LendsNext r.zone next (Found m)) (step : next ≡ next_lent r.zone (next_pair r.zone)) (k : KeptHalf)
-        (way : k.way ≡ record { page = m.page; serial = m.serial; source = m.source; target = m.target }) (half : k.half ≡ record { at = m.from.at; words = m.from.words; is_first = true }) (long : length m.from.words ≡ size) where
-      abbrev pair : Pair
-      pair = record { page = m.page; source = m.source; target = m.target }
+    module _ (next : ZoneState) (place : ℕ) (free : slice_get r.kept place ≡ Some None) (l : LentMove) (lends : Lends (next_move r.work r.zone) r.zone next (Found l)) (step : next ≡ next_sent r.work r.zone (next_move r.work r.zone)) (k : KeptHalf)
+        (way : k.way ≡ record { page = l.page; serial = l.serial; source = l.source; target = l.target }) (half : k.half ≡ record { at = l.from.at; words = l.from.words; is_first = true }) (long : length l.from.words ≡ size) where
+      abbrev m : Move
+      m = record { page = l.page; source = l.source; target = l.target }
 
-      is_next : next ≡ move_lent r.zone pair
-      is_next = step ∙ ap (next_lent r.zone) lends.0
+      is_next : next ≡ page_sent r.work r.zone m
+      is_next = step ∙ ap (next_sent r.work r.zone) lends.0
 
-      way_is : k.way ≡ way_of r.zone pair
-      way_is = way ∙ (λ i. record { page = m.page; serial = lends.1 i; source = m.source; target = m.target })
+      way_is : k.way ≡ way_of r.zone m
+      way_is = way ∙ (λ i. record { page = l.page; serial = lends.1 i; source = l.source; target = l.target })
 
-      lent_is : m ≡ lent_by k m.to
-      lent_is = λ i. record { page = (sym way i).page; serial = (sym way i).serial; source = (sym way i).source; target = (sym way i).target; from = record { at = (sym half i).at; words = (sym half i).words }; to = m.to }
+      lent_is : l ≡ lent_by k l.to
+      lent_is = λ i. record { page = (sym way i).page; serial = (sym way i).serial; source = (sym way i).source; target = (sym way i).target; from = record { at = (sym half i).at; words = (sym half i).words }; to = l.to }
 
-      kept_now : IsKept size (move_lent r.zone pair) k
-      kept_now = record { long = ap (λ (h : Half). length h.words) half ∙ long; first = ap (λ (h : Half). h.is_first) half; to = m.to; lent = subst (λ (z : ZoneState). IsLentMove z (lent_by k m.to)) is_next (subst (IsLentMove next) lent_is lends.2) }
+      kept_now : IsKept size (page_sent r.work r.zone m) k
+      kept_now = record { long = ap (λ (h : Half). length h.words) half ∙ long; first = ap (λ (h : Half). h.is_first) half; to = l.to; lent = subst (λ (z : ZoneState). IsLentMove z (lent_by k l.to)) is_next (subst (IsLentMove next) lent_is lends.2) }
 
-      pub room_gets : IsValidZone next → HasIdentity r.zone.number r.zone.blocks next → (round : Round) → round ≡ record r.round { isolated = r.round.isolated + 1 } → IsRoom number blocks memory size (record r { zone = next; kept = slice_set r.kept place (Some k); round = round })
-      room_gets law identity round counted = subst (λ (w : Round). IsRoom number blocks memory size (record r { zone = next; kept = slice_set r.kept place (Some k); round = w })) (sym counted) (record {
+      pub room_gets : IsValidZone next → HasIdentity r.zone.number r.zone.blocks next → (work : Work) → work ≡ work_left r.work r.zone → (round : Round) → round ≡ record r.round { isolated = r.round.isolated + 1 } → IsRoom number blocks memory size (record r { zone = next; kept = slice_set r.kept place (Some k); work = work; round = round })
+      room_gets law identity work left round counted = subst (λ (w : Round). IsRoom number blocks memory size (record r { zone = next; kept = slice_set r.kept place (Some k); work = work; round = w })) (sym counted) (record {
         valid = law;
         identity = (identity.0 ∙ is.identity.0, identity.1 ∙ is.identity.1);
-        memory_is = ap (λ (z : ZoneState). z.memory) is_next ∙ is.memory_is;
+        memory_is = ap (λ (z : ZoneState). z.memory) is_next ∙ memory_sent r.work r.zone m ∙ is.memory_is;
         given = is.given;
-        halves = subst (λ (z : ZoneState). AreKept size z (slice_set r.kept place (Some k))) (sym is_next) (gets r.zone is.valid r.kept is.halves place free pair lends.0 k way_is kept_now);
+        halves = subst (λ (z : ZoneState). AreKept size z (slice_set r.kept place (Some k))) (sym is_next) (gets r.work r.zone is.valid r.kept is.halves place free m lends.0 k way_is kept_now);
         sum = omega (arith, is.sum, one_more r.kept place k free);
-        most = subst (λ (z : ZoneState). r.round.isolated + 1 ≤ isolated z.records) (sym is_next) (omega (arith, is.most));
-        met = λ noted quiet. (
-            let before = quiet_isolated r.zone is.valid pair (subst (λ (z : ZoneState). is_quiet z ≡ true) is_next quiet) in
-            absurd (is.met noted before m.page m.source m.target (pair_found r.zone is.valid pair lends.0)));
+        most = omega (arith, is.most, ap (λ (z : ZoneState). isolated z.records) is_next, isolated_sent r.work r.zone m);
+        runs = subst (AreRuns (512 * blocks)) (sym left) (runs_left r.work r.zone (512 * blocks) is.runs);
+        met = λ noted quiet. (let before = quiet_sent r.work r.zone is.valid m (subst (λ (z : ZoneState). is_quiet z ≡ true) is_next quiet) in absurd (not_met r.work r.zone is.valid m lends.0 before.0 (is.met noted before.1)));
       })
 
-      pub page_got : (p : PageInHand) → p ≡ record { place = place; way = k.way; from = m.from.words; to = p.to } → (new : Room) → new ≡ record r { zone = next; kept = slice_set r.kept place (Some k); round = record r.round { isolated = r.round.isolated + 1 } }
-          → (x : Pair) × (next_pair r.zone ≡ Some x) × Gets place r new x p
+      pub page_got : (p : PageInHand) → p ≡ record { place = place; way = k.way; from = l.from.words; to = p.to } → (new : Room) → new ≡ record r { zone = next; kept = slice_set r.kept place (Some k); work = work_left r.work r.zone; round = record r.round { isolated = r.round.isolated + 1 } }
+          → (x : Move) × (next_move r.work r.zone ≡ Some x) × Gets place r new x p
       page_got p page new room = (
-        pair,
+        m,
         lends.0,
         record {
           half = k;
           way = way_is;
-          room = room ∙ (λ i. record r { zone = is_next i; kept = slice_set r.kept place (Some k); round = record r.round { isolated = r.round.isolated + 1 } });
+          room = room ∙ (λ i. record r { zone = is_next i; kept = slice_set r.kept place (Some k); work = work_left r.work r.zone; round = record r.round { isolated = r.round.isolated + 1 } });
           place_is = ap (λ (q : PageInHand). q.place) page;
           page = ap (λ (q : PageInHand). q.way) page ∙ way_is;
           from = ap (λ (q : PageInHand). q.from) page ∙ words_got;
         },
       ) where
-        words_got : m.from.words ≡ words_now r.zone pair.page
-        words_got = lends.2.words ∙ ap (λ (z : ZoneState). words_now z m.page) is_next
+        words_got : l.from.words ≡ words_now r.zone m.page
+        words_got = lends.2.words ∙ ap (λ (z : ZoneState). words_now z l.page) is_next ∙ words_sent r.work r.zone m l.page
 
     -- a worker gives its page back, with the half that the zone kept
     module _ (place : ℕ) (k : KeptHalf) (at : slice_get r.kept place ≡ Some (Some k)) (from : Half) (to : Row) (lie : AreOf memory size k.way from to) where
@@ -316,17 +305,18 @@ module _ (number blocks : ℕ) (memory : Option Ptr) (size : ℕ) where
         halves = subst (AreKept size next) (sym taken) (gives r.zone next r.kept is.halves place k at others);
         sum = omega (arith, is.sum, same_isolated, one_ended, one_less r.kept place k at, ap in_hand taken);
         most = omega (arith, is.most, same_isolated, shape.isolated);
+        runs = is.runs;
         met = met;
       }
 
-      pub room_commits : (next : ZoneState) (kept : List (Option KeptHalf)) (round : Round) (end : Ended) → IsValidZone next → HasIdentity r.zone.number r.zone.blocks next → next ≡ move_returned (committed r.zone k.way.serial k.way.page) k.way.page
-          → kept ≡ slice_set r.kept place None → round ≡ counted r.round end → (is_quiet r.zone ≡ true → HaveMet r.zone → HaveMet next)
+      pub room_commits : (next : ZoneState) (kept : List (Option KeptHalf)) (round : Round) (end : Ended) → IsValidZone next → HasIdentity r.zone.number r.zone.blocks next → next ≡ page_ended r.work r.zone k.way.serial k.way.page k.way.source
+          → kept ≡ slice_set r.kept place None → round ≡ counted r.round end → (is_quiet r.zone ≡ true → HaveMet r.zone → is_quiet next ≡ true → HaveMet next)
           → IsRoom number blocks memory size (record r { zone = next; kept = kept; round = round })
       room_commits next kept round end law identity step taken count met = room_gives next kept round law identity
-          (subst (IsShaped r.zone) (sym step) (shape_committed r.zone k.way.serial k.way.page))
-          (λ m ne its. subst (λ (z : ZoneState). IsLentMove z m) (sym step) (lent_after_lent_commit r.zone m its k.way.page k.way.serial k.way.source k.way.target kept_half.lent.way ne))
+          (subst (IsShaped r.zone) (sym step) (shape_ended r.work r.zone k.way.serial k.way.page k.way.source))
+          (λ m ne its. subst (λ (z : ZoneState). IsLentMove z m) (sym step) (lent_after_end r.work r.zone m its k.way.page k.way.serial k.way.source k.way.target kept_half.lent.way ne))
           taken (isolated_same r.round round end count) (ended_one r.round round end count)
-          (λ noted quiet. (let before = quiet_committed r.zone is.valid k.way.serial k.way.page (subst (λ (z : ZoneState). is_quiet z ≡ true) step quiet) in met before (is.met (sym (stopped_same r.round round end count) ∙ noted) before)))
+          (λ noted quiet. (let before = quiet_ended_page r.work r.zone is.valid k.way.serial k.way.page k.way.source (subst (λ (z : ZoneState). is_quiet z ≡ true) step quiet) in met before (is.met (sym (stopped_same r.round round end count) ∙ noted) before) quiet))
 
     -- a round whose last page was given back is settled
     pub room_settled : IsSome r.round.stopped → out r.zone.records ≡ [] → AreEndedOnce r.zone.records → in_hand r.kept ≡ 0 → (round : Round) → round ≡ r.round → WasSettled number blocks memory size round

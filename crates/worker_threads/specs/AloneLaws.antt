@@ -1,12 +1,14 @@
 -- Each step of a round of workers keeps what the lock of a zone keeps that nobody else has.
 use Rattle.std.proofs.Common.{◌≡◌, ℕ, zero, suc, ◌+◌, ◌<◌, ◌≤◌, Bool, true, false, [], length, inl, inr, refl, sym, ap, subst, ◌∙◌, arith, Option, Some, None, nat_eq, is_none, if◌then◌else◌}
 use Rattle.std.specs.FinMap as map
+use Rattle.std.specs.Option.{option_map}
 use Rattle.std.specs.FinSet as set
 use Rattle.std.specs.Ordering.{nat_cmp}
 use Rattle.std.proofs.lemmas.Bool.{both_ways, cond-true, eq-eqb}
 use Rattle.frame_core.specs.declared.record.Cause.TheVariants.{Pinned}
 use Rattle.frame_core.specs.History.{pins}
 use Rattle.frame_core.specs.Moves.{isolated, out, put_back}
+use Rattle.state_core.specs.declared.error.ZoneError.{ZoneError}
 use Rattle.state_core.specs.declared.placement.Placement.TheVariants.{Moving}
 use Rattle.state_core.specs.declared.round.Pair.{Pair}
 use Rattle.state_core.specs.Ending.{committed, moved_to_target, put_back_to_source}
@@ -16,11 +18,17 @@ use Rattle.state_core.specs.Pairs.{next_pair}
 use Rattle.state_core.specs.Rounds.{round_begun}
 use Rattle.state_core.specs.Valid.{IsValidZone}
 use Rattle.state_core.specs.ZoneState.{ZoneState}
+use Rattle.fewest_core.specs.FewestMoves.{Move, move_of}
 use Rattle.state_core.proofs.Lending.{valid_loans}
 use Rattle.state_core.proofs.Holding.{at_rest}
-use Rattle.worker_threads.specs.Alone.{KeepsAlone, KeepsFirst, StopsAlone, stop_by_hand, unlent}
-use Rattle.worker_threads.specs.Rooms.{one_begun, stop_for}
+use Rattle.worker_threads.specs.Alone.{KeepsAlone, KeepsFirst, KeepsRound, StopsAlone, stop_by_hand, unlent}
+use Rattle.worker_threads.specs.Rooms.{one_begun}
+use Rattle.worker_threads.specs.Runs.{Runs}
+use Rattle.worker_threads.specs.Work.{next_move, none_found, pair_of, page_ended, page_sent, stop_for, work_begun, work_left, work_refusal}
 use Rattle.worker_threads.specs.declared.round.Stop.{Stop}
+use Rattle.worker_threads.specs.declared.round.Stop.TheVariants.{JournalFull}
+use Rattle.worker_threads.specs.declared.work.Work.{Work}
+use Rattle.worker_threads.specs.declared.work.Work.TheVariants.{Compact, Empty}
 use Rattle.zone_core.specs.Alone.{IsAtRest}
 use Rattle.zone_core.specs.ByHand.{all_isolated, by_hand, scan_pair, scan_step}
 use Rattle.zone_core.proofs.Alone.{alone_begins, alone_commits, alone_exact, alone_lets_go, alone_scans, alone_stops, alone_unpinned}
@@ -73,11 +81,11 @@ module _ (start : ZoneState) where
       record { under = alone_scans start z law (λ rest. first.under) rest; back = scan_back z (scan_pair z) ∙ first.back }
   first_scans (suc (suc more)) z some law keeps rest = tt
 
-  pub first_stops : (rounds : ℕ) (z : ZoneState) → scan_pair z ≡ None → KeepsAlone start rounds z → StopsAlone start rounds (isolated z.records) (stop_for (isolate_refusal z))
+  pub first_stops : (rounds : ℕ) (z : ZoneState) → scan_pair z ≡ None → KeepsAlone start rounds z → StopsAlone start rounds (isolated z.records) (stop_for Compact (isolate_refusal z))
   first_stops zero z none keeps rest = tt
   first_stops (suc zero) z none keeps rest =
       let seen = alone_stops start z (λ rest. (keeps rest).under) none rest in
-      record { count_is = seen.count; reason_is = ap stop_for (refusal_same z (all_isolated start) seen) }
+      record { count_is = seen.count; reason_is = ap (stop_for Compact) (refusal_same z (all_isolated start) seen) }
   first_stops (suc (suc more)) z none keeps rest = tt
 
   -- where it stopped, there is no page to isolate any more
@@ -113,10 +121,55 @@ module _ (start : ZoneState) where
     (stops rest).reason_is,
   )
 
--- the same of the zone as it is
-module _ (start : ZoneState) (rounds : ℕ) (z : ZoneState) where
-  pub isolates_first : (pair : Pair) → 0 < rounds → IsValidZone z → isolate_refusal z ≡ None → next_pair z ≡ Some pair → KeepsAlone start rounds (unlent z) → KeepsAlone start rounds (unlent (move_lent z pair))
-  isolates_first pair some law accepted found keeps = subst (KeepsAlone start rounds) (sym (unlent_scan z pair accepted found)) (first_scans start rounds (unlent z) some (valid_unlent z law) keeps)
+-- the same of the zone as it is, in which work is done that is a round
+module _ (start : ZoneState) where
+  never_empty : {A : Type 0} (runs : Runs) → Empty runs ≡ Compact → A
+  never_empty runs is = cc
 
-  pub commits_first : (page serial source target : ℕ) → IsValidZone z → map.get z.placement page ≡ Some (Moving serial source target) → KeepsAlone start rounds (unlent z) → KeepsAlone start rounds (unlent (move_returned (committed z serial page) page))
-  commits_first page serial source target law at keeps = subst (KeepsAlone start rounds) (sym (unlent_committed z serial page)) (first_commits start rounds (unlent z) page serial source target (valid_unlent z law) at keeps)
+  pub round_begins : (work next : Work) (rounds : ℕ) (z : ZoneState) → next ≡ Compact → IsValidZone z → KeepsRound start work rounds (unlent z) → KeepsRound start next (one_begun rounds) (unlent (work_begun next z))
+  round_begins work Compact rounds z is law keeps = record { is_round = refl; keeps = first_begins start rounds (unlent z) (valid_unlent z law) keeps.keeps }
+  round_begins work (Empty runs) rounds z is law keeps = never_empty runs is
+
+  -- the pair of a move that is found
+  pair_is : (o : Option Pair) (m : Move) → option_map move_of o ≡ Some m → o ≡ Some (pair_of m)
+  pair_is None m found = cc
+  pair_is (Some pair) m found = (let same : move_of pair ≡ m = cc in λ i. Some (record { page = (same i).page; source = (same i).source; target = (same i).target }))
+
+  pub round_takes : (work : Work) (rounds : ℕ) (z : ZoneState) (m : Move) → 0 < rounds → IsValidZone z → isolate_refusal z ≡ None → next_move work z ≡ Some m → KeepsRound start work rounds (unlent z) → KeepsRound start (work_left work z) rounds (unlent (page_sent work z m))
+  round_takes Compact rounds z m some law accepted found keeps = record {
+    is_round = refl;
+    keeps = subst (KeepsAlone start rounds) (sym (unlent_scan z (pair_of m) accepted (pair_is (next_pair z) m found))) (first_scans start rounds (unlent z) some (valid_unlent z law) keeps.keeps);
+  }
+  round_takes (Empty runs) rounds z m some law accepted found keeps = never_empty runs keeps.is_round
+
+  pub round_finds_none : (work : Work) (rounds : ℕ) (z : ZoneState) → KeepsRound start work rounds (unlent z) → KeepsRound start (work_left work z) rounds (unlent z)
+  round_finds_none Compact rounds z keeps = keeps
+  round_finds_none (Empty runs) rounds z keeps = never_empty runs keeps.is_round
+
+  -- no pair is found where none is there, or where the isolation is refused
+  none_there : (o : Option Pair) → option_map move_of o ≡ None → o ≡ None
+  none_there None none = refl
+  none_there (Some pair) none = cc
+
+  pub round_stops : (work : Work) (rounds : ℕ) (z : ZoneState) → work_refusal work z ≡ None → next_move work z ≡ None → KeepsRound start work rounds (unlent z) → StopsAlone start rounds (isolated z.records) (none_found work)
+  round_stops Compact rounds z accepted none keeps =
+      subst (StopsAlone start rounds (isolated z.records)) (ap (stop_for Compact) accepted)
+      (first_stops start rounds (unlent z) ((λ i. if is_none (accepted i) then next_pair z else None) ∙ none_there (next_pair z) none) keeps.keeps)
+  round_stops (Empty runs) rounds z accepted none keeps = never_empty runs keeps.is_round
+
+  pub round_fills : (work : Work) (rounds : ℕ) (z : ZoneState) (error : ZoneError) → work_refusal work z ≡ Some error → KeepsRound start work rounds (unlent z) → StopsAlone start rounds (isolated z.records) JournalFull
+  round_fills Compact rounds z error refused keeps =
+      subst (StopsAlone start rounds (isolated z.records)) (ap (stop_for Compact) refused)
+      (first_stops start rounds (unlent z) (λ i. if is_none (refused i) then next_pair z else None) keeps.keeps)
+  round_fills (Empty runs) rounds z error refused keeps = never_empty runs keeps.is_round
+
+  pub round_goes_on : (work : Work) (rounds : ℕ) (z : ZoneState) (m : Move) (stop : Stop) → IsValidZone z → isolate_refusal z ≡ None → next_move work z ≡ Some m → KeepsRound start work rounds (unlent z) → StopsAlone start rounds (isolated z.records) stop → StopsAlone start rounds (isolated z.records + 1) stop
+  round_goes_on Compact rounds z m stop law accepted found keeps = first_goes_on start rounds (unlent z) (pair_of m) stop (valid_unlent z law) (unlent_pair z (pair_of m) accepted (pair_is (next_pair z) m found)) keeps.keeps
+  round_goes_on (Empty runs) rounds z m stop law accepted found keeps = never_empty runs keeps.is_round
+
+  pub round_commits : (work : Work) (rounds : ℕ) (z : ZoneState) (page serial source target : ℕ) → IsValidZone z → map.get z.placement page ≡ Some (Moving serial source target) → KeepsRound start work rounds (unlent z) → KeepsRound start work rounds (unlent (page_ended work z serial page source))
+  round_commits Compact rounds z page serial source target law at keeps = record {
+    is_round = refl;
+    keeps = subst (KeepsAlone start rounds) (sym (unlent_committed z serial page)) (first_commits start rounds (unlent z) page serial source target (valid_unlent z law) at keeps.keeps);
+  }
+  round_commits (Empty runs) rounds z page serial source target law at keeps = never_empty runs keeps.is_round

@@ -1,5 +1,5 @@
 -- What is so whenever the lock is free.
-use Rattle.std.specs.Prelude.{◌≡◌, ℕ, ◌+◌, ◌≤◌, true, false, List, length, Option, Some, is_none, slice_get}
+use Rattle.std.specs.Prelude.{◌≡◌, ℕ, ◌+◌, ◌*◌, ◌≤◌, true, false, List, length, Option, Some, is_none, slice_get}
 use denote.RawPtr.{Ptr}
 use Rattle.frame_core.specs.Moves.{isolated}
 use Rattle.row_core.specs.Seen.{Row}
@@ -8,9 +8,11 @@ use Rattle.state_core.specs.Pairs.{HaveMet}
 use Rattle.state_core.specs.Valid.{IsValidZone}
 use Rattle.state_core.specs.ZoneState.{ZoneState, is_quiet}
 use Rattle.worker_threads.specs.Rooms.{Room, in_hand}
+use Rattle.worker_threads.specs.Work.{AreRuns}
 use Rattle.worker_threads.specs.declared.room.KeptHalf.{KeptHalf}
 use Rattle.worker_threads.specs.declared.round.Stop.{Stop}
 use Rattle.worker_threads.specs.declared.round.Stop.TheVariants as stop
+use Rattle.worker_threads.specs.declared.work.Work.{Work}
 use Rattle.zone_core.specs.ZoneIdentity.{HasIdentity}
 
 -- the move of which half of the right to its words is kept, with this row of the frame that it goes to
@@ -30,9 +32,9 @@ pub record AreKept (size : ℕ) (z : ZoneState) (kept : List (Option KeptHalf)) 
   pub apart : (i j : ℕ) (k l : KeptHalf) → slice_get kept i ≡ Some (Some k) → slice_get kept j ≡ Some (Some l) → k.way.serial ≡ l.way.serial → i ≡ j
 
 -- and what more is kept of it: this is so after so many rounds, and where the latest one stopped, it may
-pub record Keeps (keeps : ℕ → ZoneState → Type 0) (stops_at : ℕ → ℕ → Stop → Type 0) (r : Room) : Type 0 where
-  pub fact : keeps r.rounds r.zone
-  pub stops : (reason : Stop) → r.round.stopped ≡ Some reason → stops_at r.rounds (isolated r.zone.records) reason
+pub record Keeps (keeps : Work → ℕ → ZoneState → Type 0) (stops_at : Work → ℕ → ℕ → Stop → Type 0) (r : Room) : Type 0 where
+  pub fact : keeps r.work r.rounds r.zone
+  pub stops : (reason : Stop) → r.round.stopped ≡ Some reason → stops_at r.work r.rounds (isolated r.zone.records) reason
 
 -- a zone with this number and so many pageblocks lies in this memory of its caller, with pages of so many words; the latest round counts
 -- each page that it isolated once: as moved, as put back, or in the hands of a worker
@@ -44,5 +46,6 @@ pub record IsRoom (number blocks : ℕ) (memory : Option Ptr) (size : ℕ) (r : 
   pub halves : AreKept size r.zone r.kept
   pub sum : r.round.isolated ≡ r.round.moved + r.round.back + in_hand r.kept
   pub most : r.round.isolated ≤ isolated r.zone.records
+  pub runs : AreRuns (512 * blocks) r.work
   -- where the scanners met, they have met for as long as the round is quiet
   pub met : r.round.stopped ≡ Some stop.Met → is_quiet r.zone ≡ true → HaveMet r.zone

@@ -1,6 +1,11 @@
 pub mod Alone
 pub mod AloneLaws
+pub mod Emptied
+pub mod EmptiedLaws
+pub mod EmptyingLaws
 pub mod Hands
 pub mod Kept
 pub mod Rooms
+pub mod Runs
+pub mod Work
 pub mod Working

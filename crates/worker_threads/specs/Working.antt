@@ -11,6 +11,7 @@ use Rattle.worker_threads.specs.Rooms.{Room, page_committed}
 use Rattle.worker_threads.specs.declared.round.Round.{Round}
 use Rattle.worker_threads.specs.declared.round.Stop.{Stop}
 use Rattle.worker_threads.specs.declared.round.Stop.TheVariants as stop
+use Rattle.worker_threads.specs.declared.work.Work.{Work}
 
 -- pages after each of them was copied
 abbrev pub all_copied : List PageInHand → List PageInHand
@@ -22,12 +23,14 @@ all_committed r [] = r
 all_committed r (p ∷ pages) = all_committed (page_committed r p.place p.way) pages
 
 -- the only round of a zone, which has stopped as it may, and of which no page is out
-pub record IsOnlyRound (keeps : ℕ → ZoneState → Type 0) (stops_at : ℕ → ℕ → Stop → Type 0) (z : ZoneState) (round : Round) : Type 0 where
-  pub fact : keeps 1 z
+pub record IsOnlyRound (keeps : Work → ℕ → ZoneState → Type 0) (stops_at : Work → ℕ → ℕ → Stop → Type 0) (z : ZoneState) (round : Round) : Type 0 where
+  -- the work, with what is left of it
+  pub work : Work
+  pub fact : keeps work 1 z
   pub none_out : out z.records ≡ []
   pub stop : Stop
   pub stopped : round.stopped ≡ Some stop
-  pub stops : stops_at 1 (isolated z.records) stop
+  pub stops : stops_at work 1 (isolated z.records) stop
 
 -- a worker got so many pages, at most as many as it has places, and fewer only where the round stopped or a place isn't free
 pub record GotPages (old new : Room) (pages : ℕ) : Type 0 where

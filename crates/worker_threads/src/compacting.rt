@@ -1,21 +1,24 @@
-//! A round on threads.
+//! Work on threads: a round, or the emptying of runs.
 
 ghost use Rattle.std.specs.Prelude.{◌≡◌, ◌+◌, ◌<◌, ◌≤◌, All, IfOk, [], vec_len, vec_capacity};
 ghost use Rattle.worker_threads.specs.Hands.{AreEmpty};
 ghost use Rattle.worker_threads.specs.Working.{WasSettled};
+ghost use Rattle.worker_threads.specs.declared.work.Work.TheVariants.{Compact, Empty};
 
 use crate::compacting_zone::CompactingZone;
 use crate::error::WorkError;
 use crate::gate::Gate;
 use crate::keeping::Keeping;
 use crate::round::Round;
+use crate::runs::Runs;
+use crate::work::Work;
 use crate::worker::{Hands, work};
 use std::alloc::{AllocError, Global};
 use std::sync::Wait;
 use std::thread;
 use std::thread::{JoinHandle, Scope, Threads};
 
-/// The workers of a round: the one that the caller's thread is, and the others, with room for the handles of their threads.
+/// The workers: the one that the caller's thread is, and the others, with room for the handles of their threads.
 #[derive(Drop)]
 struct Hired<K: Keeping, const W: usize> {
     own: Hands<K, W>,
@@ -26,7 +29,7 @@ struct Hired<K: Keeping, const W: usize> {
 /// Moves what can be moved, with so many workers, 1 to 64, of which the thread of the caller is one. Where a thread can't be started, fewer
 /// workers do it.
 ///
-/// Refused as Memory where there isn't enough, else as Busy where another round is under way or a page is moving, and then no round was
+/// Refused as Memory where there isn't enough, else as Busy where other work is under way or a page is moving, and then no round was
 /// begun; as Broken where a page is still moving when the workers have ended.
 pub fn compact<K: Keeping + Send + Sync, const W: usize, G: Gate, R: Threads + Wait + Sync>(
     rt: &R,
@@ -35,13 +38,50 @@ pub fn compact<K: Keeping + Send + Sync, const W: usize, G: Gate, R: Threads + W
     workers: usize,
     gate: &G,
 ) -> Result<Round, WorkError>
-    requires { (0 < workers) × (workers ≤ 64) }
+    requires may { K.works Compact }
+    requires workers { (0 < workers) × (workers ≤ 64) }
+    ensures { IfOk result (WasSettled K.number K.blocks K.memory W) }
+{
+    run(rt, alloc, shared, Work::Compact, workers, gate)
+}
+
+/// Empties runs, the first one first, with so many workers, 1 to 64, as `compact` moves pages. Their free frames are claimed first, so that no
+/// page comes there. Each page goes to the highest free frame of an unmarked pageblock, the lowest page of a run first, and the frame that it
+/// leaves is claimed. Pages that are pinned, moving or unmovable stay. `BareZone::take_claimed` hands a run out whose frames are all claimed.
+///
+/// Refused as Memory, else as Range where no block of this order can begin at one of the frames, else as Busy or Broken, as `compact` is.
+pub fn empty<K: Keeping + Send + Sync, const W: usize, G: Gate, R: Threads + Wait + Sync>(
+    rt: &R,
+    alloc: Global,
+    shared: &CompactingZone<K, W>,
+    runs: Runs,
+    workers: usize,
+    gate: &G,
+) -> Result<Round, WorkError>
+    requires may { K.works (Empty runs) }
+    requires workers { (0 < workers) × (workers ≤ 64) }
+    ensures { IfOk result (WasSettled K.number K.blocks K.memory W) }
+{
+    run(rt, alloc, shared, Work::Empty(runs), workers, gate)
+}
+
+/// Does work, with so many workers.
+pub(crate) fn run<K: Keeping + Send + Sync, const W: usize, G: Gate, R: Threads + Wait + Sync>(
+    rt: &R,
+    alloc: Global,
+    shared: &CompactingZone<K, W>,
+    work: Work,
+    workers: usize,
+    gate: &G,
+) -> Result<Round, WorkError>
+    requires may { K.works work }
+    requires workers { (0 < workers) × (workers ≤ 64) }
     ensures { IfOk result (WasSettled K.number K.blocks K.memory W) }
 {
     let Ok(crew) = reserve(alloc, workers) else {
         return Err(WorkError::Memory);
     };
-    begin(rt, shared)?;
+    begin(rt, shared, work)?;
     let whole = in_scope(rt, shared, crew, gate);
     settle(rt, shared, whole)
 }
@@ -64,20 +104,26 @@ fn reserve<K: Keeping, const W: usize>(
     })
 }
 
-/// Begins a round. Refused as Busy where another one is under way, or a page is moving.
+/// Begins work. Refused as Range where no block can begin at one of its runs, and as Busy where other work is under way, or a page is moving.
 pub(crate) fn begin<K: Keeping, const W: usize, R: Wait>(
     rt: &R,
     shared: &CompactingZone<K, W>,
-) -> Result<(), WorkError> {
+    work: Work,
+) -> Result<(), WorkError>
+    requires { K.works work }
+{
     let mut room = shared.lock(rt);
+    if !work.fits(room.zone()) {
+        return Err(WorkError::Range);
+    }
     if !room.can_begin() {
         return Err(WorkError::Busy);
     }
-    room.begin();
+    room.begin(work);
     Ok(())
 }
 
-/// Ends a round whose workers have ended, and answers what it did. Refused as Broken where a page is still moving, or a copy wasn't taken
+/// Ends work whose workers have ended, and answers what was done. Refused as Broken where a page is still moving, or a copy wasn't taken
 /// back.
 pub(crate) fn settle<K: Keeping, const W: usize, R: Wait>(
     rt: &R,

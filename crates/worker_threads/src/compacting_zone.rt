@@ -2,6 +2,7 @@
 
 ghost use Rattle.std.specs.Prelude.{◌≡◌, ◌<◌, ◌≤◌, None, Err, true, false, IfOk, IfErr, OnOk, is_none, replicate};
 ghost use Rattle.state_core.specs.Valid.{IsValidZone};
+ghost use Rattle.worker_threads.specs.declared.work.Work.TheVariants.{Compact};
 ghost use Rattle.zone_core.specs.ZoneIdentity.{HasIdentity};
 
 use crate::SLICE;
@@ -44,7 +45,7 @@ impl<K: Keeping, const W: usize> CompactingZone<K, W> {
     ) -> Result<Self, (ZoneError, BareZone<W>)>
         requires identity { HasIdentity K.number K.blocks zone }
         requires memory { zone.memory ≡ K.memory }
-        requires keeps { K.keeps 0 zone }
+        requires keeps { K.keeps Compact 0 zone }
         requires workers { (0 < workers) × (workers ≤ 64) }
         ensures own { is_none K.memory ≡ true → result ≡ Err (ZoneError.OwnMemory, zone.entry) }
         ensures full { is_none K.memory ≡ false → IfErr result (λ back. back ≡ (ZoneError.Memory, zone.entry)) }

@@ -3,6 +3,7 @@
 ghost use Rattle.std.specs.Prelude.{◌+◌, ◌<◌, ◌≤◌, All, IfOk, vec_len, vec_capacity};
 ghost use Rattle.worker_threads.specs.Hands.{AreEmpty};
 ghost use Rattle.worker_threads.specs.Working.{WasSettled};
+ghost use Rattle.worker_threads.specs.declared.work.Work.TheVariants.{Compact, Empty};
 
 use crate::compacting::{begin, settle};
 use crate::compacting_zone::CompactingZone;
@@ -10,6 +11,8 @@ use crate::error::WorkError;
 use crate::gate::Gate;
 use crate::keeping::Keeping;
 use crate::round::Round;
+use crate::runs::Runs;
+use crate::work::Work;
 use crate::worker::{Hands, work};
 use std::alloc::{AllocError, Global};
 use std::sync::{Condvar, Mutex, Wait};
@@ -70,13 +73,43 @@ impl Crew {
     /// Moves what can be moved, with the workers of the crew, and waits until each of them has done its part. Of several calls at once one
     /// waits for the others.
     ///
-    /// Refused as NoWorker where the crew has none, else as Busy where another round is under way or a page is moving, and then no round was
+    /// Refused as NoWorker where the crew has none, else as Busy where other work is under way or a page is moving, and then no round was
     /// begun; as Broken where a page is still moving when the workers have done their parts.
     pub fn compact<K: Keeping, const W: usize, R: Wait>(
         &self,
         rt: &R,
         shared: &CompactingZone<K, W>,
     ) -> Result<Round, WorkError>
+        requires may { K.works Compact }
+        ensures { IfOk result (WasSettled K.number K.blocks K.memory W) }
+    {
+        self.give(rt, shared, Work::Compact)
+    }
+
+    /// Empties runs, as the function `empty` does, with the workers of the crew.
+    ///
+    /// Refused as NoWorker, else as Range where no block of this order can begin at one of the frames, else as Busy or Broken, as `compact`
+    /// is.
+    pub fn empty<K: Keeping, const W: usize, R: Wait>(
+        &self,
+        rt: &R,
+        shared: &CompactingZone<K, W>,
+        runs: Runs,
+    ) -> Result<Round, WorkError>
+        requires may { K.works (Empty runs) }
+        ensures { IfOk result (WasSettled K.number K.blocks K.memory W) }
+    {
+        self.give(rt, shared, Work::Empty(runs))
+    }
+
+    /// Gives work to the workers, and waits until each of them has done its part.
+    fn give<K: Keeping, const W: usize, R: Wait>(
+        &self,
+        rt: &R,
+        shared: &CompactingZone<K, W>,
+        work: Work,
+    ) -> Result<Round, WorkError>
+        requires may { K.works work }
         ensures { IfOk result (WasSettled K.number K.blocks K.memory W) }
     {
         let free = self.shift.lock(rt);
@@ -84,7 +117,7 @@ impl Crew {
         if shift.standing == 0 {
             return Err(WorkError::NoWorker);
         }
-        begin(rt, shared)?;
+        begin(rt, shared, work)?;
         shift.call();
         self.begun.notify_all();
         let shift = self.ended.wait_while(rt, shift, |shift| shift.at_work != 0);

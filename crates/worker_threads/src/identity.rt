@@ -1,7 +1,8 @@
-ghost use Rattle.std.specs.Prelude.{ℕ, Option, None};
+ghost use Rattle.std.specs.Prelude.{ℕ, [], Option, None};
 ghost use denote.RawPtr.{Ptr};
 ghost use Rattle.state_core.specs.Opening.{opened_unrecorded};
 ghost use Rattle.state_core.specs.ZoneState.{ZoneState};
+ghost use Rattle.worker_threads.specs.Runs.{Runs};
 
 use std::marker::Brand;
 
@@ -26,7 +27,7 @@ impl MemoryIdentity for Brand {
     ghost memory = { None };
 }
 
-/// What a zone is when a round over it begins that nobody else has. Only contracts know it, and whoever asks for the round chooses it.
+/// What a zone is when work on it begins that nobody else has. Only contracts know it, and whoever asks for the work chooses it.
 pub trait StartIdentity {
     ghost start: { ZoneState };
 }
@@ -34,4 +35,14 @@ pub trait StartIdentity {
 // Any zone: a call that passes `Brand` chooses it.
 impl StartIdentity for Brand {
     ghost start = { opened_unrecorded 1 0 1 };
+}
+
+/// The same, with the runs that are to be emptied.
+pub trait RunsIdentity: StartIdentity {
+    ghost runs: { Runs };
+}
+
+// Any runs: a call that passes `Brand` chooses them.
+impl RunsIdentity for Brand {
+    ghost runs = { record { order = 3; left = [] } };
 }

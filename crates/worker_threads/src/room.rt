@@ -6,17 +6,20 @@ ghost use Rattle.frame_core.specs.Ends.{AreEndedOnce};
 ghost use Rattle.frame_core.specs.Moves.{out};
 ghost use Rattle.row_core.specs.Seen.{Half as Seen};
 ghost use Rattle.state_core.specs.Ending.{ended_as};
-ghost use Rattle.state_core.specs.Isolating.{isolate_refusal};
 ghost use Rattle.state_core.specs.Valid.{IsValidZone};
+ghost use Rattle.state_core.specs.ZoneState.{frame_count};
 ghost use Rattle.worker_threads.specs.Kept.{Keeps};
-ghost use Rattle.worker_threads.specs.Rooms.{GetsNext, counted, fresh_round, in_hand, page_committed, round_opened, stopped, way_at};
+ghost use Rattle.worker_threads.specs.Rooms.{GetsNext, counted, fresh_round, in_hand, page_committed, stopped, way_at, work_opened};
+ghost use Rattle.worker_threads.specs.Work.{AreRuns, work_refusal};
 ghost use Rattle.worker_threads.specs.Working.{IsOnlyRound, WasSettled};
+ghost use Rattle.worker_threads.specs.declared.work.Work.TheVariants as task;
 ghost use Rattle.zone_core.specs.Made.{IsMade};
 ghost use Rattle.zone_core.specs.ZoneIdentity.{HasIdentity};
 
 use crate::keeping::Keeping;
 use crate::page::{CopiedPage, PageInHand};
 use crate::round::{Round, Stop};
+use crate::work::Work;
 use frame_core::ClientNo;
 use row_core::Half;
 use std::marker::{Model, PhantomData};
@@ -38,6 +41,7 @@ pub(crate) struct KeptHalf {
 pub struct Room<K: Keeping, const W: usize> {
     zone: BareZone<W>,
     kept: Vec<Option<KeptHalf>>,
+    work: Work,
     rounds: u64,
     is_under_way: bool,
     round: Round,
@@ -50,15 +54,16 @@ impl<K: Keeping, const W: usize> Model for Room<K, W> {
     ghost use Rattle.state_core.specs.ZoneCode.{coded_zone};
     ghost use Rattle.worker_threads.specs.Kept.{IsRoom, Keeps};
     ghost use Rattle.worker_threads.specs.Rooms.{Room as Seen};
+    ghost use Rattle.worker_threads.specs.Runs.{runs_code};
 
     ghost Value = { Seen };
 
-    ghost coded = { Prim.hlevel (codes, coded_zone, half_code) };
+    ghost coded = { Prim.hlevel (codes, coded_zone, half_code, runs_code) };
 
-    ghost view = { λ r. record { zone = r.zone; kept = r.kept.items; rounds = r.rounds; is_under_way = r.is_under_way; round = r.round } };
+    ghost view = { λ r. record { zone = r.zone; kept = r.kept.items; work = r.work; rounds = r.rounds; is_under_way = r.is_under_way; round = r.round } };
 
     ghost invariant = { λ r.
-        let room : Seen = record { zone = r.zone; kept = r.kept.items; rounds = r.rounds; is_under_way = r.is_under_way; round = r.round } in
+        let room : Seen = record { zone = r.zone; kept = r.kept.items; work = r.work; rounds = r.rounds; is_under_way = r.is_under_way; round = r.round } in
         IsRoom K.number K.blocks K.memory W room × Keeps K.keeps K.stops_at room };
 }
 
@@ -69,12 +74,13 @@ impl<K: Keeping, const W: usize> Room<K, W> {
         requires identity { HasIdentity K.number K.blocks zone }
         requires memory { (zone.memory ≡ K.memory) × (is_none K.memory ≡ false) }
         requires free { kept.items ≡ replicate (length kept.items) None }
-        requires keeps { K.keeps 0 zone }
-        ensures { result ≡ record { zone = zone.entry; kept = kept.items; rounds = 0; is_under_way = false; round = fresh_round } }
+        requires keeps { K.keeps task.Compact 0 zone }
+        ensures { result ≡ record { zone = zone.entry; kept = kept.items; work = task.Compact; rounds = 0; is_under_way = false; round = fresh_round } }
     {
         Room {
             zone,
             kept,
+            work: Work::Compact,
             rounds: 0,
             is_under_way: false,
             round: Round::new(),
@@ -114,19 +120,22 @@ impl<K: Keeping, const W: usize> Room<K, W> {
         self.zone.make(client, call)
     }
 
-    /// Begins a round, which has done nothing yet. No page may be on its way.
-    pub(crate) fn begin(&mut self)
+    /// Begins work, of which nothing is done yet. No page may be on its way.
+    pub(crate) fn begin(&mut self, work: Work)
+        requires may { K.works work }
+        requires runs { AreRuns (frame_count self.old.zone) work }
         requires hands { in_hand self.old.kept ≡ 0 }
         requires none { out self.old.zone.records ≡ [] }
-        ensures { self.new ≡ round_opened self.old }
+        ensures { self.new ≡ work_opened self.old work }
     {
-        self.zone.begin_round();
+        work.begin(&mut self.zone);
+        self.work = work;
         self.rounds = self.rounds.saturating_add(1);
         self.is_under_way = true;
         self.round = Round::new();
     }
 
-    /// Whether a round may begin: none is under way, and no page is on its way.
+    /// Whether work may begin: none is under way, and no page is on its way.
     pub(crate) fn can_begin(&self) -> bool
         ensures begins { IsTrue result ↔ ((self.now.is_under_way ≡ false) × (out self.now.zone.records ≡ [])) }
         ensures hands { IsTrue result → in_hand self.now.kept ≡ 0 }
@@ -134,7 +143,7 @@ impl<K: Keeping, const W: usize> Room<K, W> {
         !self.is_under_way && self.is_settled()
     }
 
-    /// Ends the round that is under way: another one may begin.
+    /// Ends the work that is under way: other work may begin.
     pub(crate) fn end(&mut self)
         ensures { self.new ≡ record self.old { is_under_way = false } }
     {
@@ -150,7 +159,7 @@ impl<K: Keeping, const W: usize> Room<K, W> {
         self.zone.audit().is_ok()
     }
 
-    /// What the latest round did, if it has stopped and no page is on its way.
+    /// What the latest work did, if it has stopped and no page is on its way.
     pub fn settled(&self) -> Option<Round>
         ensures some { IsSome result ↔ (IsSome self.now.round.stopped × (out self.now.zone.records ≡ [])) }
         ensures round { IfSome result (λ round. round ≡ self.now.round) }
@@ -162,26 +171,27 @@ impl<K: Keeping, const W: usize> Room<K, W> {
         Some(self.round)
     }
 
-    /// Whether a round has begun, so that pages are isolated, and this place is free for one.
+    /// Whether work has begun, so that pages are isolated, and this place is free for one.
     pub(crate) fn can_take(&self, place: usize) -> bool
         ensures { IsTrue result ↔ ((0 < self.now.rounds) × (slice_get self.now.kept place ≡ Some None)) }
     {
         self.rounds > 0 && matches!(self.kept.get(place), Some(None))
     }
 
-    /// Isolates the next page and hands it to a worker, with the rows of both its frames. The zone keeps half of the right to its words
-    /// at a free place.
+    /// Isolates the page that is next and hands it to a worker, with the rows of both its frames. The zone keeps half of the right to its
+    /// words at a free place.
     ///
-    /// Refused as JournalFull where `isolate_next` is. A refusal changes nothing but that the round notes it, as it notes Met.
+    /// Refused as JournalFull where `isolate_next` is, unless no run is left. A refusal changes nothing but that the round notes it, as it
+    /// notes Met.
     pub(crate) fn take_page(&mut self, place: usize) -> Result<Next<PageInHand<K, W>>, ZoneError>
         requires begun { 0 < self.old.rounds }
         requires free { slice_get self.old.kept place ≡ Some None }
-        ensures refused { result_err result ≡ isolate_refusal self.old.zone }
+        ensures refused { result_err result ≡ work_refusal self.old.work self.old.zone }
         ensures err { OnErr result (self.new ≡ stopped self.old Stop.JournalFull) }
         ensures ok { IfOk result (GetsNext place self.old self.new) }
     {
-        let next = self.zone.lend_move();
-        self.round.note(&next);
+        let next = self.work.lend_next(&mut self.zone);
+        self.round.note(&next, self.work.none_found());
         let Next::Page(lent) = next? else {
             return Ok(Next::Met);
         };
@@ -194,7 +204,7 @@ impl<K: Keeping, const W: usize> Room<K, W> {
     }
 
     /// Takes the copy of a page back from a worker, and ends its move: the page is in its new frame afterwards, or in its old one where it
-    /// has a pin. Both halves are put together, which shows that nobody wrote the words that the page left. A copy is handed back
+    /// has a pin; the frame that it left is claimed where runs are emptied. Both halves are put together, which shows that nobody wrote the words that the page left. A copy is handed back
     /// unless the zone keeps the other half at its place.
     pub(crate) fn commit(
         &mut self,
@@ -212,7 +222,7 @@ impl<K: Keeping, const W: usize> Room<K, W> {
         };
         let (from, to) = copied.into_page().into_rows();
         let moved = CopiedMove::of(LentMove::of(way, half.rejoin(from), to));
-        let Ok(ended) = self.zone.commit_lent(moved) else {
+        let Ok(ended) = self.work.commit(&mut self.zone, moved) else {
             unreachable!()
         };
         self.round.count(ended);

@@ -1,20 +1,22 @@
-//! What a round did.
+//! What a round did, or the emptying of runs.
 
 ghost use Rattle.std.specs.Prelude.{◌≡◌, ◌+◌, ◌<◌, ◌^◌};
 ghost use Rattle.worker_threads.specs.Rooms.{counted, fresh_round, noted};
 
 use zone_core::{Ended, LentMove, Next, ZoneError};
 
-/// Why a round stops.
+/// Why work stops.
 #[derive(Clone, Copy, Debug, PartialEq, Eq)]
 pub enum Stop {
     /// The scanners met: there is no page that can be moved upwards.
     Met,
+    /// No page is left in the runs that can go, or there is no frame for one.
+    NoneLeft,
     /// The journal is full.
     JournalFull,
 }
 
-/// What the latest round did so far.
+/// What the latest work did so far: a round, or the emptying of runs.
 #[derive(Clone, Copy, Debug, PartialEq, Eq)]
 pub struct Round {
     /// How many pages were isolated.
@@ -28,7 +30,7 @@ pub struct Round {
 }
 
 impl Round {
-    /// A round that has done nothing yet.
+    /// Nothing is done yet.
     pub(crate) fn new() -> Self
         ensures { result ≡ fresh_round }
     {
@@ -40,14 +42,14 @@ impl Round {
         }
     }
 
-    /// Counts an isolation, or notes why there is none.
-    pub(crate) fn note(&mut self, next: &Result<Next<LentMove>, ZoneError>)
+    /// Counts an isolation, or notes why there is none: for this reason where there is no page to isolate.
+    pub(crate) fn note(&mut self, next: &Result<Next<LentMove>, ZoneError>, none: Stop)
         requires { self.old.isolated + 1 < 2 ^ 64 }
-        ensures { self.new ≡ noted self.old next.now }
+        ensures { self.new ≡ noted self.old none next.now }
     {
         match next {
             Ok(Next::Page(_)) => self.isolated += 1,
-            Ok(Next::Met) => self.stopped = Some(Stop::Met),
+            Ok(Next::Met) => self.stopped = Some(none),
             Err(_) => self.stopped = Some(Stop::JournalFull),
         }
     }

@@ -1,7 +1,7 @@
 //! Workers that stand.
 
 use super::pages::{assert_ends, assert_kept, thin, thinned};
-use super::{Runtime, Shared, Trial, adds_up, beside, refusals, tries};
+use super::{Runtime, Shared, Trial, adds_up, beside, emptying, refusals, tries};
 use std::thread;
 use worker_threads::{Crew, MemoryIdentity, NoGate, Stop, WorkError, start};
 
@@ -14,6 +14,8 @@ pub enum Meanwhile {
     IsUsed,
     /// It is called though a page is moving.
     IsBusy,
+    /// Runs are emptied between rounds.
+    EmptiesRuns,
 }
 
 /// Starts four workers of a crew, does something, and ends them.
@@ -32,6 +34,7 @@ pub fn with_workers<K: MemoryIdentity + Send + Sync, R: Runtime>(
             Meanwhile::MakesRounds => make_rounds(rt, shared, crew),
             Meanwhile::IsUsed => beside::use_and_compact(rt, shared, crew),
             Meanwhile::IsBusy => refusals::call_while_moving(rt, shared, crew),
+            Meanwhile::EmptiesRuns => emptying::empty_between_rounds(rt, shared, crew),
         }
         crew.stop(rt);
         for thread in threads {

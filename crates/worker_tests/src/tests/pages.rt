@@ -72,6 +72,17 @@ pub fn thin<K: MemoryIdentity>(rt: &impl Abort, room: &mut Room<Open<K>, 8>, tim
 pub fn thinned<const W: usize, R: Runtime>(rt: &R, places: Option<u32>) -> BareZone<W>
     requires { W ≤ 65536 }
 {
+    thinned_often(rt, places, 1)
+}
+
+/// A zone with the pages that stay so many times.
+pub fn thinned_often<const W: usize, R: Runtime>(
+    rt: &R,
+    places: Option<u32>,
+    times: u32,
+) -> BareZone<W>
+    requires { W ≤ 65536 }
+{
     let mut zone = opened(rt, places);
     for page in 0..PAGES {
         zone.map(client(rt, 0), address(rt, page), false)
@@ -87,7 +98,7 @@ pub fn thinned<const W: usize, R: Runtime>(rt: &R, places: Option<u32>) -> BareZ
         }
     }
     for page in 0..PAGES {
-        if !stays(page, 1) {
+        if !stays(page, times) {
             zone.unmap(client(rt, 0), address(rt, page))
                 .expect(rt, "a page");
         }

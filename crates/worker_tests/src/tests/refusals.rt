@@ -1,22 +1,28 @@
 //! Rounds that aren't begun, or stop early.
 
 use super::crews::{Meanwhile, with_workers};
+use super::emptying::{frame, runs_at};
 use super::pages::{assert_ends, thinned};
 use super::{Runtime, Shared, Trial, adds_up, tries};
 use std::sync::Wait;
-use worker_threads::{Crew, MemoryIdentity, NoGate, Stop, WorkError, compact};
+use worker_threads::{Crew, MemoryIdentity, NoGate, Stop, WorkError, compact, empty};
 use zone_core::{BareZone, Next, ZoneNo};
 
 /// Neither workers that are started for a round begin one, nor those that stand.
 pub fn begin_while_moving<K: MemoryIdentity + Send + Sync, R: Runtime>(rt: &R, shared: &Shared<K>) {
     let round = compact(rt, rt.alloc(), shared, 2, &NoGate);
     assert!(rt; round == Err(WorkError::Busy));
+    let runs = runs_at(rt, &[frame(rt, 0)]);
+    let done = empty(rt, rt.alloc(), shared, runs, 2, &NoGate);
+    assert!(rt; done == Err(WorkError::Busy));
     with_workers(rt, shared, &Crew::new(), Meanwhile::IsBusy);
 }
 
 pub fn call_while_moving<K: MemoryIdentity, R: Runtime>(rt: &R, shared: &Shared<K>, crew: &Crew) {
     assert!(rt; crew.compact(rt, shared) == Err(WorkError::Busy));
-    assert!(rt; shared.lock(rt).round().isolated == 0, "no round was begun");
+    let runs = runs_at(rt, &[frame(rt, 0)]);
+    assert!(rt; crew.empty(rt, shared, runs) == Err(WorkError::Busy));
+    assert!(rt; shared.lock(rt).rounds() == 0, "nothing was begun");
 }
 
 /// A round stops where the journal has no place for one more move, and each page that it isolated has moved.
