@@ -161,7 +161,10 @@ fn turn_word_ends(rt: &impl Abort, set: &mut NumberSet, table: &mut [bool])
     turn_and_ask(rt, set, table, 0, 6);
     turn_and_ask(rt, set, table, 0, 7);
     turn_and_ask(rt, set, table, 0, 7);
+    turn_and_ask(rt, set, table, 63, 0);
     turn_and_ask(rt, set, table, 96, 5);
+    turn_and_ask(rt, set, table, 0, 6);
+    turn_and_ask(rt, set, table, 0, 7);
     turn_and_ask(rt, set, table, 3_584, 9);
     turn_and_ask(rt, set, table, 4_032, 6);
     turn_and_ask(rt, set, table, 4_032, 3);
