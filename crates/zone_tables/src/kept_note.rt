@@ -107,14 +107,15 @@ impl KeptNote {
         }
     }
 
-    /// Notes that a word of the page was stored.
+    /// Notes that a word of the page was stored, where the note doesn't say so already.
     #[inline(always)]
     pub fn store(&mut self)
         ensures { self.new ≡ record self.old { dirty = true } }
     {
         let marks = self.frame.tag();
-        let clean = marks - marks / DIRTY % 2 * DIRTY;
-        self.frame = Tagged::new(self.frame.number(), clean + DIRTY);
+        if marks / DIRTY % 2 == 0 {
+            self.frame = Tagged::new(self.frame.number(), marks + DIRTY);
+        }
     }
 
     /// Notes one pin more.
