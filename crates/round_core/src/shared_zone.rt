@@ -54,7 +54,7 @@ impl<K: Keeping, I: Ledger, M: Ledger, B: Ledger> Room<K, I, M, B> {
         ensures { self.new ≡ self.old }
     {
         if let Some(before) = self.ended_before
-            && before != self.zone.bare().ended()
+            && before != self.zone.ended()
         {
             self.ended_before = None;
             ended.notify_all();
@@ -66,7 +66,7 @@ impl<K: Keeping, I: Ledger, M: Ledger, B: Ledger> Room<K, I, M, B> {
         ensures { self.new ≡ self.old }
     {
         if self.ended_before.is_none() {
-            self.ended_before = Some(self.zone.bare().ended());
+            self.ended_before = Some(self.zone.ended());
         }
     }
 }
@@ -161,7 +161,7 @@ impl<K: Keeping, I: Ledger, M: Ledger, B: Ledger> KeptZone<K, I, M, B> {
         requires keeps { K.keeps zone }
         requires told { K.told zone.records ≡ stub }
     {
-        let blocks = zone.bare().blocks();
+        let blocks = zone.blocks();
         let room = Room {
             zone,
             stub,

@@ -4,7 +4,7 @@ ghost use Rattle.frame_core.specs.Below.{lowest};
 ghost use Rattle.state_core.specs.Clear.{IsClear};
 ghost use Rattle.state_core.specs.HandingOut.{is_run, lowest_run, take_order_refusal, give_order_refusal, block_taken, block_given};
 ghost use Rattle.state_core.specs.Valid.{IsValidZone};
-ghost use Rattle.state_core.specs.Marking.{mark_refusal, unmark_refusal, block_marked, block_unmarked, marked_of};
+ghost use Rattle.state_core.specs.Marking.{mark_refusal, unmark_refusal, block_marked, block_unmarked};
 ghost use Rattle.state_core.specs.ZoneState.{is_whole};
 ghost use Rattle.zone_core.specs.ZoneIdentity.{HasIdentity};
 
@@ -101,12 +101,5 @@ impl<const W: usize, Z: Opening> ZoneInOf<W, Z> {
         ensures valid { IsValidZone self.new }
     {
         self.bare.unmark(block)
-    }
-
-    /// Whether a pageblock is marked, or none where the zone has no such pageblock.
-    pub fn marked(&self, block: BlockNo) -> Option<bool>
-        ensures { result ≡ marked_of self.now block }
-    {
-        self.bare.marked(block)
     }
 }

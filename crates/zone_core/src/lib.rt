@@ -32,7 +32,6 @@ mod outcome;
 mod rounds;
 mod seats;
 mod sharing;
-mod tables;
 mod zone;
 
 pub use agreement::{calls_agree, contents_agree, looks_agree, moves_agree, rounds_agree};

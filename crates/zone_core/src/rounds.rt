@@ -133,13 +133,6 @@ impl<const W: usize, Z: Opening> ZoneInOf<W, Z> {
         Ok(())
     }
 
-    /// How many moves have ended: those of pages that were moved, and those of pages that were put back.
-    pub fn ended(&self) -> u64
-        ensures { result ≡ moved self.now.records + put_back self.now.records }
-    {
-        self.bare.ended()
-    }
-
     /// The counts of pages isolated, moved and put back, which are those of the two seats.
     ///
     /// Refused as Missing where a part of the end seat is missing, else as Out where a page is moving.

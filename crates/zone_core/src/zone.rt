@@ -1,32 +1,28 @@
-ghost use Rattle.std.specs.Prelude.{◌≡◌, ◌+◌, ◌/◌, ◌^◌, ◌≤◌, ◌&&◌, ℕ, true, Option, Some, None, is_some, if◌then◌else◌, IfOk, IfErr, OnOk, OnErr};
+ghost use Rattle.std.specs.Prelude.{◌≡◌, ◌≤◌, ℕ, Option, Some, IfOk, IfErr, OnOk, OnErr};
 ghost use Rattle.std.specs.Int.RustNames.{bit_and};
 ghost use Rattle.zone_core.specs.Books.{AreFor};
-ghost use Rattle.state_core.specs.Clear.{BlocksAreApart, BlocksAreClear};
 ghost use Rattle.state_core.specs.Valid.{IsValidZone};
-ghost use Rattle.frame_core.specs.declared.record.Record.{Record};
-ghost use Rattle.state_core.specs.Looking.{look_of, info_of};
 ghost use Rattle.zone_core.specs.ZoneIdentity.{HasIdentity};
 ghost use Rattle.zone_core.specs.Seats.{fresh_scan_seat, fresh_end_seat};
-ghost use Rattle.state_core.specs.Packed.{IsPacked, IsPlacement, unmarked_free, marked_whole, free_runs, left_whole, left_runs, places_now};
 ghost use Rattle.state_core.specs.Pairs.{HaveMet};
-ghost use Rattle.state_core.specs.Swept.{IsSwept};
-ghost use Rattle.state_core.specs.Opening.{IsAllowed, IsOpenable, IsSize, opened_sized, opened_unrecorded, opened_with, places_of, size_of};
+ghost use Rattle.state_core.specs.Opening.{IsAllowed, IsOpenable, IsSize, opened_sized, opened_unrecorded, opened_with, places_of};
 ghost use Rattle.state_core.specs.declared.size.ZoneSize.{ZoneSize as Size};
 ghost use Rattle.std.specs.Result.{result_err};
 ghost use Rattle.state_core.specs.Mapping.{map_refusal, map_at_refusal, mapped};
 ghost use Rattle.state_core.specs.Access.{access_refusal, value_at, loaded, stored};
 ghost use Rattle.frame_core.specs.PageFlags.{is_unmovable};
-ghost use Rattle.state_core.specs.ZoneState.{frame_count, frame_for, noted, keeps_quiet, is_quiet};
+ghost use Rattle.state_core.specs.ZoneState.{frame_for};
 
 use crate::bare::BareZone;
 use crate::opening::{
     EndSeatIn, IsolatedPages, MovedPages, Opening, PagesBack, ScanSeatIn, ZoneInOf,
 };
 use crate::seats::{Blanks, EndSeat, ScanSeat};
-use frame_core::{Address, ClientNo, FrameNo, Journal, PageFlags, WordOf, ZoneNo};
-use state_core::{Info, Look, ZoneError, ZoneSize};
+use frame_core::{Address, ClientNo, FrameNo, PageFlags, WordOf, ZoneNo};
+use state_core::{ZoneError, ZoneSize};
 use std::alloc::Global;
 use std::marker::Model;
+use std::ops::Deref;
 use std::sync::ledger::{Book, Ledger};
 
 /// A zone of 1 to 32,768 pageblocks, whose pages have `W` words: a bare zone with its ledgers. Its type parameters name its opening: the
@@ -71,11 +67,13 @@ impl<const W: usize, I: Ledger, M: Ledger, B: Ledger> Model for Zone<W, I, M, B>
     ghost invariant = { λ z. AreBooks z.isolated.total z.moved.total z.back.total z.bare × AreCut I.parts M.parts B.parts × IsValidZone z.bare };
 }
 
-impl<const W: usize, I: Ledger, M: Ledger, B: Ledger> Zone<W, I, M, B> {
-    /// The zone without its ledgers, to be asked what only a bare zone answers.
-    pub fn bare(&self) -> &BareZone<W>
-        ensures { result.now ≡ self.now }
-    {
+// What changes nothing is asked of the zone without its ledgers.
+impl<const W: usize, I: Ledger, M: Ledger, B: Ledger> Deref for Zone<W, I, M, B> {
+    type Target = BareZone<W>;
+
+    ghost deref_gives = { λ zone bare. bare ≡ zone };
+
+    fn deref(&self) -> &BareZone<W> {
         &self.bare
     }
 }
@@ -266,82 +264,5 @@ impl<const W: usize, Z: Opening> ZoneInOf<W, Z> {
         ensures valid { IsValidZone self.new }
     {
         self.bare.store(client, address, word, value)
-    }
-
-    /// What is known of the page that an address names: its frame and flags, or its serial while it is moving, and how many pins and
-    /// addresses it has.
-    ///
-    /// Refused as Unmapped.
-    pub fn look(&self, address: Address) -> Result<Look, ZoneError>
-        ensures refused { result_err result ≡ (if is_some (look_of self.now address) then None else Some ZoneError.Unmapped) }
-        ensures value { IfOk result (λ look. look_of self.now address ≡ Some look) }
-    {
-        self.bare.look(address)
-    }
-
-    /// Whether the latest round is still quiet. It is where no page was out when it began, no unmarked pageblock had a page
-    /// that was pinned or unmovable or a frame that was handed out, and since then the only calls that left records were
-    /// loads, stores, isolations and moves.
-    pub fn quiet(&self) -> bool
-        ensures value { result ≡ is_quiet self.now }
-        // The records of a load, a store, an isolation and a move leave it quiet, and each other record ends that.
-        ensures next { (entry : Record) → is_quiet (noted self.now entry) ≡ (result && keeps_quiet entry) }
-        // While it is quiet, no frame of an unmarked pageblock holds a page below the migrate finger, and none is free from
-        // the free finger on.
-        ensures swept { result ≡ true → IsSwept self.now }
-    {
-        self.bare.quiet()
-    }
-
-    /// The number that the zone was opened with.
-    pub fn number(&self) -> ZoneNo
-        ensures { result ≡ self.now.number }
-    {
-        self.bare.number()
-    }
-
-    /// How many pageblocks the zone has, 1 to 32,768.
-    pub fn blocks(&self) -> u32
-        ensures blocks { result ≡ self.now.blocks }
-        ensures valid { IsValidZone self.now }
-    {
-        self.bare.blocks()
-    }
-
-    /// How large the zone is: its pageblocks, its address spaces and the virtual pages of each.
-    pub fn size(&self) -> ZoneSize
-        ensures { result ≡ size_of self.now }
-    {
-        self.bare.size()
-    }
-
-    /// The counts of the zone.
-    pub fn info(&self) -> Info
-        ensures counts { result ≡ info_of self.now }
-        // Each frame is free, or of a page, or of a block that is handed out; a moving page has two frames.
-        ensures sum { result.free + result.pages + result.moving + result.held ≡ frame_count self.now }
-        // A packed zone has as many whole pageblocks, and as many free aligned runs of an order, as its free frames can make.
-        ensures whole { IsPacked self.now → result.whole ≡ unmarked_free self.now / 512 + marked_whole self.now }
-        ensures runs { IsPacked self.now → (order : ℕ) → order ≤ 9 → free_runs self.now (2 ^ order) ≡ unmarked_free self.now / 2 ^ order }
-        // No other placement of its pages, where none is moving, has more of either.
-        ensures most_whole { IsPacked self.now → result.moving ≡ 0 → (place : ℕ → Option ℕ) → IsPlacement self.now place
-            → left_whole self.now place ≤ result.whole }
-        ensures most_runs { IsPacked self.now → result.moving ≡ 0 → (place : ℕ → Option ℕ) → IsPlacement self.now place
-            → (order : ℕ) → order ≤ 9 → left_runs self.now place (2 ^ order) ≤ free_runs self.now (2 ^ order) }
-        ensures placement { result.moving ≡ 0 → IsPlacement self.now (places_now self.now) }
-    {
-        self.bare.info()
-    }
-
-    /// The journal of the zone. Whoever holds the zone finds it valid: each load in the journal gave the value that was stored last.
-    pub fn journal(&self) -> &Journal
-        ensures records { result.now.records ≡ self.now.records }
-        ensures room { result.now.room ≡ self.now.room }
-        ensures valid { IsValidZone self.now }
-        // No page or address has a frame of a block that is handed out, and no two such blocks share a frame.
-        ensures clear { BlocksAreClear self.now }
-        ensures apart { BlocksAreApart self.now }
-    {
-        self.bare.journal()
     }
 }
