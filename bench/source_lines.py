@@ -13,7 +13,7 @@ import re
 ROOT = pathlib.Path(__file__).resolve().parent.parent
 GROUPS = {
     "`keeper_core`, `keeper_thread`, `worker_threads`, `compactd_c`": ("keeper_core", "keeper_thread", "worker_threads", "compactd_c"),
-    "tests": ("zone_tests", "hand_tests", "keeper_tests", "worker_tests", "round_tests", "script_tests"),
+    "tests": ("memory_tests", "zone_tests", "hand_tests", "keeper_tests", "worker_tests", "round_tests", "script_tests"),
     "examples, pictures, measurements": ("first_pool", "vm_pool", "buffer_pool", "slot_cache", "zone_picture", "benches"),
 }
 PROGRAM = "the program and its libraries"

@@ -36,8 +36,6 @@ mod record;
 mod seen;
 mod state;
 mod tagged;
-#[cfg(test)]
-mod tests;
 mod words;
 
 pub use access::{Access, AccessKind};

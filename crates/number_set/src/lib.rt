@@ -9,8 +9,6 @@
 
 mod number_set;
 mod one_level;
-#[cfg(test)]
-mod tests;
 mod two_levels;
 mod upper_levels;
 mod word;

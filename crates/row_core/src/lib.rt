@@ -23,8 +23,6 @@ mod half;
 mod held_words;
 mod right;
 mod row;
-#[cfg(test)]
-mod tests;
 
 pub use ground::Ground;
 pub use half::Half;

@@ -9,9 +9,13 @@ use Rattle.state_core.specs.declared.error.ZoneError.{ZoneError}
 use Rattle.state_core.specs.declared.error.ZoneError.TheVariants.{Range, JournalFull, NoBlock, NotHuge, Lent}
 use Rattle.state_core.specs.ZoneState.{ZoneState, frame_count, has_room, is_free, noted}
 
--- whether a block of this order may begin at a frame: it is aligned, and all of it is in the zone
+-- whether a block of this order may begin at a frame, where there are so many: it is aligned, and all of it is there
+abbrev pub is_block_start : ℕ → ℕ → ℕ → Bool
+is_block_start frames order first = is_aligned order first && nat_le (first + 2 ^ order) frames
+
+-- whether it may in the zone
 abbrev pub has_block : ZoneState → ℕ → ℕ → Bool
-has_block z order first = is_aligned order first && nat_le (first + 2 ^ order) (frame_count z)
+has_block z order first = is_block_start (frame_count z) order first
 
 -- whether a block of this order may begin at a frame, and all of its frames are free
 abbrev pub is_run : ZoneState → ℕ → ℕ → Bool

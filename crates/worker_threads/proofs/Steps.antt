@@ -27,7 +27,7 @@ use Rattle.state_core.specs.ZoneState.{ZoneState, is_quiet}
 use Rattle.state_core.proofs.Holding.{holder_found}
 use Rattle.state_core.proofs.LentMoves.{lent_after_lent_commit, lent_begun, lent_beside, lent_kept}
 use Rattle.state_core.proofs.Pairing.{no_pair, pair_found}
-use Rattle.worker_threads.specs.Runs.{is_block_start}
+use Rattle.state_core.specs.HandingOut.{is_block_start}
 use Rattle.worker_threads.specs.Work.{AreRuns, first_move, move_out, next_move, none_found, page_ended, page_sent, pair_of, run_refusal, runs_claimed, still_left, work_begun, work_left, work_refusal}
 use Rattle.worker_threads.specs.declared.round.Stop.TheVariants as stop
 use Rattle.worker_threads.specs.declared.work.Work.{Work}

@@ -1,7 +1,7 @@
 use Rattle.std.proofs.Common.{◌≡◌, ◌<◌, ℕ, true}
 use Rattle.std.specs.Prelude.{get_or}
 use Rattle.state_core.specs.ZoneState.{frame_count}
-use Rattle.worker_threads.specs.Runs.{is_block_start}
+use Rattle.state_core.specs.HandingOut.{is_block_start}
 use Rattle.worker_threads.proofs.runs.Runs.are_blocks.Given as goal
 
 abbrev pub invariant-loop-place : goal.invariant-loop-place

@@ -6,7 +6,7 @@ use Rattle.state_core.specs.LentMoves.{LentMove, lend_move_refusal}
 use Rattle.state_core.specs.ZoneState.{frame_count}
 use Rattle.state_core.specs.declared.error.ZoneError.{ZoneError}
 use Rattle.state_core.specs.declared.moves.Next.{Next}
-use Rattle.worker_threads.specs.Runs.{is_block_start}
+use Rattle.state_core.specs.HandingOut.{is_block_start}
 use Rattle.worker_threads.specs.Work.{still_left}
 use Rattle.worker_threads.proofs.Steps.{in_block, next_left, with_first}
 use Rattle.worker_threads.proofs.runs.Runs.lend_next.Goals as goal

@@ -1,7 +1,9 @@
+//! Rows are lent, cut, halved, held and taken back.
+
 ghost use Rattle.std.specs.Prelude.{◌≡◌, ◌+◌, ◌^◌, ◌<◌, length};
 ghost use Rattle.row_core.specs.Parts.{AreHere};
 
-use crate::{Ground, Half, HeldWords, Row};
+use row_core::{Ground, Half, HeldWords, Row};
 use std::alloc::Global;
 use std::process::Abort;
 
@@ -9,7 +11,7 @@ use std::process::Abort;
 fn crosses<T: Send + Sync>(_value: &T) {}
 
 /// Two rows of this size are lent, copied, halved and taken back.
-#[tactic(auto, using(crate::proofs::Lists::part_here))]
+#[tactic(auto, using(row_core::proofs::Lists::part_here))]
 fn lend_two(rt: &impl Abort, alloc: Global, size: usize)
     requires { size < 2 ^ 16 }
 {
@@ -36,7 +38,7 @@ fn rows_of_each_size_come_back(rt: HostRuntime) {
 }
 
 /// Half of a ground's words are given to another ground, which clears them and gives them back.
-#[tactic(auto, using(crate::proofs::Lists::part_here))]
+#[tactic(auto, using(row_core::proofs::Lists::part_here))]
 fn give_half(rt: &impl Abort, alloc: Global, size: usize)
     requires { size < 2 ^ 16 }
 {
@@ -69,7 +71,7 @@ fn rows_that_are_given_come_back(rt: HostRuntime) {
 }
 
 /// A part of this size is changed, and copied into the part after it.
-#[tactic(auto, using(crate::proofs::Lists::part_here))]
+#[tactic(auto, using(row_core::proofs::Lists::part_here))]
 fn copy_one(ground: &mut Ground, size: usize)
     requires small { size < 2 ^ 16 }
     requires words { length ground.old.words ≡ size + size }

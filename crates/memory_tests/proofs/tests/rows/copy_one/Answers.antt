@@ -1,6 +1,6 @@
 use Rattle.std.proofs.Common.{◌+◌, arith}
 use Rattle.row_core.proofs.Lists.{part_here}
-use Rattle.row_core.proofs.tests.copy_one.Goals as goal
+use Rattle.memory_tests.proofs.tests.rows.copy_one.Goals as goal
 
 pub copy_within-requires-clause-source : goal.copy_within-requires-clause-source
 copy_within-requires-clause-source c =

@@ -1,7 +1,7 @@
 use Rattle.std.proofs.Common.{◌*◌, length, refl, sym, ap, ◌∙◌, arith}
 use denote.RawPtr.{◌+ₚ◌}
 use Rattle.std.specs.List.{length_refill}
-use Rattle.frame_core.proofs.tests.lend_one.Goals as goal
+use Rattle.memory_tests.proofs.tests.words.lend_one.Goals as goal
 
 pub take_block_back-requires : goal.take_block_back-requires
 take_block_back-requires g c =

@@ -2,7 +2,7 @@
 
 ghost use Rattle.std.specs.Prelude.{◌≡◌, ◌+◌, ◌%◌, ◌^◌, ◌<◌, ◌≤◌, length};
 
-use crate::NumberSet;
+use number_set::NumberSet;
 use std::alloc::Global;
 use std::process::Abort;
 
@@ -56,27 +56,17 @@ fn agree(rt: &impl Abort, set: &NumberSet, table: &[bool], bound: u32, number: u
     requires table { length table.now ≡ bound }
     requires set { bound ≤ set.now.bound }
 {
-    assert_eq!(rt;
-        set.contains(number),
-        table[number as usize],
-        "contains {number}"
+    assert!(rt; set.contains(number) == table[number as usize], "contains");
+    assert!(rt; set.first() == lowest(table, 0, bound), "first");
+    assert!(rt; set.last() == highest(table, bound), "last");
+    assert!(rt;
+        set.after(number) == lowest(table, number + 1, bound),
+        "after"
     );
-    assert_eq!(rt; set.first(), lowest(table, 0, bound), "first");
-    assert_eq!(rt; set.last(), highest(table, bound), "last");
-    assert_eq!(rt;
-        set.after(number),
-        lowest(table, number + 1, bound),
-        "after {number}"
-    );
-    assert_eq!(rt;
-        set.before(number),
-        highest(table, number),
-        "before {number}"
-    );
-    assert_eq!(rt;
-        set.at_or_after(number),
-        lowest(table, number, bound),
-        "at or after {number}"
+    assert!(rt; set.before(number) == highest(table, number), "before");
+    assert!(rt;
+        set.at_or_after(number) == lowest(table, number, bound),
+        "at or after"
     );
 }
 
@@ -123,20 +113,14 @@ fn turn_and_ask(rt: &impl Abort, set: &mut NumberSet, table: &mut [bool], first:
     let had = set.has_run(first, order);
     let end = first + (1 << order);
     let run = &mut table[first as usize..end as usize];
-    assert_eq!(rt;
-        had,
-        run.iter().all(|member| *member),
-        "run {first} {order}"
+    assert!(rt; had == run.iter().all(|member| *member), "run");
+    assert!(rt;
+        set.count_run(first, order) as usize == run.iter().filter(|member| **member).count(),
+        "count"
     );
-    assert_eq!(rt;
-        set.count_run(first, order) as usize,
-        run.iter().filter(|member| **member).count(),
-        "count {first} {order}"
-    );
-    assert_eq!(rt;
-        set.count_from(first, end - first),
-        set.count_run(first, order),
-        "count from {first} {order}"
+    assert!(rt;
+        set.count_from(first, end - first) == set.count_run(first, order),
+        "count from"
     );
     run.fill(!had);
     if had {
@@ -191,10 +175,9 @@ fn counts_small_runs(rt: HostRuntime) {
         let runs = table
             .chunks_exact(1 << order)
             .filter(|run| run.iter().all(|member| *member));
-        assert_eq!(rt;
-            set.count_runs(order) as usize,
-            runs.count(),
-            "runs of order {order}"
+        assert!(rt;
+            set.count_runs(order) as usize == runs.count(),
+            "runs of order"
         );
     }
 }
@@ -218,5 +201,5 @@ fn finds_what_three_sets_lack(rt: HostRuntime) {
         first.first_outside(&second, &third, 300, 256),
     ];
     let wanted = [Some(129), None, Some(130), Some(191), None, None];
-    assert_eq!(rt; found, wanted, "outside of three sets");
+    assert!(rt; found == wanted, "outside of three sets");
 }

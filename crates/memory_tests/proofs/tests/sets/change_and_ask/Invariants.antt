@@ -1,5 +1,5 @@
 use Rattle.std.proofs.Common.{◌≡◌, ◌≤◌, length}
-use Rattle.number_set.proofs.tests.change_and_ask.Given as goal
+use Rattle.memory_tests.proofs.tests.sets.change_and_ask.Given as goal
 
 -- the set keeps its bound, and the table its length
 abbrev pub invariant-loop : goal.invariant-loop

@@ -1,7 +1,9 @@
+//! Words of frames are lent.
+
 ghost use Rattle.std.specs.Prelude.{◌⊎◌, ◌+◌, ◌<◌, ◌≤◌, length};
 ghost use Rattle.frame_core.specs.LentWords.{NoneLent};
 
-use crate::{FrameNo, WordNo, Words};
+use frame_core::{FrameNo, WordNo, Words};
 use std::process::Abort;
 
 /// A block is lent and written through its row, while a word of a frame beside it is stored. Then its row comes back.

@@ -1,0 +1,3 @@
+mod rows;
+mod sets;
+mod words;
