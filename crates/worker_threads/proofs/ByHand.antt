@@ -63,7 +63,7 @@ module _ (start z : ZoneState) (done : Result Round WorkError) (law : OnOk done 
   -- the emptying of runs
   module _ (runs : Runs) (blocks : AreBlocks (frame_count start) runs) where
     abbrev OnlyEmptying : Round → Type 0
-    OnlyEmptying = IsOnlyRound (λ work rounds w. KeepsEmptied (unlent start) runs work rounds (unlent w)) (λ work rounds n reason. StopsEmptied work reason) z
+    OnlyEmptying = IsOnlyRound (λ work rounds w. KeepsEmptied (unlent start) runs work rounds (unlent w)) (StopsEmptied (unlent start) runs) z
 
     pub exact_emptying : IfOk done OnlyEmptying → IfOk done (λ round. WasEmptied (unlent start) runs (unlent z) round.stopped)
     exact_emptying = by done law rest where

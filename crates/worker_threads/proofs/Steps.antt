@@ -28,17 +28,13 @@ use Rattle.state_core.proofs.Holding.{holder_found}
 use Rattle.state_core.proofs.LentMoves.{lent_after_lent_commit, lent_begun, lent_beside, lent_kept}
 use Rattle.state_core.proofs.Pairing.{no_pair, pair_found}
 use Rattle.state_core.specs.HandingOut.{is_block_start}
+use Rattle.worker_threads.specs.AloneLaws.{none_there, pair_is}
 use Rattle.worker_threads.specs.Work.{AreRuns, first_move, move_out, next_move, none_found, page_ended, page_sent, pair_of, run_refusal, runs_claimed, still_left, work_begun, work_left, work_refusal}
 use Rattle.worker_threads.specs.declared.round.Stop.TheVariants as stop
 use Rattle.worker_threads.specs.declared.work.Work.{Work}
 use Rattle.worker_threads.specs.declared.work.Work.TheVariants.{Compact, Empty}
 use Rattle.worker_threads.proofs.Called.{IsShaped}
 use Rattle.worker_threads.proofs.Meeting.{loud_back, quiet_committed, quiet_isolated}
-
--- the pair of a move that is found
-pub pair_is : (o : Option Pair) (m : Move) → option_map move_of o ≡ Some m → o ≡ Some (pair_of m)
-pair_is None m found = cc
-pair_is (Some pair) m found = (let same : move_of pair ≡ m = cc in λ i. Some (record { page = (same i).page; source = (same i).source; target = (same i).target }))
 
 -- the page of the next move rests in its source
 held_between : (z : ZoneState) (source target : Option ℕ) (m : Move) → move_between z source target ≡ Some m → map.get z.placement m.page ≡ Some (At m.source)
@@ -192,8 +188,5 @@ none_found_left (Empty runs) z = refl
 
 -- the scanners have met where that is why
 pub met_if_none : (work : Work) (z : ZoneState) → IsValidZone z → next_move work z ≡ None → none_found work ≡ stop.Met → HaveMet z
-met_if_none Compact z law none why = no_pair z law (none_there (next_pair z) none) where
-  none_there : (o : Option Pair) → option_map move_of o ≡ None → o ≡ None
-  none_there None none = refl
-  none_there (Some pair) none = cc
+met_if_none Compact z law none why = no_pair z law (none_there (next_pair z) none)
 met_if_none (Empty runs) z law none why = cc

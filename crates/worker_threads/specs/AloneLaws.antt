@@ -40,6 +40,15 @@ use Rattle.zone_core.proofs.Scanner.{refusal_same}
 pub valid_unlent : (z : ZoneState) → IsValidZone z → IsValidZone (unlent z)
 valid_unlent z law = valid_loans z law set.empty (λ page lent. absurd (both_ways _ (set.contains-empty nat_cmp page) lent))
 
+-- the pair of a move that is found, or there is none
+pub pair_is : (o : Option Pair) (m : Move) → option_map move_of o ≡ Some m → o ≡ Some (pair_of m)
+pair_is None m found = cc
+pair_is (Some pair) m found = (let same : move_of pair ≡ m = cc in λ i. Some (record { page = (same i).page; source = (same i).source; target = (same i).target }))
+
+pub none_there : (o : Option Pair) → option_map move_of o ≡ None → o ≡ None
+none_there None none = refl
+none_there (Some pair) none = cc
+
 -- a page is isolated, and its move ends
 pub unlent_pair : (z : ZoneState) (pair : Pair) → isolate_refusal z ≡ None → next_pair z ≡ Some pair → scan_pair (unlent z) ≡ Some pair
 unlent_pair z pair accepted found = ap (λ o. if is_none o then next_pair z else None) accepted ∙ found
@@ -130,11 +139,6 @@ module _ (start : ZoneState) where
   round_begins work Compact rounds z is law keeps = record { is_round = refl; keeps = first_begins start rounds (unlent z) (valid_unlent z law) keeps.keeps }
   round_begins work (Empty runs) rounds z is law keeps = never_empty runs is
 
-  -- the pair of a move that is found
-  pair_is : (o : Option Pair) (m : Move) → option_map move_of o ≡ Some m → o ≡ Some (pair_of m)
-  pair_is None m found = cc
-  pair_is (Some pair) m found = (let same : move_of pair ≡ m = cc in λ i. Some (record { page = (same i).page; source = (same i).source; target = (same i).target }))
-
   pub round_takes : (work : Work) (rounds : ℕ) (z : ZoneState) (m : Move) → 0 < rounds → IsValidZone z → isolate_refusal z ≡ None → next_move work z ≡ Some m → KeepsRound start work rounds (unlent z) → KeepsRound start (work_left work z) rounds (unlent (page_sent work z m))
   round_takes Compact rounds z m some law accepted found keeps = record {
     is_round = refl;
@@ -147,10 +151,6 @@ module _ (start : ZoneState) where
   round_finds_none (Empty runs) rounds z keeps = never_empty runs keeps.is_round
 
   -- no pair is found where none is there, or where the isolation is refused
-  none_there : (o : Option Pair) → option_map move_of o ≡ None → o ≡ None
-  none_there None none = refl
-  none_there (Some pair) none = cc
-
   pub round_stops : (work : Work) (rounds : ℕ) (z : ZoneState) → work_refusal work z ≡ None → next_move work z ≡ None → KeepsRound start work rounds (unlent z) → StopsAlone start rounds (isolated z.records) (none_found work)
   round_stops Compact rounds z accepted none keeps =
       subst (StopsAlone start rounds (isolated z.records)) (ap (stop_for Compact) accepted)

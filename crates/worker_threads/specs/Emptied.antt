@@ -1,13 +1,15 @@
 -- Runs that one thread empties, page after page, and how a zone stands to that whose runs workers empty.
-use Rattle.std.specs.Prelude.{◌≡◌, ⊤, ℕ, zero, suc, ◌+◌, ◌^◌, ◌≤◌, Bool, true, false, ◌&&◌, ◌||◌, nat_eq, List, [], length, Option, Some, None, IsSome}
+use Rattle.std.specs.Prelude.{◌≡◌, ⊤, ℕ, zero, suc, ◌+◌, ◌-◌, ◌*◌, ◌^◌, ◌<◌, ◌≤◌, Bool, true, false, ◌&&◌, ◌||◌, nat_eq, List, [], length, Option, Some, None, IsSome}
 use Rattle.std.specs.FinMap as map
 use Rattle.std.specs.FinSet as set
 use Rattle.frame_core.specs.Below.{count_below, some_below}
 use Rattle.frame_core.specs.History.{pins}
-use Rattle.frame_core.specs.Moves.{moved, out, put_back}
+use Rattle.frame_core.specs.Moves.{isolated, moved, out, put_back}
 use Rattle.state_core.specs.Claiming.{claimed_at}
+use Rattle.state_core.specs.declared.error.ZoneError.TheVariants.{JournalFull}
 use Rattle.state_core.specs.declared.placement.Placement.{Placement}
 use Rattle.state_core.specs.declared.placement.Placement.TheVariants.{At, Moving}
+use Rattle.state_core.specs.Isolating.{isolate_refusal}
 use Rattle.state_core.specs.Valid.{IsValidZone}
 use Rattle.state_core.specs.ZoneState.{ZoneState, frame_count, is_free}
 use Rattle.fewest_core.specs.Claims.{highest_vacant, may_go}
@@ -19,7 +21,7 @@ use Rattle.worker_threads.specs.Work.{first_move, runs_claimed, still_left}
 use Rattle.worker_threads.specs.declared.round.Stop.{Stop}
 use Rattle.worker_threads.specs.declared.round.Stop.TheVariants as stop
 use Rattle.worker_threads.specs.declared.work.Work.{Work}
-use Rattle.worker_threads.specs.declared.work.Work.TheVariants.{Empty}
+use Rattle.worker_threads.specs.declared.work.Work.TheVariants.{Compact, Empty}
 use Rattle.zone_core.specs.Alone.{IsAtRest}
 use Rattle.zone_core.specs.Outcome.{IsSame, outcome_of}
 
@@ -84,6 +86,10 @@ pub record HasComeTo (start : ZoneState) (runs : Runs) (left : List ℕ) (z : Zo
 abbrev pub to_go : (ℕ → Bool) → ZoneState → ℕ
 to_go is_in z = count_below (λ frame. is_in frame && may_go z frame) (frame_count z)
 
+-- the places that a journal has for moves: two for each that was begun, and what is left once each of them has its end
+abbrev pub places_for_moves : ZoneState → ℕ
+places_for_moves z = z.room - length (out z.records) + 2 * isolated z.records
+
 -- What the lock of a zone keeps while workers empty runs of it, where nobody else has the zone.
 
 -- the work, of which this is left, has come as far as one thread that moved some pages
@@ -92,6 +98,7 @@ pub record IsEmptied (start : ZoneState) (runs : Runs) (work : Work) (z : ZoneSt
   pub work_is : work ≡ Empty (record { order = runs.order; left = left })
   pub pages : ℕ
   pub come : HasComeTo start runs left z pages
+  pub places : places_for_moves z ≡ places_for_moves start
 
 -- it hasn't begun, or it is under way; of later work nothing is kept
 abbrev pub KeepsFirstWork : ZoneState → Runs → Work → ℕ → ZoneState → Type 0
@@ -103,10 +110,17 @@ KeepsFirstWork start runs work (suc (suc more)) z = ⊤
 abbrev pub KeepsEmptied : ZoneState → Runs → Work → ℕ → ZoneState → Type 0
 KeepsEmptied start runs work rounds z = IsAtRest start → AreBlocks (frame_count start) runs → KeepsFirstWork start runs work rounds z
 
--- where no page is left that can go, no run is left
-abbrev pub StopsEmptied : Work → Stop → Type 0
-StopsEmptied (Empty runs) stop.NoneLeft = runs.left ≡ []
-StopsEmptied work reason = ⊤
+-- no run is left of the work
+abbrev pub HasNoRun : Work → Type 0
+HasNoRun Compact = ⊤
+HasNoRun (Empty runs) = runs.left ≡ []
+
+-- work stops where no page is left that can go, and then no run is left; or, where this is the first work, once the journal has too few places
+-- for a move more than were begun
+abbrev pub StopsEmptied : ZoneState → Runs → Work → ℕ → ℕ → Stop → Type 0
+StopsEmptied start runs work rounds count stop.NoneLeft = HasNoRun work
+StopsEmptied start runs work rounds count stop.JournalFull = rounds ≡ 1 → IsAtRest start → AreBlocks (frame_count start) runs → places_for_moves start < 2 * count + 2
+StopsEmptied start runs work rounds count stop.Met = ⊤
 
 -- workers emptied runs: the zone is the one after one thread moved so many pages out of them, but for the order in which moves ended; where
 -- the workers stopped since no page is left, no run is left to that thread either
@@ -116,5 +130,7 @@ pub record WasEmptied (start : ZoneState) (runs : Runs) (z : ZoneState) (reason 
   pub none_left : reason ≡ Some stop.NoneLeft → (pages_out (2 ^ runs.order) pages (emptying_begun runs start)).left ≡ []
   -- then, as long as a frame is vacant still, each page that could go was moved, and once
   pub moved : reason ≡ Some stop.NoneLeft → IsSome (highest_vacant z) → moved z.records ≡ moved start.records + to_go (is_in_runs runs.left (2 ^ runs.order)) start
+  -- and where they stopped since the journal is full, it has no places for another move; nor has that thread's, which has as many left
+  pub full : reason ≡ Some stop.JournalFull → isolate_refusal z ≡ Some JournalFull
   -- of the cheapest runs, where so many are open, these are the fewest pages that so many runs have
   pub least : ArePicked start runs.order runs.left → length runs.left ≤ length (costs start (2 ^ runs.order)) → to_go (is_in_runs runs.left (2 ^ runs.order)) start ≡ least (length runs.left) start (2 ^ runs.order)

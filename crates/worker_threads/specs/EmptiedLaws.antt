@@ -43,7 +43,7 @@ use Rattle.fewest_core.proofs.OpenRuns.{block_within}
 use Rattle.fewest_core.proofs.Reached.{HasOwnFrames, own_if_valid, source_unused}
 use Rattle.worker_threads.specs.Alone.{unlent}
 use Rattle.worker_threads.specs.AloneLaws.{valid_unlent}
-use Rattle.worker_threads.specs.Emptied.{AreGoingOut, ComesTo, Emptying, HasComeTo, emptying_begun, is_leaving, is_left, moved_out_by, page_out, pages_out, to_go}
+use Rattle.worker_threads.specs.Emptied.{AreGoingOut, ComesTo, Emptying, HasComeTo, emptying_begun, is_leaving, is_left, moved_out_by, page_out, pages_out, places_for_moves, to_go}
 use Rattle.worker_threads.specs.Runs.{AreBlocks, Runs}
 use Rattle.worker_threads.specs.Work.{first_move, move_out, page_ended, runs_claimed, still_left, work_begun}
 use Rattle.worker_threads.specs.declared.work.Work.TheVariants.{Empty}
@@ -512,6 +512,13 @@ module _ (size : ℕ) where
   records_same [] z = refl
   records_same (first ∷ firsts) z = records_same firsts (run_claimed first size z)
 
+  room_same : (firsts : List ℕ) (z : ZoneState) → (runs_claimed size firsts z).room ≡ z.room
+  room_same [] z = refl
+  room_same (first ∷ firsts) z = room_same firsts (run_claimed first size z)
+
+  pub places_claimed : (firsts : List ℕ) (z : ZoneState) → places_for_moves (runs_claimed size firsts z) ≡ places_for_moves z
+  places_claimed firsts z = λ i. room_same firsts z i - length (out (records_same firsts z i)) + 2 * isolated (records_same firsts z i)
+
   pub unlent_claimed : (firsts : List ℕ) (z : ZoneState) → unlent (runs_claimed size firsts z) ≡ runs_claimed size firsts (unlent z)
   unlent_claimed [] z = refl
   unlent_claimed (first ∷ firsts) z = unlent_claimed firsts (run_claimed first size z)
@@ -618,6 +625,9 @@ module _ (start : ZoneState) (runs : Runs) (left : List ℕ) (z : ZoneState) (n 
       one_more (unlent (sent z m)) (subst (λ (o : Option Move). ComesTo is_theirs (moved_out_by one_thread.zone o) (unlent (sent z m))) (sym next)
       (comes_sent is_theirs one_thread.zone (unlent z) come.comes found.0 (frames_of runs) in_first m there accepted))
 
+  pub places_sent : (m : Move) → isolate_refusal z ≡ None → places_for_moves (unlent (sent z m)) ≡ places_for_moves (unlent z)
+  places_sent m accepted = (let enough = room_for_two z accepted in omega (arith, enough))
+
   -- or none is left to send
   pub sends_none : move_out (frames_of runs) z left ≡ None → HasComeTo start runs (still_left (frames_of runs) z left) (unlent z) (n + 1) × (still_left (frames_of runs) z left ≡ [])
   sends_none none = (
@@ -642,6 +652,13 @@ module _ (start : ZoneState) (runs : Runs) (left : List ℕ) (z : ZoneState) (n 
       left_is = come.left_is;
       comes = subst (ComesTo is_theirs one_thread.zone) (sym (ended_zone (nat_eq (pins z.records page) 0) unpinned)) (comes_ended is_theirs one_thread.zone (unlent z) come.comes (valid_unlent z law) page serial source target at);
     }
+
+    pub places_ended : places_for_moves (unlent (page_ended (Empty runs) z serial page source)) ≡ places_for_moves (unlent z)
+    places_ended =
+        let fewer = out_fewer z page serial source target law at in
+        let left = law.journal.room_left in
+        let ended : places_for_moves (claimed_at (moved_to_target (unlent z) serial page) source) ≡ places_for_moves (unlent z) = omega (arith, fewer, left) in
+        ap places_for_moves (ended_zone (nat_eq (pins z.records page) 0) unpinned) ∙ ended
 
   -- where no page is out any more, the zone is the one after as many pages went by one thread
   pub emptied_same : IsValidZone z → out z.records ≡ [] → IsSame one_thread.zone (unlent z)

@@ -84,7 +84,7 @@ impl<K: RunsIdentity> MemoryIdentity for Emptying<K> {
 impl<K: RunsIdentity> Keeping for Emptying<K> {
     ghost keeps = { λ work rounds z. KeepsEmptied (unlent K.start) K.runs work rounds (unlent z) };
 
-    ghost stops_at = { λ work rounds n reason. StopsEmptied work reason };
+    ghost stops_at = { StopsEmptied (unlent K.start) K.runs };
 
     ghost allows = { λ client. ⊥ };
 
@@ -96,11 +96,11 @@ impl<K: RunsIdentity> Keeping for Emptying<K> {
 
     ghost finds_none = { λ work rounds z begun law accepted none keeps. emptying_finds_none (unlent K.start) K.runs work rounds z begun none keeps };
 
-    ghost stops = { λ work rounds z law accepted none keeps. stops_left work z none };
+    ghost stops = { λ work rounds z law accepted none keeps. stops_left (unlent K.start) K.runs work rounds z none };
 
-    ghost fills = { λ work rounds z error law refused keeps. fills_left work };
+    ghost fills = { λ work rounds z error law refused keeps. fills_left (unlent K.start) K.runs work rounds z error refused keeps };
 
-    ghost goes_on = { λ work rounds z m stop begun law accepted found keeps stopped. goes_on_left work z m stop found stopped };
+    ghost goes_on = { λ work rounds z m stop begun law accepted found keeps stopped. goes_on_left (unlent K.start) K.runs work rounds z m stop found stopped };
 
     ghost commits = { λ work rounds z page serial source target law at keeps. emptying_commits (unlent K.start) K.runs work rounds z page serial source target law at keeps };
 

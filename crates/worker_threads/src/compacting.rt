@@ -14,6 +14,7 @@ use crate::runs::Runs;
 use crate::work::Work;
 use crate::worker::{Hands, work};
 use std::alloc::{AllocError, Global};
+use std::marker::Model;
 use std::sync::Wait;
 use std::thread;
 use std::thread::{JoinHandle, Scope, Threads};
@@ -24,6 +25,18 @@ struct Hired<K: Keeping, const W: usize> {
     own: Hands<K, W>,
     others: Vec<Hands<K, W>>,
     threads: Vec<JoinHandle<bool>>,
+}
+
+// No worker has a page, no thread was started, and there is room for the handles of all.
+impl<K: Keeping, const W: usize> Model for Hired<K, W> {
+    ghost use Rattle.std.specs.Prelude.{◌≡◌, ◌≤◌, ⊤, All, [], vec_len, vec_capacity};
+    ghost use Rattle.worker_threads.specs.Hands.{AreEmpty};
+
+    ghost Value = { ⊤ };
+
+    ghost view = { λ h. tt };
+
+    ghost invariant = { λ h. AreEmpty h.own × All AreEmpty h.others.items × (vec_len h.others ≤ vec_capacity h.threads) × (h.threads.items ≡ []) };
 }
 
 /// Moves what can be moved, with so many workers, 1 to 64, of which the thread of the caller is one. Where a thread can't be started, fewer
@@ -92,7 +105,6 @@ fn reserve<K: Keeping, const W: usize>(
     workers: usize,
 ) -> Result<Hired<K, W>, AllocError>
     requires { (0 < workers) × (workers ≤ 64) }
-    ensures { IfOk result (λ crew. AreEmpty crew.own × All AreEmpty crew.others.items × (vec_len crew.others ≤ vec_capacity crew.threads) × (crew.threads.items ≡ [])) }
 {
     let own = Hands::new(alloc, 0)?;
     let others = Hands::of_workers(alloc, 1, workers)?;
@@ -147,14 +159,11 @@ fn in_scope<K: Keeping + Send + Sync, const W: usize, G: Gate, R: Threads + Wait
     crew: Hired<K, W>,
     gate: &G,
 ) -> bool
-    requires { AreEmpty crew.own × All AreEmpty crew.others.items × (vec_len crew.others ≤ vec_capacity crew.threads) × (crew.threads.items ≡ []) }
 {
     thread::scope(
         thread::scope_env(),
         rt,
-        move |scope| -> bool
-            requires { AreEmpty crew.own × All AreEmpty crew.others.items × (vec_len crew.others ≤ vec_capacity crew.threads) × (crew.threads.items ≡ []) }
-        {
+        move |scope| -> bool {
             let Hired {
                 mut own,
                 others,

@@ -204,8 +204,8 @@ impl<K: Keeping, const W: usize> Room<K, W> {
     }
 
     /// Takes the copy of a page back from a worker, and ends its move: the page is in its new frame afterwards, or in its old one where it
-    /// has a pin; the frame that it left is claimed where runs are emptied. Both halves are put together, which shows that nobody wrote the words that the page left. A copy is handed back
-    /// unless the zone keeps the other half at its place.
+    /// has a pin. The frame that a page of a run left is claimed. Both halves are put together, which shows that nobody wrote the words that
+    /// the page left. A copy is handed back unless the zone keeps the other half at its place.
     pub(crate) fn commit(
         &mut self,
         copied: CopiedPage<K, W>,

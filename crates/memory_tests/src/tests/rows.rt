@@ -18,12 +18,15 @@ fn lend_two(rt: &impl Abort, alloc: Global, size: usize)
     let mut ground = Ground::open(alloc, size + size).expect(rt, "memory");
     let (mut source, mut target) = ground.lend(0, size + size).cut(size);
     source.words_mut().fill(7);
-    assert!(rt; !target.equals(&source), "at {size}");
+    assert!(rt; !target.equals(&source), "a row is blank");
     target.copy_from(&source);
-    assert!(rt; target.equals(&source), "at {size}");
+    assert!(rt; target.equals(&source), "a row is copied");
     crosses::<Row>(&source);
     let (first, second) = target.halve();
-    assert_eq!(rt; first.words(), second.words(), "at {size}");
+    assert!(rt;
+        first.words() == second.words(),
+        "both halves have the words"
+    );
     crosses::<Half>(&first);
     ground.take_back(0, source.join(first.rejoin(second)));
     crosses::<Ground>(&ground);
@@ -48,7 +51,10 @@ fn give_half(rt: &impl Abort, alloc: Global, size: usize)
     let mut given = Ground::over(half);
     given.clear(0, size);
     let half = given.end().expect(rt, "a row that was given");
-    assert!(rt; half.words().iter().all(|word| *word == 0), "at {size}");
+    assert!(rt;
+        half.words().iter().all(|word| *word == 0),
+        "a part is cleared"
+    );
     ground.take_back(size, half);
 }
 

@@ -22,16 +22,22 @@ fn lend_one(
     requires here { NoneLent words.old }
 {
     let mut row = words.lend_block(first, frames);
-    assert!(rt; words.is_lent(first), "at {frames}");
-    assert!(rt; !words.is_lent(beside), "at {frames}");
+    assert!(rt; words.is_lent(first), "the block is lent");
+    assert!(rt; !words.is_lent(beside), "the frame beside it isn't");
     row.words_mut().fill(7);
     words.store(beside, word, 9);
-    assert!(rt; !words.lends_none(), "at {frames}");
+    assert!(rt; !words.lends_none(), "some are lent");
     words.take_block_back(first, frames, row);
-    assert!(rt; words.lends_none(), "at {frames}");
-    assert_eq!(rt; words.block(first, frames).first(), Some(&7), "at {frames}");
-    assert_eq!(rt; words.block(first, frames).last(), Some(&7), "at {frames}");
-    assert_eq!(rt; words.load(beside, word), 9, "at {frames}");
+    assert!(rt; words.lends_none(), "none is lent");
+    assert!(rt;
+        words.block(first, frames).first() == Some(&7),
+        "the first word"
+    );
+    assert!(rt;
+        words.block(first, frames).last() == Some(&7),
+        "the last word"
+    );
+    assert!(rt; words.load(beside, word) == 9, "the word beside it");
 }
 
 #[test]
