@@ -7,7 +7,7 @@ use Rattle.std.specs.Option.{option_map}
 use Rattle.frame_core.specs.declared.record.Cause.TheVariants.{Pinned}
 use Rattle.frame_core.specs.History.{pins}
 use Rattle.frame_core.specs.Moves.{isolated}
-use Rattle.fewest_core.specs.FewestMoves.{Move, move_of}
+use Rattle.fewest_core.specs.FewestMoves.{Move}
 use Rattle.fewest_core.specs.Claims.{highest_vacant, next_to_go}
 use Rattle.fewest_core.specs.Sending.{claimed_if_moved, move_between, next_move_from, sent, sent_committed}
 use Rattle.state_core.specs.declared.error.ZoneError.{ZoneError}
@@ -15,7 +15,6 @@ use Rattle.state_core.specs.declared.error.ZoneError.TheVariants.{Range}
 use Rattle.state_core.specs.declared.moves.Ended.{Ended}
 use Rattle.state_core.specs.declared.moves.Ended.TheVariants.{Moved, Back}
 use Rattle.state_core.specs.declared.placement.Placement.TheVariants.{At, Moving}
-use Rattle.state_core.specs.declared.round.Pair.{Pair}
 use Rattle.state_core.specs.Carrying.{words_now}
 use Rattle.state_core.specs.Claiming.{claimed_at, run_claimed}
 use Rattle.state_core.specs.Ending.{committed, ended_as, moved_to_target, put_back_to_source}

@@ -1,5 +1,5 @@
 -- Each step of the emptying of runs keeps what the lock of a zone keeps that nobody else has.
-use Rattle.std.proofs.Common.{◌≡◌, ℕ, zero, suc, ◌+◌, ◌-◌, ◌*◌, ◌^◌, ◌<◌, ◌≤◌, ⊥, if◌then◌else◌, ◌∷◌, Bool, true, false, not, ◌&&◌, is_some, length, List, [], refl, sym, ap, subst, ◌∙◌, arith, Option, Some, None}
+use Rattle.std.proofs.Common.{◌≡◌, ℕ, zero, suc, ◌+◌, ◌^◌, ◌<◌, ◌≤◌, nat_lt, if◌then◌else◌, ◌∷◌, Bool, true, false, not, ◌&&◌, is_some, length, List, [], refl, sym, ap, subst, ◌∙◌, arith, Option, Some, None}
 use Rattle.std.specs.FinMap as map
 use Rattle.frame_core.specs.Moves.{isolated, out}
 use Rattle.std.proofs.lemmas.Bool.{both_ways, eq-eqb, eqb-true, false≢true, false_from_ne_true, ltb-false, ltb-true, not-false, or_parts}

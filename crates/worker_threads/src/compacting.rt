@@ -158,22 +158,35 @@ fn in_scope<K: Keeping + Send + Sync, const W: usize, G: Gate, R: Threads + Wait
     shared: &CompactingZone<K, W>,
     crew: Hired<K, W>,
     gate: &G,
-) -> bool
-{
-    thread::scope(
-        thread::scope_env(),
-        rt,
-        move |scope| -> bool {
-            let Hired {
-                mut own,
-                others,
-                threads,
-            } = crew;
-            let threads = start_workers(scope, rt, shared, others, threads, gate);
-            let whole = work(rt, shared, &mut own, gate);
-            join_workers(rt, threads) && whole
-        },
-    )
+) -> bool {
+    thread::scope(thread::scope_env(), rt, move |scope| -> bool {
+        work_together(scope, rt, shared, crew, gate)
+    })
+}
+
+/// Starts a thread for each of the others, works as one of them, and waits until all have ended.
+fn work_together<
+    's,
+    'e,
+    K: Keeping + Send + Sync,
+    const W: usize,
+    G: Gate,
+    R: Threads + Wait + Sync,
+>(
+    scope: &'s Scope<'s, &'e ()>,
+    rt: &'e R,
+    shared: &'e CompactingZone<K, W>,
+    crew: Hired<K, W>,
+    gate: &'e G,
+) -> bool {
+    let Hired {
+        mut own,
+        others,
+        threads,
+    } = crew;
+    let threads = start_workers(scope, rt, shared, others, threads, gate);
+    let whole = work(rt, shared, &mut own, gate);
+    join_workers(rt, threads) && whole
 }
 
 /// Starts a thread for each of these workers, until one can't be started.
