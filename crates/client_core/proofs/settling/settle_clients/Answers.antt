@@ -6,6 +6,7 @@ use Rattle.std.proofs.lemmas.List.{take_all}
 use Rattle.std.proofs.lemmas.List.Elements.{All-more}
 use Rattle.frame_core.specs.declared.record.Record.{Record}
 use Rattle.round_core.specs.Calls.{is_of}
+use Rattle.state_core.specs.ZoneState.{ZoneState}
 use Rattle.client_core.specs.Receipts.{Agrees, records_of}
 use Rattle.client_core.specs.Settling.{HasKeptJournal, IsFirstDifference}
 use Rattle.client_core.proofs.Differences.{item_at, not_same}
@@ -15,7 +16,7 @@ pub returns-in-Some-first_difference-clause-ok : goal.returns-in-Some-first_diff
 returns-in-Some-first_difference-clause-ok g c =
     let client = c.client-item.result in
     let zone = c.args.zone.now in
-    let records : c.in-Some.records.now ≡ reverse zone.records = c.in-Some.ensures.records ∙ ap reverse c.journal.ensures.records in
+    let records : c.in-Some.records.now ≡ reverse zone.records = c.in-Some.ensures.records ∙ ap reverse (c.journal.ensures.records ∙ ap (λ (z : ZoneState). z.records) c.deref.ensures) in
     let differ : IsFirstDifference (records_of client.number zone.records) client.receipts c.in-Some-first_difference.index =
     subst (λ (list : List Record). IsFirstDifference (filter (is_of client.number) list) client.receipts c.in-Some-first_difference.index) records c.in-Some-first_difference.ensures.some in (
       λ ok. cc,
@@ -28,10 +29,10 @@ returns-in-Some-first_difference-clause-refused g c =
     let zone = c.args.zone.now in
     let at : slice_get c.args.clients.now c.loop-client.client-index ≡ Some client =
     item_at c.args.clients.now c.loop-client.client-index client c.loop-client-test.true c.client-item.is in
-    let records : c.in-Some.records.now ≡ reverse zone.records = c.in-Some.ensures.records ∙ ap reverse c.journal.ensures.records in
+    let records : c.in-Some.records.now ≡ reverse zone.records = c.in-Some.ensures.records ∙ ap reverse (c.journal.ensures.records ∙ ap (λ (z : ZoneState). z.records) c.deref.ensures) in
     let differ : IsFirstDifference (records_of client.number zone.records) client.receipts c.in-Some-first_difference.index =
     subst (λ (list : List Record). IsFirstDifference (filter (is_of client.number) list) client.receipts c.in-Some-first_difference.index) records c.in-Some-first_difference.ensures.some in
-    let kept : HasKeptJournal c.args.zone.now = omega (arith, ap length c.journal.ensures.records, c.journal.ensures.room, c.in-Some.ensures.some.0 refl) in (
+    let kept : HasKeptJournal c.args.zone.now = omega (arith, ap length c.journal.ensures.records, c.journal.ensures.room, ap (λ (z : ZoneState). length z.records) c.deref.ensures, ap (λ (z : ZoneState). z.room) c.deref.ensures, c.in-Some.ensures.some.0 refl) in (
       kept,
       record {
         place = c.loop-client.client-index;
@@ -44,7 +45,7 @@ pub loop-client-preserved : goal.loop-client-preserved
 loop-client-preserved g c =
     let client = c.client-item.result in
     let zone = c.args.zone.now in
-    let records : c.in-Some.records.now ≡ reverse zone.records = c.in-Some.ensures.records ∙ ap reverse c.journal.ensures.records in
+    let records : c.in-Some.records.now ≡ reverse zone.records = c.in-Some.ensures.records ∙ ap reverse (c.journal.ensures.records ∙ ap (λ (z : ZoneState). z.records) c.deref.ensures) in
     let agrees : Agrees zone.records client =
     subst (λ (list : List Record). filter (is_of client.number) list ≡ client.receipts) records c.in_default-first_difference.ensures.none in
     All-more (Agrees zone.records) c.args.clients.now c.loop-client.client-index client c.loop-client-test.true
@@ -52,7 +53,7 @@ loop-client-preserved g c =
 
 pub returns-clause-ok : goal.returns-clause-ok
 returns-clause-ok g c =
-    let kept : HasKeptJournal c.args.zone.now = omega (arith, ap length c.journal.ensures.records, c.journal.ensures.room, c.in-Some.ensures.some.0 refl) in (
+    let kept : HasKeptJournal c.args.zone.now = omega (arith, ap length c.journal.ensures.records, c.journal.ensures.room, ap (λ (z : ZoneState). length z.records) c.deref.ensures, ap (λ (z : ZoneState). z.room) c.deref.ensures, c.in-Some.ensures.some.0 refl) in (
       λ ok. (kept, subst (All (Agrees c.args.zone.now.records)) (take_all c.loop-client.client-index c.args.clients.now c.loop-client-test.false) c.loop-client.invariant),
       λ all. refl,
     )

@@ -4,6 +4,7 @@ use Rattle.std.specs.Prelude.{IsOk}
 use Rattle.std.specs.Result.{result_err}
 use Rattle.state_core.specs.declared.error.ZoneError.{ZoneError}
 use Rattle.state_core.specs.declared.information.Audit.{Audit}
+use Rattle.state_core.specs.ZoneState.{ZoneState}
 use Rattle.machine_core.specs.OneThread.{OneThread}
 use Rattle.script_core.specs.WithThreads.{WithThreads}
 use Rattle.script_core.proofs.Rounds.{left_broken, left_whole}
@@ -27,7 +28,7 @@ returns-in-Err-clause-left g c =
     (sym c.audit.ensures.refused ∙ ap result_err c.in-Err.is)
     (ap (λ (t : WithThreads). t.single.places) c.self.view_is)
     (ap (λ (t : WithThreads). t.single.world) c.self.view_is ∙ c.requires.given)
-    (ap Some c.number-number.ensures)
+    (ap Some (c.number-number.ensures ∙ ap (λ (z : ZoneState). z.number) c.deref.ensures))
     (ap (λ (t : WithThreads). t.client) c.self.view_is)
 
 pub returns-in-Err-clause-exact : goal.returns-in-Err-clause-exact
