@@ -1,5 +1,6 @@
 pub mod Beginnings
 pub mod Carried
+pub mod ClientRows
 pub mod Closing
 pub mod Commas
 pub mod Inputs

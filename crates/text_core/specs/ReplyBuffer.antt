@@ -1,5 +1,5 @@
 -- What contracts see of the replies that wait to be written.
-use Rattle.std.specs.Prelude.{◌≡◌, ℕ, ◌+◌, ◌<◌, ◌≤◌, List, [], ◌++◌, length, map, take, Option}
+use Rattle.std.specs.Prelude.{◌≡◌, ℕ, ◌<◌, List, [], ◌++◌, length, map, take, Option}
 use Rattle.std.specs.List.{AllByRecursion}
 use Rattle.std.specs.Io.KnownBytes.{Appends}
 use Rattle.text_core.specs.Reply.{IsOneLine, newlines, text_of}
@@ -18,10 +18,6 @@ empty = record { bytes = []; lines = [] }
 pub record IsMarked (bytes lines : List ℕ) : Type 0 where
   pub counted : newlines bytes ≡ length lines
   pub within : (n : ℕ) → n < length bytes → newlines (take n bytes) < length lines
-
--- there is room for one more reply, of at most 160 bytes
-abbrev pub HasRoom : ReplyBuffer → Type 0
-HasRoom box = length box.bytes + 160 ≤ 4096
 
 -- these answers wait, and no others
 pub record Holds (box : ReplyBuffer) (answers : List Answer) : Type 0 where

@@ -1,10 +1,11 @@
 //! The rows of the language, as `specs/Grammar.antt` has them. Whether an argument is in its range is tested here, by the
 //! type of the argument.
 
-ghost use Rattle.std.specs.Prelude.{◌≡◌, option_map};
+ghost use Rattle.std.specs.Prelude.{◌≡◌, IfSome, IsTrue, option_map};
+ghost use Rattle.state_core.specs.Calls.{is_of_client};
 ghost use Rattle.text_core.specs.Token.{tokens};
 ghost use Rattle.state_core.specs.declared.call.ZoneCall.TheVariants as zone_call;
-ghost use Rattle.text_core.specs.Grammar.{client_row, address_of, blocks_of, command_of, compacting, frame_of, give_order_call, order_of, row_in, row_of_profile_2, own_row, hand_of, load_call, map_at_call, map_call, call_on, zone_call_on, opening, page_count_of, pageblock_of, pooling, row_of, series_of, series_on, share_call, space_of, store_call, word_of, zone_of, block_line_of, during_row};
+ghost use Rattle.text_core.specs.Grammar.{client_row, address_of, blocks_of, command_of, compacting, frame_of, give_order_call, order_of, row_in, row_of_profile_2, hand_of, load_call, map_at_call, map_call, call_on, zone_call_on, opening, page_count_of, pageblock_of, pooling, row_of, series_of, series_on, share_call, space_of, store_call, word_of, zone_of, block_line_of, during_row};
 
 use crate::arguments::{
     four_numbers, one_number, three_numbers, three_numbers_and_flag, two_numbers,
@@ -52,30 +53,30 @@ pub(crate) fn block_line(zone: u64, text: &[u8]) -> Option<BlockLine>
     }
     let (number, arguments) = first_number(after)?;
     if number == zone {
-        client_row(keyword, arguments).map(BlockLine::Client)
+        Some(BlockLine::Client(of_client(client_row(keyword, arguments)?)))
     } else {
         None
     }
+}
+
+/// The call of a row of a client, as a client's.
+fn of_client(call: Option<ZoneCall>) -> Option<ClientCall>
+    requires { IfSome call (λ c. IsTrue (is_of_client c)) }
+    ensures { result ≡ call }
+{
+    ClientCall::new(call?)
 }
 
 /// The command that a keyword, the number of a zone and the arguments after it make, if the profile has such a row.
 fn row_in(profile: Profile, keyword: Token, number: u64, arguments: &[u8]) -> Option<Command>
     ensures { result ≡ row_in profile keyword (zone_of number) (tokens arguments.now) }
 {
-    match own_row(profile, keyword, number, arguments) {
-        Some(command) => Some(command),
-        None => row(keyword, zone(number), arguments),
+    if matches!(profile, Profile::Two)
+        && let Some(command) = row_of_profile_2(keyword, zone(number), arguments)
+    {
+        return Some(command);
     }
-}
-
-/// The command by a row that only this profile has, if there is such a row.
-fn own_row(profile: Profile, keyword: Token, number: u64, arguments: &[u8]) -> Option<Command>
-    ensures { result ≡ own_row profile keyword (zone_of number) (tokens arguments.now) }
-{
-    match profile {
-        Profile::Two => row_of_profile_2(keyword, zone(number), arguments),
-        Profile::Untold | Profile::One => None,
-    }
+    row(keyword, zone(number), arguments)
 }
 
 /// The command by the rows that only profile 2 has. Here as below, each row with two arguments or more has a function of its own.
@@ -120,10 +121,6 @@ fn row(keyword: Token, zone: Option<ZoneNo>, arguments: &[u8]) -> Option<Command
     };
     match keyword {
         Zone => Some(open(zone, blocks(one_number(arguments)?))),
-        Map => map_row(zone, arguments),
-        MapAt => map_at_row(zone, arguments),
-        Store => store_row(zone, arguments),
-        Load => load_row(zone, arguments),
         Info if is_end(arguments) => Some(on(zone, Some(Call::Info))),
         Scan if is_end(arguments) => Some(on(zone, Some(Call::Scan))),
         Take => Some(on(zone, hand(one_number(arguments)?).map(Call::Take))),
@@ -131,10 +128,6 @@ fn row(keyword: Token, zone: Option<ZoneNo>, arguments: &[u8]) -> Option<Command
         Finish => Some(on(zone, hand(one_number(arguments)?).map(Call::Finish))),
         Shut if is_end(arguments) => Some(on(zone, Some(Call::Shut))),
         Look => look_row(zone, arguments),
-        Share => share_row(zone, arguments),
-        Unmap => unmap_row(zone, arguments),
-        Pin => pin_row(zone, arguments),
-        Unpin => unpin_row(zone, arguments),
         Huge if is_end(arguments) => Some(on(zone, Some(Call::Huge))),
         Give => Some(on(zone, pageblock(one_number(arguments)?).map(Call::Give))),
         Fill => fill_row(zone, arguments),
@@ -145,29 +138,18 @@ fn row(keyword: Token, zone: Option<ZoneNo>, arguments: &[u8]) -> Option<Command
             blocks(one_number(arguments)?),
             Some(PoolBlocks::Pageblocks),
         )),
+        Map | MapAt | Store | Load | Share | Unmap | Pin | Unpin => Some(zone_on(
+            zone,
+            client_row(keyword, arguments)?,
+        )),
         _ => None,
     }
-}
-
-/// A client's call on a zone, made from a row, if there is a row.
-#[inline(always)]
-fn on_row(zone: Option<ZoneNo>, row: Option<Option<ClientCall>>) -> Option<Command>
-    ensures { result ≡ option_map (λ c. zone_call_on zone c) row }
-{
-    Some(zone_on(zone, zone_call(row?)))
-}
-
-/// A client's call as a call of a zone.
-fn zone_call(call: Option<ClientCall>) -> Option<ZoneCall>
-    ensures { result ≡ call }
-{
-    Some(call?.get())
 }
 
 /// The call that a client's keyword and the arguments after its zone make, if there is such a row; it has no call where
 /// an argument is out of its range.
 #[inline(always)]
-fn client_row(keyword: Token, arguments: &[u8]) -> Option<Option<ClientCall>>
+fn client_row(keyword: Token, arguments: &[u8]) -> Option<Option<ZoneCall>>
     ensures { result ≡ client_row keyword (tokens arguments.now) }
 {
     use Token::{Load, Map, MapAt, Pin, Share, Store, Unmap, Unpin};
@@ -208,68 +190,12 @@ fn client_row(keyword: Token, arguments: &[u8]) -> Option<Option<ClientCall>>
     }
 }
 
-/// `map Z S V`, with or without `unmovable`.
-fn map_row(zone: Option<ZoneNo>, arguments: &[u8]) -> Option<Command>
-    ensures { result ≡ row_of Token.Map zone (tokens arguments.now) }
-{
-    on_row(zone, client_row(Token::Map, arguments))
-}
-
-/// `mapat Z S V F`, with or without `unmovable`.
-fn map_at_row(zone: Option<ZoneNo>, arguments: &[u8]) -> Option<Command>
-    ensures { result ≡ row_of Token.MapAt zone (tokens arguments.now) }
-{
-    on_row(zone, client_row(Token::MapAt, arguments))
-}
-
-/// `store Z S V W X`.
-fn store_row(zone: Option<ZoneNo>, arguments: &[u8]) -> Option<Command>
-    ensures { result ≡ row_of Token.Store zone (tokens arguments.now) }
-{
-    on_row(zone, client_row(Token::Store, arguments))
-}
-
-/// `load Z S V W`.
-fn load_row(zone: Option<ZoneNo>, arguments: &[u8]) -> Option<Command>
-    ensures { result ≡ row_of Token.Load zone (tokens arguments.now) }
-{
-    on_row(zone, client_row(Token::Load, arguments))
-}
-
 /// `look Z S V`.
 fn look_row(zone: Option<ZoneNo>, arguments: &[u8]) -> Option<Command>
     ensures { result ≡ row_of Token.Look zone (tokens arguments.now) }
 {
     let (s, v) = two_numbers(arguments)?;
     Some(on(zone, address(s, v).map(Call::Look)))
-}
-
-/// `share Z S V S2 V2`.
-fn share_row(zone: Option<ZoneNo>, arguments: &[u8]) -> Option<Command>
-    ensures { result ≡ row_of Token.Share zone (tokens arguments.now) }
-{
-    on_row(zone, client_row(Token::Share, arguments))
-}
-
-/// `unmap Z S V`.
-fn unmap_row(zone: Option<ZoneNo>, arguments: &[u8]) -> Option<Command>
-    ensures { result ≡ row_of Token.Unmap zone (tokens arguments.now) }
-{
-    on_row(zone, client_row(Token::Unmap, arguments))
-}
-
-/// `pin Z S V`.
-fn pin_row(zone: Option<ZoneNo>, arguments: &[u8]) -> Option<Command>
-    ensures { result ≡ row_of Token.Pin zone (tokens arguments.now) }
-{
-    on_row(zone, client_row(Token::Pin, arguments))
-}
-
-/// `unpin Z S V`.
-fn unpin_row(zone: Option<ZoneNo>, arguments: &[u8]) -> Option<Command>
-    ensures { result ≡ row_of Token.Unpin zone (tokens arguments.now) }
-{
-    on_row(zone, client_row(Token::Unpin, arguments))
 }
 
 /// `fill Z S V N`.
@@ -368,69 +294,69 @@ fn series_on(zone: Option<ZoneNo>, series: Option<Series>) -> Command
     }
 }
 
-fn map(address: Option<Address>, unmovable: bool) -> Option<ClientCall>
+fn map(address: Option<Address>, unmovable: bool) -> Option<ZoneCall>
     ensures { result ≡ map_call address unmovable }
 {
-    ClientCall::new(ZoneCall::Map {
+    Some(ZoneCall::Map {
         address: address?,
         unmovable,
     })
 }
 
-fn map_at(address: Option<Address>, frame: Option<FrameNo>, unmovable: bool) -> Option<ClientCall>
+fn map_at(address: Option<Address>, frame: Option<FrameNo>, unmovable: bool) -> Option<ZoneCall>
     ensures { result ≡ map_at_call address frame unmovable }
 {
-    ClientCall::new(ZoneCall::MapAt {
+    Some(ZoneCall::MapAt {
         address: address?,
         unmovable,
         frame: frame?,
     })
 }
 
-fn store(address: Option<Address>, word: Option<WordNo>, value: u64) -> Option<ClientCall>
+fn store(address: Option<Address>, word: Option<WordNo>, value: u64) -> Option<ZoneCall>
     ensures { result ≡ store_call address word value }
 {
-    ClientCall::new(ZoneCall::Store {
+    Some(ZoneCall::Store {
         address: address?,
         word: word?,
         value,
     })
 }
 
-fn load(address: Option<Address>, word: Option<WordNo>) -> Option<ClientCall>
+fn load(address: Option<Address>, word: Option<WordNo>) -> Option<ZoneCall>
     ensures { result ≡ load_call address word }
 {
-    ClientCall::new(ZoneCall::Load {
+    Some(ZoneCall::Load {
         address: address?,
         word: word?,
     })
 }
 
-fn share(address: Option<Address>, alias: Option<Address>) -> Option<ClientCall>
+fn share(address: Option<Address>, alias: Option<Address>) -> Option<ZoneCall>
     ensures { result ≡ share_call address alias }
 {
-    ClientCall::new(ZoneCall::Share {
+    Some(ZoneCall::Share {
         address: address?,
         alias: alias?,
     })
 }
 
-fn unmap(address: Option<Address>) -> Option<ClientCall>
+fn unmap(address: Option<Address>) -> Option<ZoneCall>
     ensures { result ≡ option_map zone_call.Unmap address }
 {
-    ClientCall::new(ZoneCall::Unmap { address: address? })
+    Some(ZoneCall::Unmap { address: address? })
 }
 
-fn pin(address: Option<Address>) -> Option<ClientCall>
+fn pin(address: Option<Address>) -> Option<ZoneCall>
     ensures { result ≡ option_map zone_call.Pin address }
 {
-    ClientCall::new(ZoneCall::Pin { address: address? })
+    Some(ZoneCall::Pin { address: address? })
 }
 
-fn unpin(address: Option<Address>) -> Option<ClientCall>
+fn unpin(address: Option<Address>) -> Option<ZoneCall>
     ensures { result ≡ option_map zone_call.Unpin address }
 {
-    ClientCall::new(ZoneCall::Unpin { address: address? })
+    Some(ZoneCall::Unpin { address: address? })
 }
 
 fn take_order(order: Option<Order>) -> Option<ZoneCall>

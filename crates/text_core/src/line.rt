@@ -1,6 +1,6 @@
 ghost use Rattle.std.specs.Prelude.{◌≡◌, length, nat_lt};
 ghost use Rattle.text_core.specs.Token.{lexemes};
-ghost use Rattle.text_core.specs.Line.{command_in, line_of, line_within};
+ghost use Rattle.text_core.specs.Line.{line_of, line_within};
 ghost use Rattle.text_core.specs.Profile.{is_profile_2};
 
 use crate::command::{BlockLine, Command};
@@ -26,16 +26,6 @@ fn is_profile_2(text: &[u8]) -> bool
     }
 }
 
-/// The command that a line is, if it is one.
-fn command(profile: Profile, text: &[u8]) -> Option<Command>
-    ensures { result ≡ command_in profile (lexemes text.now) }
-{
-    if matches!(profile, Profile::Untold) && is_profile_2(text) {
-        return Some(Command::Profile2);
-    }
-    grammar::command(profile, text)
-}
-
 /// Whether a line has more than 200 bytes.
 fn is_long(line: &[u8]) -> bool
     ensures { result ≡ nat_lt 200 (length line.now) }
@@ -55,7 +45,12 @@ pub fn read_line(profile: Profile, line: &[u8]) -> Result<Option<Command>, Scrip
     }
     match without_spaces(line) {
         [] | [b'#', ..] => Ok(None),
-        text => command(profile, text).map(Some).ok_or(ScriptError::Syntax),
+        text if matches!(profile, Profile::Untold) && is_profile_2(text) => {
+            Ok(Some(Command::Profile2))
+        }
+        text => grammar::command(profile, text)
+            .map(Some)
+            .ok_or(ScriptError::Syntax),
     }
 }
 

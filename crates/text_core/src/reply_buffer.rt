@@ -1,8 +1,8 @@
-ghost use Rattle.std.specs.Prelude.{◌≡◌, ℕ, ◌++◌, [], ◌∷◌, List, Option, IfErr, IsTrue, OnErr, OnOk, ◌↔◌};
+ghost use Rattle.std.specs.Prelude.{◌≡◌, ℕ, ◌++◌, [], ◌∷◌, List, Option, IfErr, IsTrue, OnErr, OnOk};
 ghost use Rattle.std.specs.Io.KnownBytes.{Appends};
 ghost use Rattle.text_core.specs.Script.{StopsIn, Answer, texts};
-ghost use Rattle.text_core.specs.ReplyBuffer.{HasRoom, Owes, empty};
-ghost use Rattle.text_core.specs.Reply.{IsOneLine, newlines, text_of};
+ghost use Rattle.text_core.specs.ReplyBuffer.{Owes, empty};
+ghost use Rattle.text_core.specs.Reply.{newlines};
 
 use crate::answer::Answer;
 use crate::output::{Output, write_out};
@@ -52,10 +52,12 @@ impl ReplyBuffer {
             Owes self.old answers first (W.contents writer.old) → StopsIn answers first (W.contents writer.new) at) }
         ensures stuck { OnErr result (IsTrue (W.stuck writer.new)) }
     {
-        if !self.has_room() {
+        // The longest reply has 160 bytes.
+        if self.text.remaining_capacity() < 160 {
             self.flush(writer)?;
         }
-        self.push(line, reply);
+        push_reply(&mut self.text, reply);
+        self.lines.push(line);
         Ok(())
     }
 
@@ -78,22 +80,6 @@ impl ReplyBuffer {
             self.post(writer, line, &reply)?;
         }
         Ok(())
-    }
-
-    /// Whether there is room for the longest reply.
-    fn has_room(&self) -> bool
-        ensures { IsTrue result ↔ HasRoom self.now }
-    {
-        160 <= self.text.remaining_capacity()
-    }
-
-    fn push(&mut self, line: u64, reply: &Reply)
-        requires { HasRoom self.old }
-        ensures waits { self.new ≡ record { bytes = self.old.bytes ++ text_of reply.now; lines = self.old.lines ++ line ∷ [] } }
-        ensures line { IsOneLine (text_of reply.now) }
-    {
-        push_reply(&mut self.text, reply);
-        self.lines.push(line);
     }
 
     /// Writes all that waits.

@@ -78,20 +78,9 @@ impl<A: Respond> ScriptRunner<A> {
         ensures line { OnOk result (self.new.line ≡ self.old.line + 1) }
         ensures held { OnOk result (self.new.held ≡ []) }
     {
-        match self.block.take() {
-            None => self.take_outside(writer, text),
-            Some(block) => self.take_within(writer, text, block),
+        if let Some(block) = self.block.take() {
+            return self.take_within(writer, text, block);
         }
-    }
-
-    /// Reads a whole line outside a block.
-    fn take_outside<W: Output>(&mut self, writer: &mut W, text: &[u8]) -> Result<(), RunError>
-        requires { BeginsLine self.old }
-        ensures reads { ReadsLine A.may A.asks self.old self.new text.now (W.contents writer.old) (W.contents writer.new) result }
-        ensures stuck { IfErr result (λ error. error.fault ≡ Fault.Write → IsTrue (W.stuck writer.new)) }
-        ensures line { OnOk result (self.new.line ≡ self.old.line + 1) }
-        ensures held { OnOk result (self.new.held ≡ []) }
-    {
         let line = self.line;
         match read_line(self.profile, text) {
             Ok(None) => {
@@ -201,7 +190,8 @@ impl<A: Respond> ScriptRunner<A> {
             });
         };
         self.line = line + 1;
-        if let Err(line) = self.post(writer, line, &reply) {
+        self.replies += 1;
+        if let Err(line) = self.outbox.post(writer, line, &reply) {
             return Err(RunError {
                 fault: Fault::Write,
                 line,
@@ -235,23 +225,6 @@ impl<A: Respond> ScriptRunner<A> {
         Ok(())
     }
 
-    /// Puts an answer after those that wait, and counts it. Its line was counted before.
-    fn post<W: Output>(&mut self, writer: &mut W, line: u64, reply: &Reply) -> Result<(), u64>
-        requires counted { self.old.replies + 1 < 1001 * self.old.line }
-        requires room { self.old.line < 2 ^ 53 }
-        ensures ok { OnOk result ((before : List Answer) (first : Option (List ℕ)) →
-            Owes self.old.box before first (W.contents writer.old)
-            → Owes self.new.box (before ++ record { line = line; reply = reply.now } ∷ []) first (W.contents writer.new)) }
-        ensures replies { OnOk result (self.new.replies ≡ self.old.replies + 1) }
-        ensures err { IfErr result (λ at. (before : List Answer) (first : Option (List ℕ)) →
-            Owes self.old.box before first (W.contents writer.old) → StopsIn (before ++ record { line = line; reply = reply.now } ∷ []) first (W.contents writer.new) at) }
-        ensures stuck { OnErr result (IsTrue (W.stuck writer.new)) }
-        ensures same { self.new ≡ record self.old { box = self.new.box; replies = self.new.replies } }
-    {
-        self.replies += 1;
-        self.outbox.post(writer, line, reply)
-    }
-
     /// Puts the answers to a block after those that wait, and counts them. The last line of the block was counted before.
     fn post_all<W: Output>(&mut self, writer: &mut W, answers: Answers) -> Result<(), u64>
         requires counted { self.old.replies + 1001 < 1001 * self.old.line }
@@ -269,7 +242,8 @@ impl<A: Respond> ScriptRunner<A> {
         self.replies += clients.len() as u64;
         self.outbox.post_all(writer, clients)?;
         let (line, reply) = own.into_parts();
-        self.post(writer, line, &reply)
+        self.replies += 1;
+        self.outbox.post(writer, line, &reply)
     }
 
     /// Reads the end of a line, whose beginning may be held.

@@ -153,42 +153,21 @@ fn number(bytes: &[u8]) -> Option<u64>
     }
 }
 
-/// The token that a line begins with, and what stands after its word. Most lines begin with a short keyword.
+/// The token that a line begins with, and what stands after its word. Most lines begin with a keyword of 3 to 6 letters. 4 is tried
+/// first, since half of the keywords have 4 letters.
 #[inline(always)]
 pub(crate) fn leading_token(text: &[u8]) -> Option<(Token, &[u8])>
     ensures token { MatchOption result (tokens text.now ≡ []) (λ found. tokens text.now ≡ found.0 ∷ tokens found.1.now) }
 {
-    match short_keyword(text) {
-        Some(found) => Some(found),
-        None => first_token(text),
-    }
-}
-
-/// The keyword of 3 to 6 letters that a text begins with, and what stands after it.
-#[inline(always)]
-fn short_keyword(text: &[u8]) -> Option<(Token, &[u8])>
-    ensures { IfSome result (λ found. tokens text.now ≡ found.0 ∷ tokens found.1.now) }
-{
-    let (word, after) = short_cut(text)?;
-    match keyword(word) {
-        Token::Other => None,
-        keyword => Some((keyword, after)),
-    }
-}
-
-/// A text cut after 3 to 6 bytes, before a space or at its end. 4 is tried first, since half of the keywords have 4 letters.
-#[inline(always)]
-fn short_cut(text: &[u8]) -> Option<(&[u8], &[u8])>
-    ensures whole { IfSome result (λ cut. cut.0.now ++ cut.1.now ≡ text.now) }
-    ensures word { IfSome result (λ cut. first_word cut.1.now ≡ []) }
-    ensures after { IfSome result (λ cut. after_word cut.1.now ≡ cut.1.now) }
-{
     for count in [4, 3, 5, 6] {
-        if let Some(cut) = cut_after(text, count) {
-            return Some(cut);
+        if let Some((word, after)) = cut_after(text, count) {
+            match keyword(word) {
+                Token::Other => {}
+                keyword => return Some((keyword, after)),
+            }
         }
     }
-    None
+    first_token(text)
 }
 
 /// A text cut after this many bytes, if a space or the text's end is there.
@@ -219,40 +198,11 @@ pub(crate) fn first_token(text: &[u8]) -> Option<(Token, &[u8])>
 pub(crate) fn first_number(text: &[u8]) -> Option<(u64, &[u8])>
     ensures { MatchOption result (number_first (tokens text.now) ≡ None) (λ found. tokens text.now ≡ Number found.0 ∷ tokens found.1.now) }
 {
-    match spaced_digit(text) {
-        Some((digit, after)) => Some((u64::from(digit), after)),
-        None => leading_digits(without_spaces(text)),
-    }
-}
-
-/// The digit that is a whole word after the space that a text begins with, and what stands after it.
-fn spaced_digit(text: &[u8]) -> Option<(u8, &[u8])>
-    ensures { IfSome result (λ found. tokens text.now ≡ Number found.0 ∷ tokens found.1.now) }
-{
-    let word = after_space(text)?;
-    lone_digit(word)
-}
-
-/// What stands after the space that a text begins with.
-fn after_space(text: &[u8]) -> Option<&[u8]>
-    ensures { IfSome result (λ after. text.now ≡ 32 ∷ after.now) }
-{
     match text {
-        [b' ', after @ ..] => Some(after),
-        _ => None,
-    }
-}
-
-/// The digit that is the whole word that a text begins with, and what stands after it.
-fn lone_digit(text: &[u8]) -> Option<(u8, &[u8])>
-    ensures number { IfSome result (λ found. number_of (first_word text.now) ≡ Some found.0) }
-    ensures after { IfSome result (λ found. found.1.now ≡ after_word text.now) }
-{
-    let (digit, after) = leading_digit(text)?;
-    if ends_word(after) {
-        Some((digit, after))
-    } else {
-        None
+        [b' ', digit @ b'0'..=b'9', after @ ..] if ends_word(after) => {
+            Some((u64::from(*digit - b'0'), after))
+        }
+        _ => leading_digits(without_spaces(text)),
     }
 }
 

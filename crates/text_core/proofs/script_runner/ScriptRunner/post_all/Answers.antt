@@ -30,7 +30,8 @@ returns-clause-err g c = MatchResult-weaker c.post.result c.post.ensures.err (λ
     let parts : c.args.answers ≡ clients ++ own ∷ [] = c.into_parts-clients.ensures.parts ∙ ap (λ (a : Answer). clients ++ a ∷ []) c.into_parts-line.ensures in
     let S : List Answer → Type 0 = λ list. StopsIn list first (g.W.Write.contents c.post.new.writer) at in
     subst S (all_after before clients c.args.answers own parts)
-    (stops (before ++ clients) first (c.in_ok-post_all.ensures.ok before first (subst O (sym c.self.view_is) owes))))
+    (stops_more (before ++ clients) (own ∷ []) first (g.W.Write.contents c.post.new.writer) at
+    (stops (before ++ clients) first (c.in_ok-post_all.ensures.ok before first (subst O (sym c.self.view_is) owes)))))
 
 pub returns-clause-ok : goal.returns-clause-ok
 returns-clause-ok g c = on_ok_weaker c.post.result (λ keeps before first owes.
@@ -38,6 +39,6 @@ returns-clause-ok g c = on_ok_weaker c.post.result (λ keeps before first owes.
     let clients = c.into_parts-clients.result.0.items in
     let own : Answer = record { line = c.into_parts-line.result.0; reply = c.into_parts-line.result.1 } in
     let parts : c.args.answers ≡ clients ++ own ∷ [] = c.into_parts-clients.ensures.parts ∙ ap (λ (a : Answer). clients ++ a ∷ []) c.into_parts-line.ensures in
-    let A : List Answer → Type 0 = λ list. Owes c.post.new.self.box list first (g.W.Write.contents c.post.new.writer) in
+    let A : List Answer → Type 0 = λ list. Owes c.post.new.self list first (g.W.Write.contents c.post.new.writer) in
     subst A (all_after before clients c.args.answers own parts)
     (keeps (before ++ clients) first (c.in_ok-post_all.ensures.ok before first (subst O (sym c.self.view_is) owes)))) c.post.ensures.ok

@@ -1,4 +1,4 @@
-use Rattle.std.proofs.Common.{◌≡◌, [], ℕ, List, None, Some, Result, Ok, refl, ap, sym, subst, ◌∙◌}
+use Rattle.std.proofs.Common.{◌≡◌, [], ℕ, List, Option, None, Some, Result, Ok, refl, ap, sym, subst, ◌∙◌}
 use Rattle.text_core.specs.declared.command.Command.{Command}
 use Rattle.text_core.specs.declared.command.Command.TheVariants.{During}
 use Rattle.text_core.specs.declared.error.ScriptError.{ScriptError}
@@ -7,11 +7,11 @@ use Rattle.text_core.specs.declared.fault.RunError.{RunError}
 use Rattle.text_core.specs.Line.{line_of}
 use Rattle.text_core.specs.Profile.{profile_told}
 use Rattle.text_core.specs.ScriptRunner.{ScriptRunner, ReadsLine}
-use Rattle.text_core.specs.Script.{BeginsBlock, Reading, by, command_comes, comes_outside, line_comes, within}
+use Rattle.text_core.specs.Script.{BeginsBlock, Block, Reading, by, command_comes, comes_outside, line_comes, within}
 use Rattle.text_core.proofs.Lines.{outside-line}
 use Rattle.text_core.proofs.Reading.{read_on, read_unbegun, read_wrong}
 use Rattle.text_core.proofs.Variants.{both_err, by_result}
-use Rattle.text_core.proofs.script_runner.ScriptRunner.take_outside.Goals as goal
+use Rattle.text_core.proofs.script_runner.ScriptRunner.take_line.Goals as goal
 
 -- a command that doesn't begin a block is whole
 command_whole : (profile : Profile) (n : ℕ) (command : Command) → ((zone : ℕ) → command ≡ During zone → ⊥) → command_comes profile n command ≡ record { ended = Some (record { line = n; command = command; clients = [] }); reading = by profile }
@@ -26,16 +26,16 @@ module _ (q : Reading) (n : ℕ) (text : List ℕ) (command : Command) (told : P
   begins_block : (zone : ℕ) → command ≡ During zone → line_comes q n text ≡ Ok (record { ended = None; reading = within told (record { line = n; zone = zone; clients = [] }) })
   begins_block zone is = comes_to ∙ ap (λ k. Ok (command_comes told n k)) is
 
-  ends_command : ((zone : ℕ) → command ≡ During zone → ⊥) → line_comes q n text ≡ Ok (record { ended = Some (record { line = n; command = command; clients = [] }); reading = record { profile = told; block = q.block } })
-  ends_command other =
+  ends_command : (o : Option Block) → o ≡ None → ((zone : ℕ) → command ≡ During zone → ⊥) → line_comes q n text ≡ Ok (record { ended = Some (record { line = n; command = command; clients = [] }); reading = record { profile = told; block = o } })
+  ends_command o none other =
       comes_to ∙ ap Ok (command_whole told n command other)
-      ∙ ap (λ o. Ok (record { ended = Some (record { line = n; command = command; clients = [] }); reading = record { profile = told; block = o } })) (sym outside)
+      ∙ ap (λ o. Ok (record { ended = Some (record { line = n; command = command; clients = [] }); reading = record { profile = told; block = o } })) (sym none)
 
 pub returns-in-Err-clause-reads : goal.returns-in-Err-clause-reads
 returns-in-Err-clause-reads g c =
     let q : Reading = record { profile = c.self.inside.profile; block = c.self.inside.block } in
     let begins = ap (λ (s : ScriptRunner _). s.held) c.self.view_is ∙ c.requires.begins in
-    let outside = ap (λ (s : ScriptRunner _). s.reading.block) c.self.view_is ∙ c.requires.outside in
+    let outside = sym c.take.ensures.value ∙ c.in_default.is in
     let here = outside-line q c.self.inside.line c.args.text.now outside ∙ ap (comes_outside q.profile c.self.inside.line) (sym c.in-Err.ensures) in
     rw (← c.self.view_is) (read_wrong g.A.Respond.may g.A.Respond.asks _ c.args.text.now _ begins _ c.in-Err.error c.from.result refl c.from.ensures here)
 
@@ -43,11 +43,11 @@ pub returns-in-Ok-None-clause-reads : goal.returns-in-Ok-None-clause-reads
 returns-in-Ok-None-clause-reads g c =
     let q : Reading = record { profile = c.self.inside.profile; block = c.self.inside.block } in
     let begins = ap (λ (s : ScriptRunner _). s.held) c.self.view_is ∙ c.requires.begins in
-    let outside = ap (λ (s : ScriptRunner _). s.reading.block) c.self.view_is ∙ c.requires.outside in
+    let outside = sym c.take.ensures.value ∙ c.in_default.is in
     let says : line_of q.profile c.args.text.now ≡ Ok None = sym c.in-Ok-None.ensures ∙ ap Ok c.in-Ok-None.field-0-is in
     let here = outside-line q c.self.inside.line c.args.text.now outside ∙ ap (comes_outside q.profile c.self.inside.line) says
-    ∙ ap (λ o. Ok (record { ended = None; reading = record { profile = q.profile; block = o } })) (sym outside) in
-    rw (← c.self.view_is) (read_on g.A.Respond.may g.A.Respond.asks _ c.args.text.now _ begins q here)
+    ∙ ap (λ o. Ok (record { ended = None; reading = record { profile = q.profile; block = o } })) (sym c.take.ensures.after) in
+    rw (← c.self.view_is) (read_on g.A.Respond.may g.A.Respond.asks _ c.args.text.now _ begins (record { profile = q.profile; block = c.take.new.self }) here)
 
 pub returns-in-During-clause-reads : goal.returns-in-During-clause-reads
 returns-in-During-clause-reads g c =
@@ -55,7 +55,7 @@ returns-in-During-clause-reads g c =
     let text = c.args.text.now in
     let q : Reading = record { profile = c.self.inside.profile; block = c.self.inside.block } in
     let begins = ap (λ (s : ScriptRunner _). s.held) c.self.view_is ∙ c.requires.begins in
-    let outside = ap (λ (s : ScriptRunner _). s.reading.block) c.self.view_is ∙ c.requires.outside in
+    let outside = sym c.take.ensures.value ∙ c.in_default.is in
     let says : line_of q.profile text ≡ Ok (Some c.in-Ok-Some.command) = sym c.in-Ok-Some.ensures ∙ ap Ok c.in-Ok-Some.field-0-is in
     let F : Result (Unit {0}) RunError → Type 0 = λ r. ReadsLine g.A.Respond.may g.A.Respond.asks c.args.self.now c.begin.new.self text now now r in
     let D : Result _ ScriptError → Type 0 = λ r. BeginsBlock r in
@@ -65,10 +65,15 @@ returns-in-During-clause-reads g c =
     (λ e both. rw (both.1, ← c.self.view_is) (read_unbegun g.A.Respond.may g.A.Respond.asks _ text now begins c.begin.new.self (ap (λ (t : ScriptRunner _). t.box) both.0) outside
     (subst D (sym (says ∙ ap (λ (k : Command). Ok (Some k)) c.in-During.is)) tt)))
 
-pub returns-in_default-clause-reads : goal.returns-in_default-clause-reads
-returns-in_default-clause-reads g c =
+pub returns-in-Some-clause-reads : goal.returns-in-Some-clause-reads
+returns-in-Some-clause-reads g c =
+    let within : c.self.inside.block ≡ Some c.in-Some.block = sym c.take.ensures.value ∙ c.in-Some.is in
+    rw (← c.self.view_is, within) c.take_within.ensures.reads
+
+pub returns-in_default-command-clause-reads : goal.returns-in_default-command-clause-reads
+returns-in_default-command-clause-reads g c =
     let q : Reading = record { profile = c.self.inside.profile; block = c.self.inside.block } in
-    let outside = ap (λ (s : ScriptRunner _). s.reading.block) c.self.view_is ∙ c.requires.outside in
+    let outside = sym c.take.ensures.value ∙ c.in_default.is in
     let says : line_of q.profile c.args.text.now ≡ Ok (Some c.in-Ok-Some.command) = sym c.in-Ok-Some.ensures ∙ ap Ok c.in-Ok-Some.field-0-is in
     rw (← c.self.view_is) (c.answer.ensures.reads q c.args.text.now
-    (ends_command q c.self.inside.line c.args.text.now c.in-Ok-Some.command c.after-self-inside.result outside says c.after-self-inside.ensures c.in_default.not-During))
+    (ends_command q c.self.inside.line c.args.text.now c.in-Ok-Some.command c.after-self-inside.result outside says c.after-self-inside.ensures c.take.new.self c.take.ensures.after c.in_default-command.not-During))
