@@ -161,6 +161,8 @@ ARGUMENTS = {
     "lend_move": [told(LentMove)],
     "commit_lent": [told(LentMove), told(byte)],
     "put_back_lent": [told(LentMove)],
+    "lend_move_from": [u32, u32, told(LentMove)],
+    "commit_and_claim": [told(LentMove), told(byte)],
     "next_moving": [u32, told(MovingPage), told(Move)],
     "journal": [told(u64), told(u64)],
     "record_at": [size, told(Record)],
@@ -383,7 +385,7 @@ OFTEN = {
     **dict.fromkeys(["isolate", "commit", "lend_move", "commit_lent"], 20),
     **dict.fromkeys(["map_many", "unmap_many"], 15),
     **dict.fromkeys(["block_words", "return_block", "page_words", "return_page"], 15),
-    **dict.fromkeys(["next_moving", "claim", "empty_some"], 10),
+    **dict.fromkeys(["next_moving", "claim", "empty_some", "lend_move_from", "commit_and_claim"], 10),
     **dict.fromkeys(["put_back", "put_back_lent", "move_pages", "take_claimed", "drop_claim"], 5),
     **dict.fromkeys(["begin_round", "reserve", "set_apart", "cheapest_run"], 2),
     "keep": 20,
@@ -393,7 +395,10 @@ OFTEN = {
 # The calls that end the quiet of a round where they are accepted.
 LOUD = {"map", "map_at", "share", "unmap", "pin", "unpin", "take_order", "give_order", "mark", "unmark"} | {"claim", "empty_some", "drop_claim"}
 BY_HAND = {"isolate", "commit", "put_back"}
-LENDING = {"block_words", "return_block", "page_words", "return_page", "lend_move", "commit_lent", "put_back_lent"}
+LENDING = {
+    *("block_words", "return_block", "page_words", "return_page"),
+    *("lend_move", "lend_move_from", "commit_lent", "commit_and_claim", "put_back_lent"),
+}
 BY_KEEPER = {"keep", "take_kept"}
 MANY = {"map_many", "unmap_many"}
 MOST_KEPT = 2  # blocks that a keeper has ready

@@ -20,7 +20,7 @@ from c_programs import BINDING, EXAMPLES
 TESTS = runs.ROOT / "c/tests"
 PROGRAMS = [
     *(EXAMPLES / name for name in ("first.c", "buffers.c", "vm.cpp", "keeper.cpp", "host.c", "host.cpp", "database.c", "database.cpp")),
-    *(TESTS / name for name in ("every_call.c", "lent.c", "four_threads.c", "rounds.c", "workers.c", "owners.cpp", "shared_rounds.cpp")),
+    *(TESTS / name for name in ("every_call.c", "lent.c", "four_threads.c", "rounds.c", "workers.c", "emptying.c", "owners.cpp", "shared_rounds.cpp")),
 ]
 ADDRESSES = ["-fsanitize=address,undefined", "-fno-sanitize-recover=all"]
 THREADS = ["-fsanitize=thread"]
@@ -29,7 +29,7 @@ VALGRIND = ["valgrind", "-q", "--error-exitcode=9", "--leak-check=full", "--fair
 OF_C = ["--errors-for-leak-kinds=all"]
 # Rust's library keeps memory of a thread until the program ends.
 OF_RUST = ["--errors-for-leak-kinds=definite", "--show-leak-kinds=definite"]
-OF_THREADS = ("buffers.c", "four_threads.c", "rounds.c", "workers.c", "shared_rounds.cpp", "keeper.cpp", "database.c", "database.cpp")
+OF_THREADS = ("buffers.c", "four_threads.c", "rounds.c", "workers.c", "emptying.c", "shared_rounds.cpp", "keeper.cpp", "database.c", "database.cpp")
 # They write times and memory to standard error.
 TIMED = ("keeper.cpp", "keeper.rs", "host.c", "host.cpp", "host.rs", "database.c", "database.cpp", "database.rs")
 IN_RUST = sorted((BINDING / "examples").glob("*.rs"))

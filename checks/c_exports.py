@@ -45,7 +45,7 @@ OF_HEADER = {
     *("compactd_refusal_text", "compactd_move_of", "compactd_list_moves", "compactd_pin_words", "compactd_unpin_words"),
     *("compactd_isolate_many", "compactd_commit_many"),
 }
-OF_POOLS = {"OK", "CLOSED", "OPEN", "MET"}  # what isn't an error of the crate for Rust, since its types see to it
+OF_POOLS = {"OK", "CLOSED", "OPEN", "MET", "NONE_LEFT"}  # what isn't an error of the crate for Rust, since its types see to it
 # A byte of the kit's heap, whose address stands for memory of no size.
 NOTHING = "nothing"
 

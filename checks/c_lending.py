@@ -10,6 +10,7 @@ from c_machine import LENT, OWN_MEMORY
 u32, u64, size, byte = ctypes.c_uint32, ctypes.c_uint64, ctypes.c_size_t, ctypes.c_ubyte
 WORD = 8  # its bytes
 GARBAGE = 0x5A
+COMMITS = ("commit_lent", "commit_and_claim")
 
 
 class Words(ctypes.Structure):
@@ -189,12 +190,18 @@ class Lending:
     # Moves.
 
     def lend_move(self, chooser):
-        """Borrows the words of the next page of the round, compares them with those that it has, and writes some where it goes to."""
+        return self.lend("lend_move", chooser)
+
+    def lend_move_from(self, chooser):
+        return self.lend("lend_move_from", chooser, *chooser.take_claimed())
+
+    def lend(self, name, chooser, *run):
+        """Borrows the words of the next page of the round or of a run, compares them with those that it has, and writes some where it goes to."""
         move = LentMove(*(chooser.chance.getrandbits(32) for _ in range(5)))
         before = fields_of_move(move)
-        number, page = self.pool.wanted("lend_move", ())
-        answer = self.pool.call("lend_move", move)
-        self.need("lend_move", (answer, *fields_of_move(move)), (number, *(self.moved_words(page, move.page) if page else before)))
+        number, page = self.pool.wanted(name, run)
+        answer = self.pool.call(name, *run, move)
+        self.need(f"{name}{run}", (answer, *fields_of_move(move)), (number, *(self.moved_words(page, move.page) if page else before)))
         if answer == 0:
             written_by_pointer(words_at(move.goal), chooser)
             self.lent_moves[page.serial] = move, list(words_at(move.goal))
@@ -208,10 +215,16 @@ class Lending:
         return page.serial, number, page.frame, page.target, 0, *of_frames
 
     def commit_lent(self, chooser):
+        return self.commit("commit_lent", chooser)
+
+    def commit_and_claim(self, chooser):
+        return self.commit("commit_and_claim", chooser)
+
+    def commit(self, name, chooser):
         """Copies words of a move that are lent, and ends it."""
         moved = byte(GARBAGE)
-        answer, said = self.end_move("commit_lent", chooser, moved)
-        self.need("commit_lent", moved.value, GARBAGE if said is None else said)
+        answer, said = self.end_move(name, chooser, moved)
+        self.need(name, moved.value, GARBAGE if said is None else said)
         return answer
 
     def put_back_lent(self, chooser):
@@ -226,7 +239,7 @@ class Lending:
         serial = chance.choice(list(self.lent_moves))
         self.compare_move(serial)
         move = same_move(self.lent_moves[serial][0])
-        if name == "commit_lent":
+        if name in COMMITS:
             ctypes.memmove(move.goal.at, move.origin.at, move.goal.count * WORD)
         wrong = chance.choice(["serial", "page", "source", "target", "origin", "goal"]) if chance.random() < 0.1 else None
         if wrong in ("origin", "goal"):
@@ -238,7 +251,7 @@ class Lending:
         answer, said = self.give_move_back(name, move, wrong is None, *told)
         if answer == 0:
             del self.lent_moves[serial]
-        elif name == "commit_lent":
+        elif name in COMMITS:
             self.lent_moves[serial] = self.lent_moves[serial][0], list(words_at(self.lent_moves[serial][0].goal))
         return answer, said
 

@@ -6,6 +6,7 @@ from machine import Refused
 MET = 53  # the answer of an isolation where the scanners have met
 STOPPED = {None: 0, "journalfull": 2, "met": MET}  # why no more pages are moved
 NOT_MOVING = 54
+NONE_LEFT = 55  # the answer where no page of a run can be sent out of it
 LENT, OWN_MEMORY = 19, 20
 MOST_SPACES = 256
 MOST_PAGES_OF_A_SPACE = 2**24
@@ -52,6 +53,18 @@ class Zone(machine.Zone):
         page = super().isolate(source, target)
         self.note(8, number=page.serial, other=None)
         return page
+
+    def send(self, first, order):
+        """The lowest page of a run that may go, on its way to the highest free frame of an unmarked pageblock."""
+        self.need_frames(first, 2**order)
+        self.need_places(2)
+        self.need_memory()
+        source = next(filter(self.may_go, range(first, first + 2**order)), None)
+        target = next(filter(self.can_take, self.frames.downwards(0, self.size)), None)
+        if source is None or target is None:
+            raise Refused(NONE_LEFT)
+        self.is_quiet = False
+        return self.isolate(source, target)
 
     def clear(self, firsts, count, blocks=0):
         moved = super().clear(firsts, count, blocks)
@@ -322,6 +335,19 @@ class ByMachine:
     def commit_lent(self, serial, is_own, counts):
         need_both(*counts)
         return int(self.end(serial, is_own, is_own and self.zone.moving[serial].pins == 0))
+
+    def lend_move_from(self, first, order):
+        """The page that moves."""
+        need_order(order)
+        return self.zone.send(first, order)
+
+    def commit_and_claim(self, serial, is_own, counts):
+        source = self.zone.moving[serial].frame if is_own else None
+        moved = self.commit_lent(serial, is_own, counts)
+        if moved:
+            self.zone.claim_free([source])
+            self.zone.is_quiet = False
+        return moved
 
     def put_back_lent(self, serial, is_own, counts):
         need_both(*counts)

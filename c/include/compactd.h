@@ -40,16 +40,17 @@
  *   - Once compactd_open_in has taken the memory, nothing but calls reads or writes its words until the pool is closed, except those that
  *     are lent. compactd_block_words lends the words of a block, and compactd_page_words those of a page: until compactd_return_block or
  *     compactd_return_page takes them back, nobody else has them, and the caller reads and writes them by the pointer, from any thread,
- *     beside calls on the pool too. So may the kernel or a device for it. So it is with the words `to` of compactd_lend_move, until
- *     compactd_commit_lent or compactd_put_back_lent takes them back; the words `from` are only read.
- *   - Whatever is done with lent words, by a device too, has ended when compactd_return_block, compactd_return_page, compactd_commit_lent,
- *     compactd_put_back_lent or a closing begins. No word is used after it. But the words of a move may be copied beside compactd_close and
- *     after it too, as long as the memory is there: all of it is the caller's then, but no clause says so.
+ *     beside calls on the pool too. So may the kernel or a device for it. So it is with the words `to` of a move, which
+ *     compactd_lend_move or compactd_lend_move_from lends, until compactd_commit_lent, compactd_commit_and_claim or compactd_put_back_lent
+ *     takes them back; the words `from` are only read.
+ *   - Whatever is done with lent words, by a device too, has ended when a call that takes them back or a closing begins. No word is used
+ *     after it. But the words of a move may be copied beside compactd_close and after it too, as long as the memory is there: all of it is
+ *     the caller's then, but no clause says so.
  *   - compactd_return_block gets the words that compactd_block_words lent for this very block of this pool, and compactd_return_page those
  *     that compactd_page_words lent for this very page, by any address that names it then. Each are returned once.
- *   - The `from` and `to` of a compactd_lent_move are all zeros before compactd_lend_move fills it, and only calls write its fields.
- *     compactd_commit_lent and compactd_put_back_lent get the move as compactd_lend_move of this pool filled it, once. When
- *     compactd_commit_lent begins, `from` has the words that it was lent with, and `to` has the same.
+ *   - The `from` and `to` of a compactd_lent_move are all zeros before a call of this pool fills it, and only calls write its fields. Each
+ *     call that ends a move gets it as it was filled, once. When compactd_commit_lent or compactd_commit_and_claim begins, `from` has the
+ *     words that it was lent with, and `to` has the same.
  *
  * Two caps of a pool's life. The way out of each is to close the pool and open another.
  * - 2^53 recorded calls of a pool that keeps no journal; each word of compactd_read and compactd_write counts as one, and each page that is
@@ -157,7 +158,8 @@ enum compactd_refusal {
     COMPACTD_CLOSED = 51,       /* the pool is closed */
     COMPACTD_OPEN = 52,         /* the pool is open already */
     COMPACTD_MET = 53,          /* the scanners of the round have met */
-    COMPACTD_NOT_MOVING = 54    /* no page is moving out of this frame or a higher one */
+    COMPACTD_NOT_MOVING = 54,   /* no page is moving out of this frame or a higher one */
+    COMPACTD_NONE_LEFT = 55     /* no page of the run can move, or no frame is free for it */
 };
 
 /* The words for a refusal, for any number. It is a part of this header and not of the library. */
@@ -188,6 +190,7 @@ COMPACTD_IN_HEADER const char *compactd_refusal_text(uint32_t refusal)
     case COMPACTD_OPEN: return "the pool is open already";
     case COMPACTD_MET: return "the scanners of the round have met";
     case COMPACTD_NOT_MOVING: return "no page is moving out of this frame or a higher one";
+    case COMPACTD_NONE_LEFT: return "no page of the run can move, or no frame is free for it";
     default: return "unknown refusal";
     }
 }
@@ -739,6 +742,19 @@ uint32_t compactd_claim(compactd_pool *pool, uint32_t first, uint32_t order, uin
  * where they are more. */
 uint32_t compactd_empty_some(compactd_pool *pool, uint32_t first, uint32_t order, uint32_t most, uint32_t *moved, uint32_t *unclaimed)
     COMPACTD_CALL;
+
+/* Isolates the lowest page of a run that may go, outside of a round, and lends the words of the frame that it leaves and of the one that it goes
+ * to, as compactd_lend_move does: the highest free frame that is in no marked pageblock. compactd_empty_some with `most` 0 is made before, so
+ * that this isn't a frame of the run. Then compactd_commit_and_claim ends the move, or compactd_put_back_lent. So the pages of a run are copied
+ * without the lock; compactd_round.h empties runs so, on threads.
+ * Refused: CLOSED; RANGE, as compactd_claim is; JOURNAL_FULL where there aren't two places; OWN_MEMORY where the pool lies in memory of its own;
+ * NONE_LEFT where each page of the run is moving, pinned or unmovable, or no frame is free for it. */
+uint32_t compactd_lend_move_from(compactd_pool *pool, uint32_t first, uint32_t order, compactd_lent_move *move) COMPACTD_CALL;
+
+/* Takes the words of a move back, and ends it as compactd_commit_lent does, but that the frame that the page left is claimed. One that has a
+ * pin is in it again.
+ * Refused: as compactd_commit_lent is. */
+uint32_t compactd_commit_and_claim(compactd_pool *pool, compactd_lent_move *move, compactd_bool *moved) COMPACTD_CALL;
 
 /* Hands out the block of 2^order frames that begins at a frame, all of which are claimed. Its words are zeros. It is given back by
  * compactd_give_order.

@@ -9,7 +9,8 @@
 //
 // As in C, calls on one pool don't overlap, unless all of them are questions. Destroying a Pool, a Huge, a BlockWords, a PageWords, a Moving or
 // a LentMove is a call on its pool that isn't a question. Threads that share a pool make each call under a lock of their own, destructors
-// included, and Pool::round and Pool::round_on make rounds under it. This header isn't proved. It passes what it is given to calls that are.
+// included. Pool::round and Pool::round_on make rounds under it, and Pool::empty_on empties runs. This header isn't proved. It passes what it is
+// given to calls that are.
 #ifndef COMPACTD_HPP
 #define COMPACTD_HPP
 
@@ -508,7 +509,8 @@ private:
 };
 
 // A page that is moving, while the words of the frame that it leaves and of the one that it goes to are lent. They are copied by `copy`, beside
-// calls on the pool too, and then commit ends the move. One that is empty has no page: lend_move returns it where the scanners have met.
+// calls on the pool too, and then commit ends the move, or commit_and_claim. One that is empty has no page: lend_move returns it where the
+// scanners have met, and lend_move_from where no page is left.
 class LentMove {
 public:
     LentMove() noexcept : move_() {}
@@ -561,6 +563,15 @@ public:
         return moved;
     }
 
+    // The same, but that the frame that the page left is claimed.
+    bool commit_and_claim()
+    {
+        bool moved = false;
+        detail::done(compactd_commit_and_claim(raw(), &move_, &moved));
+        handle_.reset();
+        return moved;
+    }
+
     // Ends the move of a page that wasn't copied: it is in its old frame. This is empty then.
     void put_back()
     {
@@ -606,8 +617,8 @@ struct ListedMoves {
     std::uint32_t stopped;
 };
 
-// What Pool::round and Pool::round_on did: how many pages were isolated, moved and put back, and in `stopped` why there were no more:
-// COMPACTD_MET, COMPACTD_JOURNAL_FULL, or COMPACTD_CLOSED.
+// What Pool::round, Pool::round_on and Pool::empty_on did: how many pages were isolated, moved and put back, and in `stopped` why there were
+// no more: COMPACTD_MET, COMPACTD_NONE_LEFT where runs were emptied, COMPACTD_JOURNAL_FULL, or COMPACTD_CLOSED.
 struct Round {
     compactd_round_counts counts;
     std::uint32_t stopped;
@@ -900,7 +911,7 @@ public:
         const compactd_lock lock = detail::lock_of(mutex);
         const std::shared_ptr<detail::Handle> handle = handle_under(mutex);
         Round round = Round();
-        return ended(compactd_round_with(&handle->raw, &lock, pages, &round.counts), round);
+        return ended(compactd_round_with(&handle->raw, &lock, pages, &round.counts), COMPACTD_MET, round);
     }
 
     // Makes a round on so many threads, 1 to 64, in a pool that lies in a Memory: this one, and others that are started for it. Each takes so
@@ -911,7 +922,7 @@ public:
         const compactd_lock lock = detail::lock_of(mutex);
         const std::shared_ptr<detail::Handle> handle = handle_under(mutex);
         Round round = Round();
-        return ended(compactd_round_on_with(&handle->raw, &lock, threads, pages, &round.counts), round);
+        return ended(compactd_round_on_with(&handle->raw, &lock, threads, pages, &round.counts), COMPACTD_MET, round);
     }
 
     // A round in slices by hand: begin_round, then move_pages until its Slice has stopped.
@@ -1015,7 +1026,7 @@ public:
     }
 
     // An evacuation in steps: claim, then empty_some until no frame of the run is unclaimed, with other calls between these steps, then
-    // take_claimed. Or drop_claim, at any time. No page comes to a claimed frame.
+    // take_claimed. Or drop_claim, at any time. No page comes to a claimed frame. empty_on empties runs on several threads.
 
     // Claims the free frames of the run of 2^order frames that begins at a frame, and returns how many pages are in the run.
     std::uint32_t claim(std::uint32_t first, std::uint32_t order = 9)
@@ -1031,6 +1042,30 @@ public:
         Step step = Step();
         detail::done(compactd_empty_some(raw(), first, order, most, &step.moved, &step.unclaimed));
         return step;
+    }
+
+    // Isolates the lowest page of a run that may go, outside of a round, and lends the words of both its frames, in a pool that lies in a
+    // Memory. Nothing is copied. LentMove::commit_and_claim ends the move.
+    LentMove lend_move_from(std::uint32_t first, std::uint32_t order = 9)
+    {
+        compactd_lent_move move = compactd_lent_move();
+        if (!is_there(compactd_lend_move_from(raw(), first, order, &move), COMPACTD_NONE_LEFT))
+            return LentMove();
+        return LentMove(handle_, move);
+    }
+
+    // Empties runs, by their first frames, on threads as round_on has them, with each call under the mutex. First it claims the free frames of
+    // each run; then it moves page after page out of the runs, and claims the frame that it leaves. Pages that are moving, pinned or unmovable
+    // stay. take_claimed takes a run whose frames are all claimed.
+    template <typename Mutex>
+    Round empty_on(Mutex &mutex, const std::vector<std::uint32_t> &firsts, std::uint32_t order, std::uint32_t threads, std::uint32_t pages)
+    {
+        const compactd_lock lock = detail::lock_of(mutex);
+        const std::shared_ptr<detail::Handle> handle = handle_under(mutex);
+        Round round = Round();
+        const std::uint32_t answer =
+            compactd_empty_on_with(&handle->raw, &lock, firsts.data(), firsts.size(), order, threads, pages, &round.counts);
+        return ended(answer, COMPACTD_NONE_LEFT, round);
     }
 
     // Hands out a run whose frames are all claimed.
@@ -1070,12 +1105,12 @@ private:
         return handle_;
     }
 
-    // A round that has ended with an answer, or that was refused as a whole.
-    static Round ended(std::uint32_t answer, Round round)
+    // Work that has ended with an answer, which is 0 for this end of it, or that was refused as a whole.
+    static Round ended(std::uint32_t answer, std::uint32_t end, Round round)
     {
         if (answer == COMPACTD_RANGE || answer == COMPACTD_OWN_MEMORY)
             throw Error(answer);
-        round.stopped = answer == COMPACTD_OK ? std::uint32_t(COMPACTD_MET) : answer;
+        round.stopped = answer == COMPACTD_OK ? end : answer;
         return round;
     }
 

@@ -6,7 +6,7 @@
  *
  * compactd_round_on makes a round on several threads, in a pool that lies in memory of the caller's. Each of them takes some moves under the
  * lock, copies the words of these pages without it, and ends the moves under the lock as it takes the next ones. So the pages that are in hand
- * are moving for other threads, and these wait less for the lock: no page is copied under it.
+ * are moving for other threads, and these wait less for the lock: no page is copied under it. compactd_empty_on empties runs of frames so.
  *
  * What is proved, and what isn't. Each call on the pool is proved. So, whatever other threads do as long as calls are made under the lock
  * and nobody writes what is lent, each page keeps its words, and no page is moving by a slice where the lock is let go. This header isn't
@@ -136,21 +136,48 @@ COMPACTD_IN_HEADER uint32_t compactd_round(compactd_pool *pool, pthread_mutex_t 
     return compactd_round_with(pool, &mutex, pages, counts);
 }
 
-/* What the threads of a round share. The last two are read and written under the lock. */
+/* Runs of 2^order frames that are emptied, by their first frames, the next one first. */
+typedef struct compactd_round_runs {
+    const uint32_t *firsts;
+    size_t count;
+    uint32_t order;
+} compactd_round_runs;
+
+/* What the threads share that make a round or empty runs. What changes is read and written under the lock. */
 typedef struct compactd_round_share {
     compactd_pool *pool;
     const compactd_lock *lock;
-    uint32_t pages;   /* how many moves a thread takes at a time */
-    uint32_t stopped; /* why no further move is taken, or 0 */
+    compactd_round_runs *runs; /* those that are left, or null where a round is made */
+    uint32_t pages;            /* how many moves a thread takes at a time */
+    uint32_t stopped;          /* why no further move is taken, or 0 */
     compactd_round_counts counts;
 } compactd_round_share;
+
+/* Takes the move that is next. Runs that no page can leave are done with. */
+COMPACTD_IN_HEADER uint32_t compactd_round_lend(compactd_round_share *share, compactd_lent_move *move)
+{
+    compactd_round_runs *const runs = share->runs;
+    uint32_t answer = COMPACTD_NONE_LEFT;
+
+    if (runs == COMPACTD_NULL)
+        return compactd_lend_move(share->pool, move);
+    while (runs->count > 0 && answer == COMPACTD_NONE_LEFT) {
+        answer = compactd_lend_move_from(share->pool, *runs->firsts, runs->order, move);
+        if (answer == COMPACTD_NONE_LEFT) {
+            runs->firsts++;
+            runs->count--;
+        }
+    }
+    return answer;
+}
 
 /* Ends a move whose words were copied. Where that is refused, no further move is taken by any thread, and the page is put back, unless the
  * pool is closed. */
 COMPACTD_IN_HEADER void compactd_round_end(compactd_round_share *share, compactd_lent_move *move)
 {
     compactd_bool moved = 0;
-    const uint32_t answer = compactd_commit_lent(share->pool, move, &moved);
+    const uint32_t answer = share->runs == COMPACTD_NULL ? compactd_commit_lent(share->pool, move, &moved)
+                                                         : compactd_commit_and_claim(share->pool, move, &moved);
 
     if (answer != COMPACTD_OK)
         share->stopped = answer;
@@ -160,13 +187,13 @@ COMPACTD_IN_HEADER void compactd_round_end(compactd_round_share *share, compactd
     }
 }
 
-/* Takes the next moves of the round, and gets how many. */
+/* Takes the next moves, and gets how many. */
 COMPACTD_IN_HEADER uint32_t compactd_round_take(compactd_round_share *share, compactd_lent_move *moves)
 {
     uint32_t count = 0;
 
     while (share->stopped == COMPACTD_OK && count < share->pages) {
-        share->stopped = compactd_lend_move(share->pool, &moves[count]);
+        share->stopped = compactd_round_lend(share, &moves[count]);
         count += share->stopped == COMPACTD_OK;
     }
     share->counts.isolated += count;
@@ -186,7 +213,7 @@ COMPACTD_IN_HEADER uint32_t compactd_round_exchange(compactd_round_share *share,
     return count;
 }
 
-/* What each thread of a round does: it copies pages without the lock until there are no more, and has no move in hand then. */
+/* What each of the threads does: it copies pages without the lock until there are no more, and has no move in hand then. */
 COMPACTD_IN_HEADER void *compactd_round_work(void *shared)
 {
     compactd_round_share *share = COMPACTD_AS(compactd_round_share *, shared);
@@ -202,7 +229,7 @@ COMPACTD_IN_HEADER void *compactd_round_work(void *shared)
     return shared;
 }
 
-/* Shares a round that was begun with so many threads besides the one that calls, or with as many as can be started. */
+/* Shares what was begun with so many threads besides the one that calls, or with as many as can be started. */
 COMPACTD_IN_HEADER void compactd_round_start(compactd_round_share *share, uint32_t others)
 {
     pthread_t threads[COMPACTD_ROUND_MOST];
@@ -213,6 +240,56 @@ COMPACTD_IN_HEADER void compactd_round_start(compactd_round_share *share, uint32
     compactd_round_work(share);
     while (started > 0)
         pthread_join(threads[--started], COMPACTD_NULL);
+}
+
+/* Claims the free frames of each run, where a block can begin at all of them. */
+COMPACTD_IN_HEADER uint32_t compactd_round_claim(compactd_pool *pool, const compactd_round_runs *runs)
+{
+    compactd_geometry geometry;
+    uint32_t moved, unclaimed, answer = compactd_describe(pool, &geometry);
+    size_t at;
+
+    if (answer == COMPACTD_OK && (runs->order < 3 || runs->order > 9))
+        answer = COMPACTD_RANGE;
+    for (at = 0; at < runs->count && answer == COMPACTD_OK; at++)
+        if (runs->firsts[at] % (1u << runs->order) != 0 || runs->firsts[at] >= 512 * geometry.blocks)
+            answer = COMPACTD_RANGE;
+    for (at = 0; at < runs->count && answer == COMPACTD_OK; at++)
+        answer = compactd_empty_some(pool, runs->firsts[at], runs->order, 0, &moved, &unclaimed);
+    return answer;
+}
+
+/* Begins what threads are to share, under the lock. */
+COMPACTD_IN_HEADER uint32_t compactd_round_open(compactd_round_share *share)
+{
+    uint32_t answer;
+
+    if (share->runs == COMPACTD_NULL)
+        return compactd_round_begin(share->pool, share->lock);
+    share->lock->take(share->lock->own);
+    answer = compactd_round_claim(share->pool, share->runs);
+    share->lock->let_go(share->lock->own);
+    return answer;
+}
+
+/* Makes a round or empties runs on so many threads, and answers 0 where no page was left. */
+COMPACTD_IN_HEADER uint32_t compactd_round_run(compactd_round_share *share, uint32_t threads, compactd_round_counts *counts)
+{
+    const uint32_t pages = share->pages;
+    int cancelability;
+
+    *counts = share->counts;
+    if (threads < 1 || threads > COMPACTD_ROUND_MOST || pages < 1 || pages > COMPACTD_ROUND_MOST)
+        return COMPACTD_RANGE;
+    pthread_setcancelstate(PTHREAD_CANCEL_DISABLE, &cancelability);
+    share->stopped = compactd_round_open(share);
+    if (share->stopped == COMPACTD_OK)
+        compactd_round_start(share, threads - 1);
+    *counts = share->counts;
+    pthread_setcancelstate(cancelability, &cancelability);
+    if (share->stopped == COMPACTD_MET || share->stopped == COMPACTD_NONE_LEFT)
+        share->stopped = COMPACTD_OK;
+    return share->stopped;
 }
 
 /* Makes a round on a pool that lies in memory of the caller's, whose calls are made under this lock, on so many threads, 1 to 64: the one that
@@ -238,24 +315,12 @@ COMPACTD_IN_HEADER uint32_t compactd_round_on_with(compactd_pool *pool, const co
                                                    compactd_round_counts *counts)
 {
     compactd_round_share share;
-    int cancelability;
 
     memset(&share, 0, sizeof share);
-    *counts = share.counts;
-    if (threads < 1 || threads > COMPACTD_ROUND_MOST || pages < 1 || pages > COMPACTD_ROUND_MOST)
-        return COMPACTD_RANGE;
     share.pool = pool;
     share.lock = lock;
     share.pages = pages;
-    pthread_setcancelstate(PTHREAD_CANCEL_DISABLE, &cancelability);
-    share.stopped = compactd_round_begin(pool, lock);
-    if (share.stopped == COMPACTD_OK)
-        compactd_round_start(&share, threads - 1);
-    *counts = share.counts;
-    pthread_setcancelstate(cancelability, &cancelability);
-    if (share.stopped == COMPACTD_MET)
-        share.stopped = COMPACTD_OK;
-    return share.stopped;
+    return compactd_round_run(&share, threads, counts);
 }
 
 COMPACTD_IN_HEADER uint32_t compactd_round_on(compactd_pool *pool, pthread_mutex_t *lock, uint32_t threads, uint32_t pages,
@@ -264,6 +329,43 @@ COMPACTD_IN_HEADER uint32_t compactd_round_on(compactd_pool *pool, pthread_mutex
     const compactd_lock mutex = compactd_round_mutex(lock);
 
     return compactd_round_on_with(pool, &mutex, threads, pages, counts);
+}
+
+/* Empties `count` runs of 2^order frames, by their first frames, on a pool that lies in memory of the caller's, with threads, a lock and moves as
+ * compactd_round_on_with has them. First it claims the free frames of each run, so that no page comes there. Then it moves page after page out
+ * of the runs, the first run and the lowest page first, each to the highest free frame that is in no marked pageblock, and claims the frame
+ * that it leaves. A page that is moving, pinned or unmovable stays, and so does one that gets a pin while it is in hand. compactd_take_claimed
+ * takes a run whose frames are all claimed; of another one compactd_empty_some goes on, or compactd_drop_claim gives it up. Neither a round nor
+ * another call like this is made on the pool meanwhile. With `count` 0 `firsts` may be null. compactd_empty_on_with takes a lock of any kind,
+ * and compactd_empty_on a mutex.
+ *
+ * Answers 0 where no page of the runs is left that may go, or no frame for it, and else a number of enum compactd_refusal. RANGE: a number is out
+ * of its range or a frame isn't a multiple of 2^order, and nothing changes. CLOSED. OWN_MEMORY: the pool lies in memory of its own; free frames
+ * of the runs are claimed. JOURNAL_FULL: the journal has no room for a further move. In each case it tells how many pages it isolated, moved
+ * and put back, as compactd_round_on_with does. What that says of closing and of cancelling is so here. */
+COMPACTD_IN_HEADER uint32_t compactd_empty_on_with(compactd_pool *pool, const compactd_lock *lock, const uint32_t *firsts, size_t count,
+                                                   uint32_t order, uint32_t threads, uint32_t pages, compactd_round_counts *counts)
+{
+    compactd_round_share share;
+    compactd_round_runs runs;
+
+    runs.firsts = firsts;
+    runs.count = count;
+    runs.order = order;
+    memset(&share, 0, sizeof share);
+    share.pool = pool;
+    share.lock = lock;
+    share.runs = &runs;
+    share.pages = pages;
+    return compactd_round_run(&share, threads, counts);
+}
+
+COMPACTD_IN_HEADER uint32_t compactd_empty_on(compactd_pool *pool, pthread_mutex_t *lock, const uint32_t *firsts, size_t count, uint32_t order,
+                                              uint32_t threads, uint32_t pages, compactd_round_counts *counts)
+{
+    const compactd_lock mutex = compactd_round_mutex(lock);
+
+    return compactd_empty_on_with(pool, &mutex, firsts, count, order, threads, pages, counts);
 }
 
 #ifdef __cplusplus

@@ -109,6 +109,8 @@ static void closed(compactd_pool *pool)
     IS(CLOSED, compactd_lend_move(pool, &lent_move));
     IS(CLOSED, compactd_commit_lent(pool, &lent_move, &is_so));
     IS(CLOSED, compactd_put_back_lent(pool, &lent_move));
+    IS(CLOSED, compactd_lend_move_from(pool, 0, 9, &lent_move));
+    IS(CLOSED, compactd_commit_and_claim(pool, &lent_move, &is_so));
     isolated = 7;
     IS(CLOSED, compactd_isolate_many(pool, carried, 4, words, 8, &isolated));
     IS(CLOSED, compactd_commit_many(pool, carried, 1, words, 8, statuses, are_moved));
@@ -236,6 +238,7 @@ static void ranges(compactd_pool *pool, uint32_t page_words)
         IS(RANGE, compactd_empty_some(pool, no_runs[at][0], no_runs[at][1], 1, &moved, &unclaimed));
         IS(RANGE, compactd_take_claimed(pool, no_runs[at][0], no_runs[at][1]));
         IS(RANGE, compactd_drop_claim(pool, no_runs[at][0], no_runs[at][1]));
+        IS(RANGE, compactd_lend_move_from(pool, no_runs[at][0], no_runs[at][1], &lent_move));
     }
     HOLDS(in_run == 7 && unclaimed == 7);
     IS(RANGE, compactd_reserve(pool, 2, firsts, 1, &moved));
@@ -248,6 +251,8 @@ static void ranges(compactd_pool *pool, uint32_t page_words)
     IS(OWN_MEMORY, compactd_lend_move(pool, &lent_move));
     IS(RANGE, compactd_commit_lent(pool, &lent_move, &is_so));
     IS(RANGE, compactd_put_back_lent(pool, &lent_move));
+    IS(OWN_MEMORY, compactd_lend_move_from(pool, 0, 9, &lent_move));
+    IS(RANGE, compactd_commit_and_claim(pool, &lent_move, &is_so));
     HOLDS(lent_move.from.at == NULL && lent_move.from.count == 0 && lent_move.to.at == NULL && lent_move.to.count == 0);
 }
 

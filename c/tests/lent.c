@@ -1,6 +1,6 @@
-/* Pools in memory of the caller's, and words of blocks, of pinned pages and of moving pages that are lent: each refusal and each change of
- * these calls, in pools with pages of both sizes, and memory that is mapped by compactd_memory.h. Prints each call that answers another
- * number, with its line; the status is then 1. */
+/* Pools in memory of the caller's, and words that are lent, of blocks, of pinned pages, and of pages that move in a round or out of a run:
+ * each refusal and each change of these calls, in pools with pages of both sizes, and memory that is mapped by compactd_memory.h. Prints each
+ * call that answers another number, with its line; the status is then 1. */
 #define _DEFAULT_SOURCE
 
 #include "answers.h"
@@ -946,6 +946,7 @@ static void refused_ends(uint32_t page_words)
     for (at = 0; at < 6; at++) {
         another = wrong_move[at];
         IS(STRANGER, compactd_commit_lent(&pool, &wrong_move[at], &is_so));
+        IS(STRANGER, compactd_commit_and_claim(&pool, &wrong_move[at], &is_so));
         IS(STRANGER, compactd_put_back_lent(&pool, &wrong_move[at]));
         HOLDS(wrong_move[at].serial == another.serial && wrong_move[at].page == another.page);
         HOLDS(is_same(&wrong_move[at].from, &another.from) && is_same(&wrong_move[at].to, &another.to));
@@ -954,12 +955,14 @@ static void refused_ends(uint32_t page_words)
     another.from.at = another.to.at = NULL;
     another.from.count = another.to.count = 0; /* no words at all */
     IS(RANGE, compactd_commit_lent(&pool, &another, &is_so));
+    IS(RANGE, compactd_commit_and_claim(&pool, &another, &is_so));
     IS(RANGE, compactd_put_back_lent(&pool, &another));
     another.from = move.from; /* those of one frame, and then more of one than of the other */
     IS(RANGE, compactd_commit_lent(&pool, &another, &is_so));
     another.to = move.to;
     another.to.count--;
     IS(RANGE, compactd_commit_lent(&pool, &another, &is_so));
+    IS(RANGE, compactd_commit_and_claim(&pool, &another, &is_so));
     IS(RANGE, compactd_put_back_lent(&pool, &another));
     HOLDS(another.to.count == page_words - 1 && another.to.at == move.to.at);
     copy(&move);
@@ -974,9 +977,11 @@ static void refused_ends(uint32_t page_words)
     begin_of_second = open_with_round(&second, page_words, 0);
     another = move;
     IS(STRANGER, compactd_commit_lent(&second, &another, &is_so)); /* a pool without such a move */
+    IS(STRANGER, compactd_commit_and_claim(&second, &another, &is_so));
     IS(STRANGER, compactd_put_back_lent(&second, &another));
     close_in(&second, begin_of_second, page_words);
     IS(CLOSED, compactd_commit_lent(&second, &another, &is_so));
+    IS(CLOSED, compactd_commit_and_claim(&second, &another, &is_so));
     IS(CLOSED, compactd_put_back_lent(&second, &another));
     HOLDS(is_same(&another.from, &move.from) && is_same(&another.to, &move.to));
     OK(compactd_put_back_lent(&pool, &move));
@@ -1155,6 +1160,130 @@ static void closed_beside_a_lent_move(uint32_t page_words)
     free(begin);
 }
 
+/* Pages of a run. */
+
+static void claims_are(compactd_pool *pool, uint32_t wanted)
+{
+    OK(compactd_info(pool, &counts));
+    HOLDS(counts.held == wanted);
+}
+
+/* The words of the page that goes next out of the first 16 frames are lent. It is the one of this number. */
+static void lends_from(compactd_pool *pool, const uint64_t *begin, uint32_t page_words, uint32_t number, uint32_t target)
+{
+    memset(&move, 0, sizeof move);
+    OK(compactd_lend_move_from(pool, 0, 4, &move));
+    HOLDS(move.source == 5 + number && move.target == target && are_all(&move.from, number));
+    HOLDS(move.from.at == begin + (size_t)move.source * page_words && move.to.at == begin + (size_t)target * page_words);
+}
+
+/* When no page of a run is lent. */
+static void refused_lending_from(uint32_t page_words)
+{
+    compactd_pool pool = {0};
+    uint64_t *begin;
+
+    memset(&move, 0, sizeof move);
+    OK(compactd_open_journal(&pool, page_words, 1, 3));
+    OK(compactd_map(&pool, 0, 0, 0, 0, &frame));
+    IS(OWN_MEMORY, compactd_lend_move_from(&pool, 512 - 8, 3, &move)); /* no page is there either */
+    OK(compactd_mark(&pool, 0));
+    IS(JOURNAL_FULL, compactd_lend_move_from(&pool, 0, 3, &move)); /* a place is left, and a move needs two */
+    IS(RANGE, compactd_lend_move_from(&pool, 4, 3, &move));
+    OK(compactd_close(&pool));
+    begin = open_with_round(&pool, page_words, 0);
+    IS(RANGE, compactd_lend_move_from(&pool, FRAMES, 3, &move));
+    IS(RANGE, compactd_lend_move_from(&pool, 0, 2, &move));
+    IS(RANGE, compactd_lend_move_from(&pool, 0, 10, &move));
+    IS(NONE_LEFT, compactd_lend_move_from(&pool, 512, 9, &move)); /* there is no page */
+    lends(&pool, begin, page_words, 0, &another);
+    OK(compactd_pin(&pool, 0, 0, 1));
+    OK(compactd_unmap(&pool, 0, 0, 2));
+    OK(compactd_map_at(&pool, 0, 0, 2, 1, 7));
+    memset(&move, 0, sizeof move);
+    IS(NONE_LEFT, compactd_lend_move_from(&pool, 0, 3, &move)); /* of three pages one moves, one has a pin, and one is unmovable */
+    for (frame = 0; frame < BLOCKS; frame++)
+        OK(compactd_mark(&pool, frame));
+    IS(NONE_LEFT, compactd_lend_move_from(&pool, 8, 3, &move)); /* there is a page, and no frame for it */
+    HOLDS(is_over(&move) && move.serial == 0 && move.target == 0);
+    OK(compactd_put_back_lent(&pool, &another));
+    close_in(&pool, begin, page_words);
+}
+
+/* The frame that a page left is claimed where its move was committed, and not where it has a pin or is put back. */
+static void ends_of_moves_from(uint32_t page_words)
+{
+    compactd_pool pool = {0};
+    uint64_t *begin = open_with_round(&pool, page_words, 0);
+
+    OK(compactd_quiet(&pool, &is_so));
+    HOLDS(is_so);
+    lends_from(&pool, begin, page_words, 0, FRAMES - 1);
+    OK(compactd_quiet(&pool, &is_so));
+    HOLDS(!is_so);
+    OK(compactd_empty_some(&pool, 0, 4, 0, &moved, &unclaimed));
+    claims_are(&pool, 12);
+    IS(MOVING, compactd_load(&pool, 0, 0, 0, 0, words));
+    copy(&move);
+    OK(compactd_commit_and_claim(&pool, &move, &is_so));
+    HOLDS(is_so && is_over(&move));
+    rests(&pool, 0, FRAMES - 1, 0, page_words);
+    IS(NO_FRAME, compactd_map_at(&pool, 0, 0, 9, 0, 5));
+    claims_are(&pool, 13);
+    lends_from(&pool, begin, page_words, 1, FRAMES - 2);
+    OK(compactd_pin(&pool, 0, 1, 7));
+    copy(&move);
+    OK(compactd_commit_and_claim(&pool, &move, &is_so));
+    HOLDS(!is_so && is_over(&move));
+    rests(&pool, 1, 6, 1, page_words);
+    claims_are(&pool, 13);
+    lends_from(&pool, begin, page_words, 2, FRAMES - 2); /* it passes over a page with a pin */
+    OK(compactd_put_back_lent(&pool, &move));
+    rests(&pool, 2, 7, 0, page_words);
+    claims_are(&pool, 13);
+    OK(compactd_unpin(&pool, 0, 0, 1));
+    lends_from(&pool, begin, page_words, 1, FRAMES - 2);
+    copy(&move);
+    OK(compactd_commit_lent(&pool, &move, &is_so)); /* the frame is free then */
+    HOLDS(is_so);
+    OK(compactd_map_at(&pool, 0, 0, 9, 0, 6));
+    claims_are(&pool, 13);
+    close_in(&pool, begin, page_words);
+}
+
+/* A run whose pages are copied by their caller has the same records as one that compactd_empty_some empties, and is handed out as it is. */
+static void runs_of_lent_moves(uint32_t page_words)
+{
+    compactd_pool pool = {0}, alone = {0};
+    uint64_t *begin = open_with_round(&pool, page_words, 60000), *begin_alone = open_with_round(&alone, page_words, 60000);
+    compactd_record record, wanted;
+    uint64_t records, others, room;
+    uint32_t at;
+
+    OK(compactd_empty_some(&alone, 0, 4, 16, &moved, &unclaimed));
+    HOLDS(moved == 4 && unclaimed == 0);
+    OK(compactd_empty_some(&pool, 0, 4, 0, &moved, &unclaimed));
+    for (at = 0; at < 4; at++) {
+        lends_from(&pool, begin, page_words, at, FRAMES - 1 - at);
+        copy(&move);
+        OK(compactd_commit_and_claim(&pool, &move, &is_so));
+    }
+    IS(NONE_LEFT, compactd_lend_move_from(&pool, 0, 4, &move));
+    OK(compactd_journal(&pool, &records, &room));
+    OK(compactd_journal(&alone, &others, &room));
+    HOLDS(records == others);
+    for (at = 0; at < records; at++) {
+        OK(compactd_record_at(&pool, at, &record));
+        OK(compactd_record_at(&alone, at, &wanted));
+        HOLDS(memcmp(&record, &wanted, sizeof record) == 0);
+    }
+    OK(compactd_take_claimed(&pool, 0, 4));
+    for (at = 0; at < 4; at++)
+        rests(&pool, at, FRAMES - 1 - at, 0, page_words);
+    close_in(&pool, begin, page_words);
+    close_in(&alone, begin_alone, page_words);
+}
+
 /* Memory that is mapped. */
 
 /* How many of the pages of 4 KiB of some memory the system has in memory of its own. */
@@ -1265,6 +1394,9 @@ static void both_sizes(uint32_t page_words)
     rounds_of_lent_moves(page_words);
     lent_moves_of_a_journal(page_words);
     closed_beside_a_lent_move(page_words);
+    refused_lending_from(page_words);
+    ends_of_moves_from(page_words);
+    runs_of_lent_moves(page_words);
     mapped(page_words, 0);
     mapped(page_words, 1);
 }

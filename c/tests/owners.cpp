@@ -432,6 +432,22 @@ void lent_moves()
     HOLDS(pool.close_in().size() == 2 * 512 * 512);
 }
 
+// The frame that a page of a run left is claimed, unless it has a pin.
+void moves_out_of_a_run()
+{
+    Pool own(PageSize::bytes64, 1), pool = with_pages(2);
+    HOLDS(refusal([&] { own.lend_move_from(0); }) == COMPACTD_OWN_MEMORY && refusal([&] { pool.lend_move_from(4, 3); }) == COMPACTD_RANGE);
+    pool.empty_some(0, 3, 0);
+    LentMove none, first = pool.lend_move_from(0, 3);
+    HOLDS(refusal([&] { none.commit_and_claim(); }) == COMPACTD_STRANGER && first.source() == 0 && first.target() == 1023);
+    first.copy();
+    HOLDS(first.commit_and_claim() && !first && pool.look({0, 0}).frame == 1023 && pool.info().held == 7);
+    LentMove last = pool.lend_move_from(0, 3);
+    pool.pin(0, {0, 1});
+    last.copy();
+    HOLDS(!last.commit_and_claim() && pool.look({0, 1}).frame == 1 && !pool.lend_move_from(0, 3) && pool.info().held == 7);
+}
+
 // A guard that has a move as its pool goes.
 void moves_that_stay()
 {
@@ -746,6 +762,7 @@ int main()
     words_of_another_page();
     words_that_stay();
     lent_moves();
+    moves_out_of_a_run();
     moves_that_stay();
     moves_into_themselves();
     pools_that_go();

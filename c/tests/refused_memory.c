@@ -167,7 +167,7 @@ static void make_rounds(compactd_pool *pool, uint32_t page_words)
     made(compactd_compact(pool, &is_so));
 }
 
-/* Two moves whose words are lent, where they are: the first is committed, and the second put back. */
+/* Moves whose words are lent, where they are: of two in a round the first is committed, and the second put back; one is out of a run. */
 static void make_lent_moves(compactd_pool *pool)
 {
     compactd_lent_move move = {0}, other = {0};
@@ -179,6 +179,11 @@ static void make_lent_moves(compactd_pool *pool)
         memcpy(move.to.at, move.from.at, move.to.count * sizeof move.to.at[0]);
     made(compactd_commit_lent(pool, &move, &is_so));
     made(compactd_put_back_lent(pool, &other));
+    made(compactd_lend_move_from(pool, 0, 9, &other));
+    if (other.to.count > 0)
+        memcpy(other.to.at, other.from.at, other.to.count * sizeof other.to.at[0]);
+    made(compactd_commit_and_claim(pool, &other, &is_so));
+    made(compactd_drop_claim(pool, 0, 9));
 }
 
 static void make_calls_on_pinned_pages(compactd_pool *pool)

@@ -1,5 +1,5 @@
-// Rounds of compactd.hpp with mutexes of several kinds. Alone, they leave each page where Pool::compact leaves it. Beside clients that load, store,
-// pin and map pages each word is at its place afterwards, and the counts add up. They end as they should where a number is out of its range,
+// Rounds of compactd.hpp with mutexes of several kinds, and runs that are emptied on threads. Alone, they leave each page where Pool::compact and
+// Pool::empty_some leave it. Beside clients that load, store, pin and map pages each word is at its place afterwards, and the counts add up. They end as they should where a number is out of its range,
 // the pool has memory of its own, the journal is full, and where the pool is closed or goes meanwhile; its memory stays until the round has
 // ended. A thread that waits for a FairMutex gets it before a round in slices has ended.
 #include "compactd.hpp"
@@ -99,11 +99,11 @@ Pool filled(PageSize page_size)
     return pool;
 }
 
-// Each page is where it is after a whole round, with its word. So many rounds tell what the pool counts, and no page is moving.
-void need_same(const Pool &alone, Pool &pool, const Round &round)
+// Each page is where it is in the other pool, with its word. So many rounds tell what the pool counts, and no page is moving.
+void need_same(const Pool &alone, Pool &pool, const Round &round, std::uint32_t end = COMPACTD_MET)
 {
     const compactd_round_counts counts = pool.audit(); // refused while a page is moving
-    HOLDS(round.stopped == COMPACTD_MET && round.counts.moved > 0 && round.counts.moved == counts.moved);
+    HOLDS(round.stopped == end && round.counts.moved > 0 && round.counts.moved == counts.moved);
     HOLDS(round.counts.isolated == counts.isolated && round.counts.back == 0 && counts.back == 0);
     for (std::uint32_t page = 0; page < pages; page++)
         if (page % 3 != 0)
@@ -128,16 +128,39 @@ template <typename Mutex> void rounds_alone()
     }
 }
 
+// Two runs, which are handed out once they are empty.
+void runs_alone()
+{
+    const std::vector<std::uint32_t> firsts = {512, 64};
+    std::mutex mutex;
+    for (PageSize page_size : {PageSize::bytes64, PageSize::bytes4096}) {
+        Pool alone = filled(page_size);
+        for (std::uint32_t most : {0u, 64u})
+            for (std::uint32_t first : firsts)
+                alone.empty_some(first, 6, most);
+        for (std::uint32_t threads : {1u, 2u, 4u}) {
+            Pool pool = filled(page_size);
+            need_same(alone, pool, pool.empty_on(mutex, firsts, 6, threads, 9 * threads), COMPACTD_NONE_LEFT);
+            HOLDS(pool.audit().moved == alone.audit().moved && pool.empty_on(mutex, {}, 6, threads, 1).counts.isolated == 0);
+            for (std::uint32_t first : firsts)
+                HOLDS(refusal([&] { pool.take_claimed(first, 6); }) == COMPACTD_OK);
+        }
+    }
+}
+
 void refused()
 {
     std::mutex mutex;
     Pool own(PageSize::bytes64, 2), pool = filled(PageSize::bytes64), closed = std::move(own);
     HOLDS(refusal([&] { own.round(mutex, 1); }) == COMPACTD_CLOSED && refusal([&] { own.round_on(mutex, 1, 1); }) == COMPACTD_CLOSED);
     HOLDS(refusal([&] { pool.round(mutex, 0); }) == COMPACTD_RANGE);
+    HOLDS(refusal([&] { own.empty_on(mutex, {0}, 9, 1, 1); }) == COMPACTD_CLOSED);
+    HOLDS(refusal([&] { pool.empty_on(mutex, {0, 8}, 4, 1, 1); }) == COMPACTD_RANGE && pool.info().held == 0);
     for (const std::array<std::uint32_t, 2> &numbers : {std::array<std::uint32_t, 2>{{0, 1}}, {{65, 1}}, {{1, 0}}, {{1, 65}}})
         HOLDS(refusal([&] { pool.round_on(mutex, numbers[0], numbers[1]); }) == COMPACTD_RANGE);
     closed.map(0, {0, 0});
     HOLDS(refusal([&] { closed.round_on(mutex, 2, 8); }) == COMPACTD_OWN_MEMORY && closed.look({0, 0}).frame == 0);
+    HOLDS(refusal([&] { closed.empty_on(mutex, {0}, 9, 2, 8); }) == COMPACTD_OWN_MEMORY && closed.look({0, 0}).frame == 0);
     HOLDS(pool.audit().isolated == 0 && mutex.try_lock());
     mutex.unlock();
 }
@@ -260,9 +283,12 @@ void rounds_beside_clients()
     while (served[0].turns == 0 || served[1].turns == 0)
         std::this_thread::yield();
     compactd_round_counts sum = compactd_round_counts();
-    for (std::uint32_t turn = 0; turn < 4; turn++) {
-        const Round round = turn % 2 == 0 ? pool.round_on(mutex, 3, 8) : pool.round(mutex, 8);
-        HOLDS(round.stopped == COMPACTD_MET && round.counts.isolated == round.counts.moved + round.counts.back);
+    for (std::uint32_t turn = 0; turn < 6; turn++) {
+        const bool is_round = turn % 3 != 2;
+        const Round round = !is_round ? pool.empty_on(mutex, {832, 896}, 6, 3, 8)
+                            : turn % 3 == 0 ? pool.round_on(mutex, 3, 8)
+                                            : pool.round(mutex, 8);
+        HOLDS(round.stopped == (is_round ? COMPACTD_MET : COMPACTD_NONE_LEFT) && round.counts.isolated == round.counts.moved + round.counts.back);
         sum.isolated += round.counts.isolated;
         sum.moved += round.counts.moved;
     }
@@ -332,6 +358,7 @@ int main()
     rounds_alone<std::mutex>();
     rounds_alone<FairMutex>();
     rounds_alone<std::recursive_mutex>();
+    runs_alone();
     refused();
     full_journals();
     closed_between_slices();

@@ -12,7 +12,7 @@ pub struct Step {
 }
 
 /// Evacuations in steps: [`Pool::claim`]; then [`Pool::empty_some`] until no frame of the run is unclaimed, with other calls between these
-/// steps; then [`Pool::take_claimed`]. Or [`Pool::drop_claim`], at any time.
+/// steps; then [`Pool::take_claimed`]. Or [`Pool::drop_claim`], at any time. [`Pool::empty_on`] empties runs on several threads.
 ///
 /// A claimed frame is empty and kept for a block: no page is mapped, moved or brought there, and [`Pool::take_huge`], [`Pool::evacuate`] and
 /// [`Pool::reserve`] pass over each run that has one. After each of these calls the latest round isn't quiet.

@@ -9,10 +9,17 @@ use crate::raw;
 use crate::rounds::MET;
 use crate::{Error, Kept, Pool};
 
+/// The number where no page of a run can be sent out of it.
+const NONE_LEFT: u32 = 55;
+
+/// A call that ends a move whose words are copied.
+type Commit = unsafe extern "C" fn(*mut raw::Handle, *mut raw::LentMove, *mut bool) -> u32;
+
 /// A page that is moving, while the words of the frame that it leaves and of the one that it goes to are lent. It may be sent to another
 /// thread and copied there, beside calls on the pool.
 ///
-/// [`LentMove::copy`] and then [`Pool::commit_lent`] of its pool end its move, or [`Pool::put_back_lent`] does. Where it is dropped instead,
+/// [`LentMove::copy`] and then [`Pool::commit_lent`] of its pool end its move, or [`Pool::put_back_lent`] does; of a page of a run
+/// [`Pool::commit_and_claim`] does. Where it is dropped instead,
 /// the page stays moving and its words stay lent until the pool is dropped.
 ///
 /// Its words can't be written, and a page that isn't copied can't be committed:
@@ -78,8 +85,8 @@ impl fmt::Debug for LentMove {
     }
 }
 
-/// A page that is moving, once its words are copied. [`Pool::commit_lent`] of its pool ends its move. Where it is dropped instead, the page
-/// stays moving and its words stay lent until the pool is dropped.
+/// A page that is moving, once its words are copied. [`Pool::commit_lent`] of its pool ends its move, or [`Pool::commit_and_claim`]. Where it
+/// is dropped instead, the page stays moving and its words stay lent until the pool is dropped.
 #[derive(Debug)]
 #[must_use = "a page that is dropped stays moving until its pool is dropped"]
 pub struct CopiedMove {
@@ -93,7 +100,7 @@ impl CopiedMove {
     }
 }
 
-/// Rounds whose pages are copied without the pool.
+/// Rounds, and runs that are emptied, whose pages are copied without the pool.
 impl Pool {
     /// Isolates the next page of the round and lends the words of the frame that it leaves and of the one that it goes to; None where the
     /// scanners have met. Nothing is copied: [`LentMove::copy`] does that, on any thread. Until the move ends, the page is moving for all other
@@ -123,8 +130,24 @@ impl Pool {
     /// [`Pool::open_in`].
     pub fn lend_move(&mut self) -> Result<Option<LentMove>, Error> {
         let mut lent = raw::LentMove::NONE;
-        match (unsafe { raw::compactd_lend_move(&mut self.raw, &mut lent) }, &self.mapping) {
-            (MET, _) => Ok(None),
+        let answer = unsafe { raw::compactd_lend_move(&mut self.raw, &mut lent) };
+        self.lent_by(answer, lent)
+    }
+
+    /// Isolates the lowest page of a run of `2^order` frames that may go, outside of a round, and lends the words of its frame and of the highest
+    /// free one that is in no marked pageblock; None where no page of the run may go, or there is no frame for one. [`Pool::empty_some`] without
+    /// moves is made before, so that the frame isn't one of the run. [`Pool::commit_and_claim`] ends the move, or [`Pool::put_back_lent`].
+    ///
+    /// Refused as [`Error::Range`], as [`Pool::claim`] is; or as [`Pool::lend_move`] is.
+    pub fn lend_move_from(&mut self, first: u32, order: u32) -> Result<Option<LentMove>, Error> {
+        let mut lent = raw::LentMove::NONE;
+        let answer = unsafe { raw::compactd_lend_move_from(&mut self.raw, first, order, &mut lent) };
+        self.lent_by(answer, lent)
+    }
+
+    fn lent_by(&self, answer: u32, lent: raw::LentMove) -> Result<Option<LentMove>, Error> {
+        match (answer, &self.mapping) {
+            (MET | NONE_LEFT, _) => Ok(None),
             (0, Some(mapping)) => Ok(Some(LentMove { pool: self.number, raw: lent, _mapping: Arc::clone(mapping) })),
             (answer, _) => Err(done(answer).err().unwrap_or(Error::OwnMemory)),
         }
@@ -134,11 +157,21 @@ impl Pool {
     /// one. A page that is refused comes back with the error.
     ///
     /// Refused as [`Error::Stranger`] where the page is another pool's.
-    pub fn commit_lent(&mut self, mut page: CopiedMove) -> Result<bool, Kept<CopiedMove>> {
+    pub fn commit_lent(&mut self, page: CopiedMove) -> Result<bool, Kept<CopiedMove>> {
+        self.commit_by(raw::compactd_commit_lent, page)
+    }
+
+    /// Takes the words of a move back, and ends it as [`Pool::commit_lent`] does, but that the frame that the page left is claimed.
+    ///
+    /// Refused as [`Error::Stranger`] where the page is another pool's.
+    pub fn commit_and_claim(&mut self, page: CopiedMove) -> Result<bool, Kept<CopiedMove>> {
+        self.commit_by(raw::compactd_commit_and_claim, page)
+    }
+
+    fn commit_by(&mut self, call: Commit, mut page: CopiedMove) -> Result<bool, Kept<CopiedMove>> {
         let mut moved = false;
-        let ended = self
-            .own_lent(&page.lent)
-            .and_then(|()| done(unsafe { raw::compactd_commit_lent(&mut self.raw, &mut page.lent.raw, &mut moved) }));
+        // SAFETY: it is a call of the library, and gets a move of this pool whose words are copied.
+        let ended = self.own_lent(&page.lent).and_then(|()| done(unsafe { call(&mut self.raw, &mut page.lent.raw, &mut moved) }));
         match ended {
             Ok(()) => Ok(moved),
             Err(error) => Err(Kept { error, value: page }),

@@ -42,7 +42,7 @@
 //!
 //! A `Pool` may be sent to another thread. Threads that share one keep it in a `Mutex`. A [`MovingGuard`] is a page of such a pool that is
 //! moving; it puts the page back when it is dropped. [`Pool::round`] makes a round in slices, and [`Pool::round_on`] one on several threads,
-//! which copy pages without the lock.
+//! which copy pages without the lock. [`Pool::empty_on`] empties runs of frames so.
 
 #![deny(missing_docs, unsafe_op_in_unsafe_fn)]
 

@@ -199,6 +199,8 @@ extern "C" {
     pub fn compactd_evacuate(pool: *mut Handle, first: u32, order: u32, moved: *mut u32) -> u32;
     pub fn compactd_claim(pool: *mut Handle, first: u32, order: u32, pages: *mut u32) -> u32;
     pub fn compactd_empty_some(pool: *mut Handle, first: u32, order: u32, most: u32, moved: *mut u32, unclaimed: *mut u32) -> u32;
+    pub fn compactd_lend_move_from(pool: *mut Handle, first: u32, order: u32, page: *mut LentMove) -> u32;
+    pub fn compactd_commit_and_claim(pool: *mut Handle, page: *mut LentMove, moved: *mut bool) -> u32;
     pub fn compactd_take_claimed(pool: *mut Handle, first: u32, order: u32) -> u32;
     pub fn compactd_drop_claim(pool: *mut Handle, first: u32, order: u32) -> u32;
     pub fn compactd_reserve(pool: *mut Handle, order: u32, firsts: *mut u32, count: usize, moved: *mut u32) -> u32;

@@ -23,13 +23,15 @@ pub struct ListedMoves {
     pub stopped: Option<Stopped>,
 }
 
-/// Why a round moves no further page.
+/// Why no further page is moved.
 #[derive(Clone, Copy, Debug, PartialEq, Eq, Hash)]
 pub enum Stopped {
-    /// The scanners have met, or no round was begun.
+    /// The scanners of a round have met, or no round was begun.
     Met,
     /// The journal has no room for a further move.
     JournalFull,
+    /// No page of the runs is left that can move, or no frame is free for it.
+    NoneLeft,
 }
 
 /// What [`Pool::reserve`] did.

@@ -81,6 +81,21 @@ fn leaves_a_page_that_is_pinned_or_put_back() {
 }
 
 #[test]
+fn claims_the_frame_that_a_page_of_a_run_left() {
+    let mut pool = with_round(PageSize::Bytes64, 2);
+    assert_eq!(pool.empty_some(0, 3, 0).unwrap().unclaimed, 2);
+    let page = pool.lend_move_from(0, 3).unwrap().expect("a page is there");
+    assert_eq!((page.source(), page.target()), (0, 1023));
+    assert_eq!((pool.commit_and_claim(page.copy()).unwrap(), frame(&mut pool, 0), pool.info().held), (true, Some(1023), 7));
+    let page = pool.lend_move_from(0, 3).unwrap().expect("a page is there");
+    pool.pin(0, Address::new(0, 1)).unwrap();
+    assert_eq!((pool.commit_and_claim(page.copy()).unwrap(), frame(&mut pool, 1), pool.info().held), (false, Some(1), 7));
+    assert!(pool.lend_move_from(0, 3).unwrap().is_none());
+    assert_eq!(pool.lend_move_from(4, 3).unwrap_err(), Error::Range);
+    assert_eq!(Pool::open(PageSize::Bytes64, 1).unwrap().lend_move_from(0, 3).unwrap_err(), Error::OwnMemory);
+}
+
+#[test]
 fn keeps_a_move_of_another_pool() {
     let (mut pool, mut other) = (with_round(PageSize::Bytes64, 1), with_round(PageSize::Bytes64, 1));
     let (page, of_other) = (lent(&mut pool), lent(&mut other));

@@ -1,4 +1,4 @@
-//! Rounds of a pool that threads share by a mutex.
+//! Rounds and emptied runs of a pool that threads share by a mutex.
 
 use std::sync::atomic::{AtomicBool, Ordering};
 use std::sync::Mutex;
@@ -58,6 +58,46 @@ fn rounds_leave_each_page_where_one_thread_does() {
 }
 
 #[test]
+fn runs_are_emptied_as_by_one_thread() {
+    let firsts = [256, 0];
+    for page_size in [PageSize::Bytes64, PageSize::Bytes4096] {
+        let mut alone = filled(page_size, 0, PAGES);
+        alone.pin(0, at(300)).unwrap();
+        for (most, first) in [(0, 256), (0, 0), (64, 256), (64, 0)] {
+            alone.empty_some(first, 6, most).unwrap();
+        }
+        for (threads, pages) in [(1, 5), (2, 16), (4, 64)] {
+            let pool = Mutex::new(filled(page_size, 0, PAGES));
+            pool.lock().unwrap().pin(0, at(300)).unwrap();
+            let told = Pool::empty_on(&pool, &firsts, 6, threads, pages).unwrap();
+            let mut pool = pool.into_inner().unwrap();
+            assert_eq!((told.counts, told.stopped, told.counts.moved), (pool.audit().unwrap(), Stopped::NoneLeft, 127));
+            for page in 0..PAGES {
+                assert_eq!(pool.load(0, at(page), page_size.words() - 1), Ok(page.into()));
+                assert_eq!(frame(&mut pool, page), frame(&mut alone, page));
+            }
+            assert_eq!(pool.take_claimed(256, 6), Err(Error::NoBlock));
+            let huge = pool.take_claimed(0, 6).unwrap();
+            pool.give(huge).unwrap();
+        }
+    }
+}
+
+#[test]
+fn emptied_runs_are_refused() {
+    let pool = Mutex::new(filled(PageSize::Bytes64, 0, 1));
+    for (firsts, order, threads, pages) in
+        [([0], 6, 0, 1), ([0], 6, 1, 65), ([0], 2, 1, 1), ([0], 10, 1, 1), ([32], 6, 1, 1), ([1024], 6, 1, 1)]
+    {
+        assert_eq!(Pool::empty_on(&pool, &firsts, order, threads, pages), Err(Error::Range));
+    }
+    let own = Mutex::new(Pool::open(PageSize::Bytes64, 1).unwrap());
+    assert_eq!(Pool::empty_on(&own, &[0], 9, 2, 8), Err(Error::OwnMemory));
+    assert_eq!((own.lock().unwrap().info().held, pool.lock().unwrap().info().held), (0, 0));
+    assert_eq!(Pool::empty_on(&pool, &[], 9, 2, 8).unwrap().counts.isolated, 0);
+}
+
+#[test]
 fn rounds_are_refused() {
     let pool = Mutex::new(filled(PageSize::Bytes64, 0, 1));
     assert_eq!(Pool::round(&pool, 0), Err(Error::Range));
@@ -109,7 +149,10 @@ fn rounds_go_on_beside_a_client() {
     let (pool, is_over) = (Mutex::new(filled(PageSize::Bytes4096, 0, PAGES)), AtomicBool::new(false));
     let (counts, added) = thread::scope(|scope| {
         let client = scope.spawn(|| serve(&pool, &is_over));
-        let rounds = [(); 4].map(|()| Pool::round_on(&pool, 3, 8).unwrap().counts);
+        let rounds = [0, 1, 2, 3].map(|turn| match turn {
+            2 => Pool::empty_on(&pool, &[960], 6, 3, 8).unwrap().counts,
+            _ => Pool::round_on(&pool, 3, 8).unwrap().counts,
+        });
         is_over.store(true, Ordering::Relaxed);
         (rounds, client.join().unwrap())
     });

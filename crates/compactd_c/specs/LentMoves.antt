@@ -1,14 +1,16 @@
 -- The moves whose words C has: those of the frame that a page leaves, and of the one that it goes to.
-use Rattle.std.specs.Prelude.{◌≡◌, ℕ, not, length, nat_eq, is_some, if◌then◌else◌, Option, Some, None}
+use Rattle.std.specs.Prelude.{◌≡◌, ◌^◌, ℕ, Bool, true, not, length, nat_eq, is_some, if◌then◌else◌, IfSome, Option, Some, None}
 use Rattle.std.specs.Option.{option_and_then, option_map}
+use Rattle.fewest_core.specs.Sending.{next_move_from, send_refusal}
+use Rattle.state_core.specs.declared.moves.Next.{Next}
 use Rattle.state_core.specs.declared.moves.Next.TheVariants as next
-use Rattle.state_core.specs.LentMoves.{LentMove, is_lent_move, lend_move_refusal, lent_committed, lent_put_back}
+use Rattle.state_core.specs.LentMoves.{IsLentMove, LentMove, is_lent_move, lend_move_refusal}
 use Rattle.state_core.specs.Pairs.{next_pair}
 use Rattle.state_core.specs.ZoneState.{ZoneState}
 use Rattle.state_core.specs.declared.error.ZoneError.{ZoneError}
 use Rattle.state_core.specs.declared.error.ZoneError.TheVariants.{Range, Stranger}
-use Rattle.zone_core.specs.LentMoves.{LendsNext}
-use Rattle.compactd_c.specs.Answers.{number_for}
+use Rattle.compactd_c.specs.Answers.{answer as answer_of, left, number_for}
+use Rattle.compactd_c.specs.Asked.{is_block, ranged}
 use Rattle.compactd_c.specs.declared.lent_moves.HeldMove.{HeldMove}
 
 -- the move that C has, where it has words of both frames
@@ -28,17 +30,37 @@ pub record IsKept (old new : HeldMove) : Type 0 where
 abbrev pub HasNone : HeldMove → Type 0
 HasNone held = (held.from.row ≡ None) × (held.to.row ≡ None)
 
--- C gets the move of the next pair with its words, or nothing where there is no pair
-abbrev pub HoldsNext : ZoneState → ZoneState → Option HeldMove → Type 0
-HoldsNext old new None = next_pair old ≡ None
-HoldsNext old new (Some held) = (m : LentMove) × (move_of held ≡ Some m) × LendsNext old new (next.Page m)
+-- C gets the move that is next with its words, or nothing where none is, and the zone lends what the relation says
+abbrev pub Holds : (Next LentMove → Type 0) → Option HeldMove → Type 0
+Holds Lends None = Lends next.Met
+Holds Lends (Some held) = (m : LentMove) × (move_of held ≡ Some m) × Lends (next.Page m)
 
--- the number of an answer: 0, that of its refusal, or 53 where there is no page to isolate
+-- the number of an answer: that of its refusal, 0 where a page is next, or `none`
+abbrev pub lend_number : Option ZoneError → Bool → ℕ → ℕ
+lend_number refusal is_next none =
+    if is_some refusal then number_for refusal
+    else if is_next then 0
+    else none
+
+-- that number where a round isolates its next page, with 53 where the scanners have met
 abbrev pub lend_move_number : ZoneState → ℕ
-lend_move_number z =
-    if is_some (lend_move_refusal z) then number_for (lend_move_refusal z)
-    else if is_some (next_pair z) then 0
-    else 53
+lend_move_number z = lend_number (lend_move_refusal z) (is_some (next_pair z)) 53
+
+-- why sending the next page out of a run is refused, if it is: a number is out of its range, or the zone refuses it
+abbrev pub send_refused : ℕ → ℕ → ZoneState → Option ZoneError
+send_refused first order z = ranged (is_block first order) (send_refusal z first order)
+
+-- the number then, with 55 where no page goes
+abbrev pub send_number : ℕ → ℕ → ZoneState → ℕ
+send_number first order z = lend_number (send_refused first order z) (is_some (next_move_from first (2 ^ order) z)) 55
+
+-- the words that C has of a move are copied
+abbrev pub IsCopied : HeldMove → Type 0
+IsCopied held = IfSome (move_of held) (λ m. m.to.words ≡ m.from.words)
+
+-- they are those that the zone lent, where it has lent the words of such a move
+abbrev pub HasItsWords : HeldMove → ZoneState → Type 0
+HasItsWords held z = IfSome (move_of held) (λ m. is_lent_move z m ≡ true → IsLentMove z m)
 
 -- why the end of a move is refused, if it is: C lacks words of it, or has more of one frame, or the zone hasn't lent the words of such a move
 abbrev pub end_move_refusal : Option LentMove → ZoneState → Option ZoneError
@@ -48,12 +70,14 @@ end_move_refusal (Some m) z =
     else if is_lent_move z m then None
     else Some Stranger
 
--- the zone after the words came back and the copy was committed
-abbrev pub held_committed : Option LentMove → ZoneState → ZoneState
-held_committed None z = z
-held_committed (Some m) z = lent_committed z m
+-- the zone after the words came back and this step ended the move
+abbrev pub held_ended : (ZoneState → LentMove → ZoneState) → Option LentMove → ZoneState → ZoneState
+held_ended step None z = z
+held_ended step (Some m) z = step z m
 
--- the zone after they came back and the page was put back
-abbrev pub held_put_back : Option LentMove → ZoneState → ZoneState
-held_put_back None z = z
-held_put_back (Some m) z = lent_put_back z m
+-- C brought a move back, which a step of the zone ended, or the call was refused and changed nothing
+pub record IsBroughtBack (step : ZoneState → LentMove → ZoneState) (old new : Option ZoneState) (held held_new : HeldMove) (number : ℕ) : Type 0 where
+  pub answer : number ≡ answer_of old (end_move_refusal (move_of held))
+  pub zone : new ≡ left old (end_move_refusal (move_of held)) (held_ended step (move_of held))
+  pub taken : number ≡ 0 → HasNone held_new
+  pub kept : ¬ (number ≡ 0) → IsKept held held_new

@@ -1,14 +1,18 @@
-//! What C calls to copy the pages of a round itself: it gets the words of both frames of a move, and brings them back.
+//! What C calls to copy the pages of a round, or of a run that is emptied, itself: it gets the words of both frames of a move, and brings them
+//! back.
 
-ghost use Rattle.std.specs.Prelude.{◌≡◌, ◌↔◌, ◌<◌, true, length, IsTrue, None, Some, IfNone, IfSome, OnSome};
-ghost use Rattle.compactd_c.specs.Answers.{answer, left};
-ghost use Rattle.compactd_c.specs.LentMoves.{end_move_refusal, held_committed, held_put_back, lend_move_number, move_of, HasNone, HasNumbers, HoldsNext, IsKept};
+ghost use Rattle.std.specs.Prelude.{◌≡◌, ◌↔◌, ◌^◌, ◌<◌, true, length, IsTrue, None, Some, IfNone, IfSome, OnSome};
+ghost use Rattle.compactd_c.specs.Answers.{left};
+ghost use Rattle.compactd_c.specs.LentMoves.{end_move_refusal, lend_move_number, move_of, send_number, send_refused, HasItsWords, HasNone, HasNumbers, Holds, IsBroughtBack, IsCopied};
+ghost use Rattle.fewest_core.specs.Sending.{next_move_from, next_sent, sent_committed};
 ghost use Rattle.frame_core.specs.Moves.{out};
+ghost use Rattle.state_core.specs.Claiming.{is_claimed};
 ghost use Rattle.state_core.specs.Ending.{ended_as};
-ghost use Rattle.state_core.specs.LentMoves.{IsLentMove, is_lent_move, lend_move_refusal, next_lent};
+ghost use Rattle.state_core.specs.LentMoves.{lend_move_refusal, lent_committed, lent_put_back, next_lent};
 ghost use Rattle.state_core.specs.Packed.{IsPacked};
 ghost use Rattle.state_core.specs.Pairs.{HaveMet, next_pair};
 ghost use Rattle.state_core.specs.ZoneState.{ZoneState, is_quiet};
+ghost use Rattle.zone_core.specs.LentMoves.{LendsNext, SendsNext};
 
 use crate::calls::{CLOSED, MET, number, told};
 use crate::memory::taken;
@@ -16,6 +20,9 @@ use crate::pool::Pool;
 use row_core::{HeldWords, Row};
 use state_core::{Ended, ZoneError};
 use zone_core::LentMove;
+
+/// The number that says that no page of a run goes.
+const NONE_LEFT: u32 = 55;
 
 /// The move of a page whose words C has: those of the frame that it leaves, and those of the one that it goes to.
 #[repr(C)]
@@ -95,7 +102,7 @@ pub extern "C" fn compactd_lend_move(pool: &mut Pool, lent: &mut HeldMove) -> u3
     ensures closed { pool.old.zone ≡ None → result ≡ 51 }
     ensures answer { (z : ZoneState) → pool.old.zone ≡ Some z → result ≡ lend_move_number z }
     ensures zone { pool.new.zone ≡ left pool.old.zone lend_move_refusal (λ z. next_lent z (next_pair z)) }
-    ensures lent { (z z_new : ZoneState) → pool.old.zone ≡ Some z → pool.new.zone ≡ Some z_new → result ≡ 0 → HoldsNext z z_new (Some lent.new) }
+    ensures lent { (z z_new : ZoneState) → pool.old.zone ≡ Some z → pool.new.zone ≡ Some z_new → result ≡ 0 → Holds (LendsNext z z_new) (Some lent.new) }
     ensures met { (z : ZoneState) → pool.old.zone ≡ Some z → result ≡ 53 → HaveMet z }
     // Where nothing was in the way and the scanners met, the zone is packed.
     ensures packed { (z : ZoneState) → pool.new.zone ≡ Some z → result ≡ 53 → is_quiet z ≡ true → length (out z.records) ≡ 0 → IsPacked z }
@@ -114,6 +121,38 @@ pub extern "C" fn compactd_lend_move(pool: &mut Pool, lent: &mut HeldMove) -> u3
     }
 }
 
+/// Isolates the lowest page of a run that may go, outside of a round, and lends the words of both frames of its move, as `compactd_lend_move`
+/// does. It goes to the highest free frame of an unmarked pageblock. `compactd_commit_and_claim` ends its move, and `compactd_put_back_lent`
+/// where it is to stay. The latest round isn't quiet any more.
+///
+/// Refused as RANGE where a number is out of its range or no block of this order can begin at the frame. Refused as JOURNAL_FULL, as
+/// OWN_MEMORY where the pool lies in memory of its own, as NONE_LEFT where no page of the run may go or no frame is free for one, or as CLOSED.
+#[unsafe(no_mangle)]
+pub extern "C" fn compactd_lend_move_from(
+    pool: &mut Pool,
+    first: u32,
+    order: u32,
+    lent: &mut HeldMove,
+) -> u32
+    ensures closed { pool.old.zone ≡ None → result ≡ 51 }
+    ensures answer { (z : ZoneState) → pool.old.zone ≡ Some z → result ≡ send_number first order z }
+    ensures zone { pool.new.zone ≡ left pool.old.zone (send_refused first order) (λ z. next_sent z (next_move_from first (2 ^ order) z)) }
+    ensures lent { (z z_new : ZoneState) → pool.old.zone ≡ Some z → pool.new.zone ≡ Some z_new → result ≡ 0 → Holds (SendsNext first (2 ^ order) z z_new) (Some lent.new) }
+    ensures kept { ¬ (result ≡ 0) → lent.new ≡ lent.old }
+{
+    let Some(zone) = pool.zone() else {
+        return CLOSED;
+    };
+    match zone.lend_move_from(first, order) {
+        Ok(Some(held)) => {
+            *lent = held;
+            0
+        }
+        Ok(None) => NONE_LEFT,
+        Err(error) => number(error),
+    }
+}
+
 /// Takes the words of a move back that C copied, and ends it: the page is in its new frame afterwards, or in its old one where it has a
 /// pin. Tells whether it was moved. Nothing is compared.
 ///
@@ -125,13 +164,11 @@ pub extern "C" fn compactd_commit_lent(
     lent: &mut HeldMove,
     moved: &mut bool,
 ) -> u32
-    requires copied { IfSome (move_of lent.old) (λ m. m.to.words ≡ m.from.words) }
-    requires rows { (z : ZoneState) → pool.old.zone ≡ Some z → IfSome (move_of lent.old) (λ m. is_lent_move z m ≡ true → IsLentMove z m) }
-    ensures answer { result ≡ answer pool.old.zone (end_move_refusal (move_of lent.old)) }
-    ensures zone { pool.new.zone ≡ left pool.old.zone (end_move_refusal (move_of lent.old)) (held_committed (move_of lent.old)) }
+    requires copied { IsCopied lent.old }
+    requires rows { (z : ZoneState) → pool.old.zone ≡ Some z → HasItsWords lent.old z }
+    ensures back { IsBroughtBack lent_committed pool.old.zone pool.new.zone lent.old lent.new result }
     ensures moved { (z : ZoneState) → pool.old.zone ≡ Some z → result ≡ 0 → IsTrue moved.new ↔ (ended_as z lent.old.page ≡ Ended.Moved) }
-    ensures taken { result ≡ 0 → HasNone lent.new }
-    ensures kept { ¬ (result ≡ 0) → IsKept lent.old lent.new × (moved.new ≡ moved.old) }
+    ensures kept { ¬ (result ≡ 0) → moved.new ≡ moved.old }
 {
     let Some(zone) = pool.zone() else {
         return CLOSED;
@@ -140,16 +177,38 @@ pub extern "C" fn compactd_commit_lent(
     told(ended.map(|ended| ended == Ended::Moved), moved)
 }
 
+/// Takes the words of a move back that C copied, and ends it as `compactd_commit_lent` does. The frame that the page left is claimed, so that
+/// no page comes there; one that has a pin is in it, and it isn't claimed. Tells whether the page was moved; then the latest round isn't quiet
+/// any more.
+///
+/// Refused as `compactd_commit_lent` is.
+#[unsafe(no_mangle)]
+pub extern "C" fn compactd_commit_and_claim(
+    pool: &mut Pool,
+    lent: &mut HeldMove,
+    moved: &mut bool,
+) -> u32
+    requires copied { IsCopied lent.old }
+    requires rows { (z : ZoneState) → pool.old.zone ≡ Some z → HasItsWords lent.old z }
+    ensures back { IsBroughtBack sent_committed pool.old.zone pool.new.zone lent.old lent.new result }
+    ensures moved { (z : ZoneState) → pool.old.zone ≡ Some z → result ≡ 0 → IsTrue moved.new ↔ (ended_as z lent.old.page ≡ Ended.Moved) }
+    ensures claimed { (z : ZoneState) → pool.new.zone ≡ Some z → result ≡ 0 → moved.new ≡ true → is_claimed z lent.old.source ≡ true }
+    ensures kept { ¬ (result ≡ 0) → moved.new ≡ moved.old }
+{
+    let Some(zone) = pool.zone() else {
+        return CLOSED;
+    };
+    let ended = zone.commit_and_claim(lent);
+    told(ended.map(|ended| ended == Ended::Moved), moved)
+}
+
 /// Takes the words of a move back that isn't to be made, and ends it: the page is in its old frame afterwards, with its words.
 ///
 /// Refused as `compactd_commit_lent` is.
 #[unsafe(no_mangle)]
 pub extern "C" fn compactd_put_back_lent(pool: &mut Pool, lent: &mut HeldMove) -> u32
-    requires rows { (z : ZoneState) → pool.old.zone ≡ Some z → IfSome (move_of lent.old) (λ m. is_lent_move z m ≡ true → IsLentMove z m) }
-    ensures answer { result ≡ answer pool.old.zone (end_move_refusal (move_of lent.old)) }
-    ensures zone { pool.new.zone ≡ left pool.old.zone (end_move_refusal (move_of lent.old)) (held_put_back (move_of lent.old)) }
-    ensures taken { result ≡ 0 → HasNone lent.new }
-    ensures kept { ¬ (result ≡ 0) → IsKept lent.old lent.new }
+    requires rows { (z : ZoneState) → pool.old.zone ≡ Some z → HasItsWords lent.old z }
+    ensures back { IsBroughtBack lent_put_back pool.old.zone pool.new.zone lent.old lent.new result }
 {
     let Some(zone) = pool.zone() else {
         return CLOSED;

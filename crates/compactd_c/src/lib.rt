@@ -1,8 +1,9 @@
 //! The pool for C: a handle, and the calls that C makes on it.
 //!
-//! Each call answers 0, or the number of its refusal: 1 to 20 as a zone numbers them, 51 where the pool is closed, 52 where it is
-//! open already, 53 where the scanners of a round have met, 54 where no page is moving. Comments name them as `c/include/compactd.h`
-//! does. A refused call changes nothing. A call for many pages answers the first refusal of a page, and changes nothing for that one.
+//! Each call answers 0, or the number of its refusal: 1 to 20 as a zone numbers them, 51 where the pool is closed, 52 where it is open
+//! already, 53 where the scanners of a round have met, 54 where no page is moving, 55 where no page leaves a run. Comments name them as
+//! `c/include/compactd.h` does. A refused call changes nothing. A call for many pages answers the first refusal of a page, and changes
+//! nothing for that one.
 #![tactic(auto)]
 
 mod asked;

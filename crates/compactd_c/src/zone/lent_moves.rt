@@ -1,18 +1,21 @@
 //! A zone in memory of its caller, which lends the words of moving pages.
 
-ghost use Rattle.std.specs.Prelude.{◌≡◌, ◌≢◌, ◌<◌, ℕ, true, length, None, Some, IfErr, IfOk, IfSome, OnErr, OnOk};
+ghost use Rattle.std.specs.Prelude.{◌≡◌, ◌≢◌, ◌^◌, ◌<◌, ℕ, true, length, None, Some, IfErr, IfOk, IfSome, OnErr, OnOk};
 ghost use Rattle.std.specs.FinMap as map;
 ghost use Rattle.std.specs.Result.{result_err};
-ghost use Rattle.compactd_c.specs.LentMoves.{end_move_refusal, held_committed, held_put_back, move_of, HasNone, HasNumbers, HoldsNext, IsKept};
+ghost use Rattle.compactd_c.specs.LentMoves.{end_move_refusal, held_ended, move_of, send_refused, HasItsWords, HasNone, HasNumbers, Holds, IsCopied, IsKept};
+ghost use Rattle.fewest_core.specs.Sending.{next_move_from, next_sent, sent_committed};
 ghost use Rattle.frame_core.specs.Moves.{out};
+ghost use Rattle.state_core.specs.Claiming.{is_claimed};
 ghost use Rattle.state_core.specs.Ending.{ended_as};
-ghost use Rattle.state_core.specs.LentMoves.{IsLentMove, is_lent_move, lend_move_refusal, next_lent};
+ghost use Rattle.state_core.specs.LentMoves.{lend_move_refusal, lent_committed, lent_put_back, next_lent};
 ghost use Rattle.state_core.specs.Packed.{IsPacked};
 ghost use Rattle.state_core.specs.Pairs.{HaveMet, next_pair};
 ghost use Rattle.state_core.specs.ZoneState.{is_quiet};
 ghost use Rattle.state_core.specs.declared.placement.Placement.TheVariants.{Moving};
+ghost use Rattle.zone_core.specs.LentMoves.{LendsNext, SendsNext};
 
-use super::{Kind, Zone, page_no};
+use super::{Kind, Zone, block, page_no};
 use crate::lent_moves::HeldMove;
 use frame_core::FrameNo;
 use state_core::{Ended, Next, Stranger, ZoneError};
@@ -25,7 +28,7 @@ impl Zone {
         ensures refused { result_err result ≡ lend_move_refusal self.old }
         ensures err { OnErr result (self.new ≡ self.old) }
         ensures ok { OnOk result (self.new ≡ next_lent self.old (next_pair self.old)) }
-        ensures lent { IfOk result (HoldsNext self.old self.new) }
+        ensures lent { IfOk result (Holds (LendsNext self.old self.new)) }
         ensures met { result ≡ Ok None → HaveMet self.old }
         ensures packed { result ≡ Ok None → is_quiet self.new ≡ true → length (out self.new.records) ≡ 0 → IsPacked self.new }
     {
@@ -36,46 +39,77 @@ impl Zone {
         })
     }
 
+    /// Isolates the next page of a run, and lends the words of both frames of its move, if there is such a page.
+    pub(crate) fn lend_move_from(
+        &mut self,
+        first: u32,
+        order: u32,
+    ) -> Result<Option<HeldMove>, ZoneError>
+        ensures refused { result_err result ≡ send_refused first order self.old }
+        ensures err { OnErr result (self.new ≡ self.old) }
+        ensures ok { OnOk result (self.new ≡ next_sent self.old (next_move_from first (2 ^ order) self.old)) }
+        ensures lent { IfOk result (Holds (SendsNext first (2 ^ order) self.old self.new)) }
+    {
+        let (first, order) = block(first, order).ok_or(ZoneError::Range)?;
+        of_zone!(&mut self.kind, zone => match zone.lend_move_from(first, order) {
+            Ok(Next::Page(lent)) => Ok(Some(HeldMove::of(lent))),
+            Ok(Next::Met) => Ok(None),
+            Err(error) => Err(error),
+        })
+    }
+
     /// Takes the words of a move back that were copied, and ends it.
     pub(crate) fn commit_lent(&mut self, held: &mut HeldMove) -> Result<Ended, ZoneError>
-        requires copied { IfSome (move_of held.old) (λ m. m.to.words ≡ m.from.words) }
-        requires rows { IfSome (move_of held.old) (λ m. is_lent_move self.old m ≡ true → IsLentMove self.old m) }
+        requires copied { IsCopied held.old }
+        requires rows { HasItsWords held.old self.old }
         ensures refused { result_err result ≡ end_move_refusal (move_of held.old) self.old }
         ensures err { OnErr result ((self.new ≡ self.old) × IsKept held.old held.new) }
         ensures ended { IfOk result (λ ended. ended ≡ ended_as self.old held.old.page) }
-        ensures ok { OnOk result (self.new ≡ held_committed (move_of held.old) self.old) }
+        ensures ok { OnOk result (self.new ≡ held_ended lent_committed (move_of held.old) self.old) }
         ensures taken { OnOk result (HasNone held.new) }
     {
         of_zone!(&mut self.kind, zone => {
             let lent = bring(zone, held)?;
             match zone.commit_lent(CopiedMove::of(lent)) {
                 Ok(ended) => Ok(ended),
-                Err(Stranger(copied)) => {
-                    let (_, from, to) = copied.into_lent().into_parts();
-                    held.put(from, to);
-                    Err(ZoneError::Stranger)
-                }
+                Err(Stranger(copied)) => Err(hand_back(held, copied.into_lent())),
+            }
+        })
+    }
+
+    /// Takes the words of a move back that were copied, ends it, and claims the frame that its page left.
+    pub(crate) fn commit_and_claim(&mut self, held: &mut HeldMove) -> Result<Ended, ZoneError>
+        requires copied { IsCopied held.old }
+        requires rows { HasItsWords held.old self.old }
+        ensures refused { result_err result ≡ end_move_refusal (move_of held.old) self.old }
+        ensures err { OnErr result ((self.new ≡ self.old) × IsKept held.old held.new) }
+        ensures ended { IfOk result (λ ended. ended ≡ ended_as self.old held.old.page) }
+        ensures ok { OnOk result (self.new ≡ held_ended sent_committed (move_of held.old) self.old) }
+        ensures taken { OnOk result (HasNone held.new) }
+        ensures claimed { result ≡ Ok Ended.Moved → is_claimed self.new held.old.source ≡ true }
+    {
+        of_zone!(&mut self.kind, zone => {
+            let lent = bring(zone, held)?;
+            match zone.commit_and_claim(CopiedMove::of(lent)) {
+                Ok(ended) => Ok(ended),
+                Err(Stranger(copied)) => Err(hand_back(held, copied.into_lent())),
             }
         })
     }
 
     /// Takes the words of a move back that isn't to be made, and ends it.
     pub(crate) fn put_back_lent(&mut self, held: &mut HeldMove) -> Result<(), ZoneError>
-        requires rows { IfSome (move_of held.old) (λ m. is_lent_move self.old m ≡ true → IsLentMove self.old m) }
+        requires rows { HasItsWords held.old self.old }
         ensures refused { result_err result ≡ end_move_refusal (move_of held.old) self.old }
         ensures err { OnErr result ((self.new ≡ self.old) × IsKept held.old held.new) }
-        ensures ok { OnOk result (self.new ≡ held_put_back (move_of held.old) self.old) }
+        ensures ok { OnOk result (self.new ≡ held_ended lent_put_back (move_of held.old) self.old) }
         ensures taken { OnOk result (HasNone held.new) }
     {
         of_zone!(&mut self.kind, zone => {
             let lent = bring(zone, held)?;
             match zone.put_back_lent(lent) {
                 Ok(()) => Ok(()),
-                Err(Stranger(lent)) => {
-                    let (_, from, to) = lent.into_parts();
-                    held.put(from, to);
-                    Err(ZoneError::Stranger)
-                }
+                Err(Stranger(lent)) => Err(hand_back(held, lent)),
             }
         })
     }
@@ -98,6 +132,18 @@ fn bring<const W: usize>(zone: &BareZone<W>, held: &mut HeldMove) -> Result<Lent
         return Err(ZoneError::Stranger);
     };
     Ok(LentMove::of(way, from, to))
+}
+
+/// Gives C the words again of a move that the zone hasn't lent, and tells why.
+fn hand_back(held: &mut HeldMove, lent: LentMove) -> ZoneError
+    requires { (0 < length lent.from.words) × (0 < length lent.to.words) }
+    ensures error { result ≡ ZoneError.Stranger }
+    ensures words { (held.new.from.row ≡ Some lent.from) × (held.new.to.row ≡ Some lent.to) }
+    ensures numbers { HasNumbers held.old held.new }
+{
+    let (_, from, to) = lent.into_parts();
+    held.put(from, to);
+    ZoneError::Stranger
 }
 
 /// The move with these numbers, if the zone may have such a move.
