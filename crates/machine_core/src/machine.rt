@@ -1,5 +1,5 @@
 ghost use Rattle.std.specs.Prelude.{◌≡◌, ◌<◌, ◌≤◌, [], true, false, ⊤, Some, None, IfErr, IfNone, IfOk, IfSome, OnErr, OnOk};
-ghost use Rattle.machine_core.specs.Machine.{call_at, call_step, calls_step, compact_on, ending, found, make_step, open_step, page_step, pool_from, pool_on, pool_step, reply_for, series_step, step_on, stopped_by, during_on};
+ghost use Rattle.machine_core.specs.Machine.{call_at, call_step, compact_on, ending, found, make_step, open_step, page_step, pool_from, pool_on, pool_step, reply_for, series_step, step_on, stopped_by, during_on};
 ghost use Rattle.machine_core.specs.OneThread.{IsSingleStep, IsStep, Opens, single_at_first};
 ghost use Rattle.machine_core.specs.OneThread.{is_at_rest};
 ghost use Rattle.text_core.specs.Grammar.{address_of, zone_of};
@@ -248,7 +248,11 @@ impl<Z: Opening> Machine<Z> {
         ensures places { self.new.places ≡ self.old.places }
     {
         match &mut self.zone {
-            Stage::Open(world) if world.zone().number() == zone => answer_all(world, calls, reply),
+            Stage::Open(world) if world.zone().number() == zone => match calls {
+                Calls::Zone(call) => make(world, &call, reply),
+                Calls::One(call) => answer(world, call, reply),
+                Calls::Series(series) => answer_series(world, series, reply),
+            },
             _ => *reply = Refusal::OtherZone.reply(),
         }
     }
@@ -299,17 +303,6 @@ fn stopped_by(error: ZoneError) -> PoolStopped
     match error {
         ZoneError::JournalFull => PoolStopped::JournalFull,
         _ => PoolStopped::Refused(Refusal::NoWorker.number()),
-    }
-}
-
-/// Answers the calls of a command on the zone of a world.
-fn answer_all<Z: Opening>(world: &mut World<Z>, calls: Calls, reply: &mut Reply)
-    ensures { record { reply = reply.new; world = world.new } ≡ calls_step world.old calls }
-{
-    match calls {
-        Calls::Zone(call) => make(world, &call, reply),
-        Calls::One(call) => answer(world, call, reply),
-        Calls::Series(series) => answer_series(world, series, reply),
     }
 }
 

@@ -28,8 +28,8 @@ pub(crate) fn three_numbers(text: &[u8]) -> Option<(u64, u64, u64)>
     ensures { result ≡ three_of (tokens text.now) }
 {
     let (a, after) = first_number(text)?;
-    let (b, c) = two_numbers(after)?;
-    Some((a, b, c))
+    let (b, after) = first_number(after)?;
+    Some((a, b, one_number(after)?))
 }
 
 /// The four numbers that a text consists of, or none where it is anything else.
@@ -37,8 +37,9 @@ pub(crate) fn four_numbers(text: &[u8]) -> Option<(u64, u64, u64, u64)>
     ensures { result ≡ four_of (tokens text.now) }
 {
     let (a, after) = first_number(text)?;
-    let (b, c, d) = three_numbers(after)?;
-    Some((a, b, c, d))
+    let (b, after) = first_number(after)?;
+    let (c, after) = first_number(after)?;
+    Some((a, b, c, one_number(after)?))
 }
 
 /// Whether a text is the word `unmovable`: true for it, false for an empty text, and none for anything else.

@@ -1,4 +1,4 @@
-ghost use Rattle.std.specs.Prelude.{◌≡◌, length, nat_lt};
+ghost use Rattle.std.specs.Prelude.{◌≡◌};
 ghost use Rattle.text_core.specs.Token.{lexemes};
 ghost use Rattle.text_core.specs.Line.{line_of, line_within};
 ghost use Rattle.text_core.specs.Profile.{is_profile_2};
@@ -8,6 +8,9 @@ use crate::error::ScriptError;
 use crate::grammar;
 use crate::profile::Profile;
 use crate::token::{first_lexeme, is_word, without_spaces};
+
+/// The most bytes that a line may have.
+const MOST: usize = 200;
 
 /// Whether a line is `profile 2`.
 fn is_profile_2(text: &[u8]) -> bool
@@ -26,13 +29,6 @@ fn is_profile_2(text: &[u8]) -> bool
     }
 }
 
-/// Whether a line has more than 200 bytes.
-fn is_long(line: &[u8]) -> bool
-    ensures { result ≡ nat_lt 200 (length line.now) }
-{
-    line.len() > 200
-}
-
 /// The command that a line is, or begins, where it is read by this profile; none where the line is empty or a comment.
 /// The newline isn't a part of the line.
 ///
@@ -40,7 +36,7 @@ fn is_long(line: &[u8]) -> bool
 pub fn read_line(profile: Profile, line: &[u8]) -> Result<Option<Command>, ScriptError>
     ensures { result ≡ line_of profile line.now }
 {
-    if is_long(line) {
+    if line.len() > MOST {
         return Err(ScriptError::LongLine);
     }
     match without_spaces(line) {
@@ -60,7 +56,7 @@ pub fn read_line(profile: Profile, line: &[u8]) -> Result<Option<Command>, Scrip
 pub fn read_block_line(zone: u64, line: &[u8]) -> Result<Option<BlockLine>, ScriptError>
     ensures { result ≡ line_within zone line.now }
 {
-    if is_long(line) {
+    if line.len() > MOST {
         return Err(ScriptError::LongLine);
     }
     match without_spaces(line) {

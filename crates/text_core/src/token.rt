@@ -160,7 +160,9 @@ pub(crate) fn leading_token(text: &[u8]) -> Option<(Token, &[u8])>
     ensures token { MatchOption result (tokens text.now ≡ []) (λ found. tokens text.now ≡ found.0 ∷ tokens found.1.now) }
 {
     for count in [4, 3, 5, 6] {
-        if let Some((word, after)) = cut_after(text, count) {
+        if let Some((word, after)) = text.split_at_checked(count)
+            && ends_word(after)
+        {
             match keyword(word) {
                 Token::Other => {}
                 keyword => return Some((keyword, after)),
@@ -168,21 +170,6 @@ pub(crate) fn leading_token(text: &[u8]) -> Option<(Token, &[u8])>
         }
     }
     first_token(text)
-}
-
-/// A text cut after this many bytes, if a space or the text's end is there.
-#[inline(always)]
-fn cut_after(text: &[u8], count: usize) -> Option<(&[u8], &[u8])>
-    ensures whole { IfSome result (λ cut. cut.0.now ++ cut.1.now ≡ text.now) }
-    ensures word { IfSome result (λ cut. first_word cut.1.now ≡ []) }
-    ensures after { IfSome result (λ cut. after_word cut.1.now ≡ cut.1.now) }
-{
-    let (front, rest) = text.split_at_checked(count)?;
-    if ends_word(rest) {
-        Some((front, rest))
-    } else {
-        None
-    }
 }
 
 /// The first token of a text, and what stands after its word.
