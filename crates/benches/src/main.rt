@@ -2,8 +2,8 @@
 //! otherwise. The first word says which: `rounds`, `clients`, `calls` or `workers`. With no further word it prints what they did, which is
 //! the same in every run; with a number it prints how long they take. `rounds alone N` and `rounds filled N` do a part of the work N times,
 //! to be counted from outside. `calls unrecorded N` makes N stores and as many loads in a zone whose journal is unrecorded, and `calls`
-//! alone a thousand of each. `workers one N` and `workers T N` time the work of one thread, and of T workers. Without any word it prints
-//! what all of them did.
+//! alone a thousand of each. `workers N` is about a zone of N pageblocks, and so are `workers one N`, of one thread alone, and
+//! `workers T N`, of T workers. Without any word it prints what all four did.
 #![tactic(auto)]
 
 mod calls;

@@ -21,8 +21,10 @@ pub fn opened(alloc: Global, memory: Row, blocks: u32) -> Result<BareZone<512>> 
         vpages: blocks.saturating_mul(512),
     };
     let number = ZoneNo::new(0).context("there is no such zone")?;
-    let opened = BareZone::open_in(alloc, number, size, None, memory, false);
-    let mut zone = opened.ok().context("out of memory")?;
+    let mut zone = match BareZone::open_in(alloc, number, size, None, memory, false) {
+        Ok(zone) => zone,
+        Err((error, _memory)) => bail!("{error}"),
+    };
     fill(&mut zone).context("a page isn't mapped")?;
     Ok(zone)
 }
