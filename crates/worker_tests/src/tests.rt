@@ -9,6 +9,7 @@ mod pinning;
 mod refusals;
 mod rounds;
 
+use crews::Meanwhile;
 use std::marker::Brand;
 use std::process::Abort;
 use std::sync::Wait;
@@ -41,6 +42,8 @@ enum Trial {
     FillsJournal,
     /// Runs are emptied between the rounds of a crew.
     EmptiesRuns,
+    /// Runs are emptied beside two clients.
+    IsUsedAndEmptied,
     /// No block can begin at runs that are to be emptied.
     HasWrongRuns,
     /// It can't be shared, since it lies in memory of its own.
@@ -59,12 +62,13 @@ impl Trial {
     fn happens<K: MemoryIdentity + Send + Sync, R: Runtime>(self, rt: &R, shared: &Shared<K>) {
         match self {
             Trial::MakesRounds(workers) => rounds::make_rounds(rt, shared, workers),
-            Trial::IsUsed => beside::use_beside_rounds(rt, shared),
+            Trial::IsUsed => beside::use_beside(rt, shared, Meanwhile::IsUsed),
             Trial::Pins => pinning::pin_while_copied(rt, shared),
             Trial::HasCrew => crews::call_and_stop(rt, shared),
             Trial::IsBusy => refusals::begin_while_moving(rt, shared),
             Trial::FillsJournal => refusals::fill_journal(rt, shared),
             Trial::EmptiesRuns => emptying::empty_with_crew(rt, shared),
+            Trial::IsUsedAndEmptied => beside::use_beside(rt, shared, Meanwhile::IsUsedAndEmptied),
             Trial::HasWrongRuns => emptying::refuse_runs(rt, shared),
             Trial::IsOwn => panic!(rt; "it is shared"),
         }

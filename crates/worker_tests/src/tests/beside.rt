@@ -1,13 +1,14 @@
 //! Clients beside workers.
 
 use super::crews::{Meanwhile, with_workers};
-use super::pages::{address, assert_ends, client, first_word, opened};
+use super::pages::{address, assert_ends, client, first_word, frame_of, opened};
 use super::{Runtime, Shared, TURNS, Trial, adds_up, tries};
+use std::collections::VecDeque;
 use std::sync::{Mutex, Wait};
 use std::thread;
 use std::thread::yield_now;
-use worker_threads::{Crew, MemoryIdentity, Stop};
-use zone_core::{ZoneAnswer, ZoneCallOf, ZoneError};
+use worker_threads::{Crew, MemoryIdentity, Runs, Stop};
+use zone_core::{FrameNo, Order, ZoneAnswer, ZoneCallOf, ZoneError};
 
 /// How many pages each of the four clients has.
 const PAGES: u32 = 64;
@@ -15,9 +16,13 @@ const PAGES: u32 = 64;
 /// How often each client uses each of its pages: together they make a million calls.
 const TIMES: u64 = 1_450;
 
-/// Four clients use their pages while workers make rounds.
-pub fn use_beside_rounds<K: MemoryIdentity + Send + Sync, R: Runtime>(rt: &R, shared: &Shared<K>) {
-    with_workers(rt, shared, &Crew::new(), Meanwhile::IsUsed);
+/// Clients use their pages while a crew works.
+pub fn use_beside<K: MemoryIdentity + Send + Sync, R: Runtime>(
+    rt: &R,
+    shared: &Shared<K>,
+    meanwhile: Meanwhile,
+) {
+    with_workers(rt, shared, &Crew::new(), meanwhile);
 }
 
 /// The rounds of a crew while four clients use their pages.
@@ -39,6 +44,62 @@ pub fn use_and_compact<K: MemoryIdentity + Send + Sync, R: Runtime>(
         },
     );
     assert!(rt; moved != 0, "pages were moved beside the clients");
+}
+
+/// A crew empties runs, again and again, while two clients use their pages.
+pub fn use_and_empty<K: MemoryIdentity + Send + Sync, R: Runtime>(
+    rt: &R,
+    shared: &Shared<K>,
+    crew: &Crew,
+) {
+    let at_work = &Mutex::new(2u32);
+    let (moved, ()) = thread::join(
+        rt,
+        || empty_again(rt, shared, crew),
+        || use_both(rt, shared, 0, at_work),
+    );
+    assert!(rt; moved != 0, "pages were moved beside the clients");
+}
+
+/// Empties runs each time that the first client has used its pages fifty times more. How many pages went out of them.
+fn empty_again<K: MemoryIdentity, R: Runtime>(rt: &R, shared: &Shared<K>, crew: &Crew) -> u64 {
+    let (mut emptied, mut moved) = (0u64, 0u64);
+    for _turn in 0..TURNS {
+        if emptied == 24 {
+            return moved;
+        }
+        if times_used(rt, shared) / 50 > emptied {
+            let runs = runs_in_use(rt, shared);
+            let done = crew.empty(rt, shared, runs).ok().expect(rt, "the work");
+            assert!(rt; adds_up(done) && done.stopped == Some(Stop::NoneLeft));
+            moved = moved.saturating_add(done.moved);
+            emptied = emptied.wrapping_add(1);
+        }
+        yield_now();
+    }
+    panic!(rt; "the first client doesn't go on")
+}
+
+/// How often the first client has used a page that it never unmaps, as the word in it says.
+fn times_used<K: MemoryIdentity, R: Runtime>(rt: &R, shared: &Shared<K>) -> u64 {
+    let (address, word) = (address(rt, place_of(0, 2)), first_word(rt));
+    let load = ZoneCallOf::Load { address, word };
+    match shared.lock(rt).make(client(rt, 2), load) {
+        Ok(ZoneAnswer::Value(value)) => value / 256,
+        _ => 0,
+    }
+}
+
+/// Runs of 16 frames in which four pages are, of both clients.
+fn runs_in_use<K: MemoryIdentity, R: Runtime>(rt: &R, shared: &Shared<K>) -> Runs {
+    let room = shared.lock(rt);
+    let mut left = VecDeque::new(rt.alloc());
+    for (who, page) in [(0, 2), (1, 18), (0, 34), (1, 50)] {
+        let number = frame_of(rt, room.zone(), place_of(who, page)) / 16 * 16;
+        let first = FrameNo::in_any_zone(number).expect(rt, "the page is there");
+        left.push_back(first).ok().expect(rt, "memory");
+    }
+    Runs::new(Order::new(4).expect(rt, "an order"), left)
 }
 
 /// This client and the next one use their pages.
@@ -185,5 +246,14 @@ fn call<K: MemoryIdentity, R: Runtime>(
 fn clients_find_what_they_stored_beside_workers(rt: HostRuntime) {
     let zone = tries(&rt, opened::<8, HostRuntime>(&rt, None), Trial::IsUsed);
     assert!(&rt; zone.info().pages == 4 * PAGES && zone.info().moving == 0);
+    assert_ends(&rt, zone);
+}
+
+#[test]
+fn clients_find_what_they_stored_while_runs_are_emptied(rt: HostRuntime) {
+    let zone = opened::<8, HostRuntime>(&rt, None);
+    let zone = tries(&rt, zone, Trial::IsUsedAndEmptied);
+    assert!(&rt; zone.info().pages == 2 * PAGES && zone.info().moving == 0);
+    assert!(&rt; zone.info().held != 0, "frames of the runs are claimed");
     assert_ends(&rt, zone);
 }

@@ -16,6 +16,8 @@ pub enum Meanwhile {
     IsBusy,
     /// Runs are emptied between rounds.
     EmptiesRuns,
+    /// Runs are emptied beside two clients.
+    IsUsedAndEmptied,
 }
 
 /// Starts four workers of a crew, does something, and ends them.
@@ -35,6 +37,7 @@ pub fn with_workers<K: MemoryIdentity + Send + Sync, R: Runtime>(
             Meanwhile::IsUsed => beside::use_and_compact(rt, shared, crew),
             Meanwhile::IsBusy => refusals::call_while_moving(rt, shared, crew),
             Meanwhile::EmptiesRuns => emptying::empty_between_rounds(rt, shared, crew),
+            Meanwhile::IsUsedAndEmptied => beside::use_and_empty(rt, shared, crew),
         }
         crew.stop(rt);
         for thread in threads {
