@@ -24,7 +24,7 @@
 extern "C" {
 #endif
 
-/* The most threads of compactd_round_on, and the most moves that one of them has in hand. */
+/* The most threads of compactd_round_on and of compactd_empty_on, and the most moves that one of them has in hand. */
 #define COMPACTD_ROUND_MOST 64
 
 /* A lock of any kind: what it is, and how it is taken and let go. */
