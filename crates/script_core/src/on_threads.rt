@@ -70,7 +70,7 @@ pub fn run_on_threads<R: Input, W: Output, H: Threads + Wait + Sync>(
         IsAloneScript input → IsEnded (IsByHandStep options.journal) OpensByHand (To None) error.fault input error
         (R.remaining reader.old) (R.remaining reader.new) (W.contents writer.old) (W.contents writer.new))) }
 {
-    run_threaded::<Brand, R, W, H, NoWatch>(rt, alloc, reader, writer, options, Blanks::new(), None)
+    run_watched(rt, alloc, reader, writer, options, &mut NoWatch)
 }
 
 /// Runs a script as `run_on_threads` does, and shows a watcher the zone before each command and after it.
@@ -94,11 +94,10 @@ pub fn run_watched<R: Input, W: Output, H: Threads + Wait + Sync, V: Watch>(
         (R.reads reader.old) (R.reads reader.new) (R.remaining reader.old)) }
     ensures stuck { IfErr result (λ error. error.fault ≡ Fault.Write → IsTrue (W.stuck writer.new)) }
 {
-    let watcher = Some(watcher);
     run_threaded::<Brand, R, W, H, V>(rt, alloc, reader, writer, options, Blanks::new(), watcher)
 }
 
-/// Runs a script on threads, and shows the zone to the watcher, if there is one. `Z` names the zone that it opens, if it opens one.
+/// Runs a script on threads. `Z` names the zone that it opens, if it opens one.
 fn run_threaded<Z: Opening + Send + Sync, R: Input, W: Output, H: Threads + Wait + Sync, V: Watch>(
     rt: &H,
     alloc: Global,
@@ -106,7 +105,7 @@ fn run_threaded<Z: Opening + Send + Sync, R: Input, W: Output, H: Threads + Wait
     writer: &mut W,
     options: Options,
     blanks: Blanks,
-    watcher: Option<&mut V>,
+    watcher: &mut V,
 ) -> Result<Totals, RunError>
     requires blanks { AreFor blanks Z.isolated Z.rounds Z.moved Z.back }
     ensures ok { OnOk result (IfSome (R.remaining reader.old) (λ input. fault_of input ≡ None)) }
@@ -143,8 +142,5 @@ fn run_threaded<Z: Opening + Send + Sync, R: Input, W: Output, H: Threads + Wait
         pool,
         block,
     };
-    match watcher {
-        None => play(alloc, answering, reader, writer),
-        Some(watcher) => play(alloc, Watched { answering, watcher }, reader, writer),
-    }
+    play(alloc, Watched { answering, watcher }, reader, writer)
 }

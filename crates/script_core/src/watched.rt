@@ -21,8 +21,10 @@ pub trait Watch {
 pub(crate) struct NoWatch;
 
 impl Watch for NoWatch {
+    #[inline(always)]
     fn before<Z: Opening>(&mut self, _command: &Command, _zone: Option<&ZoneIn<Z>>) {}
 
+    #[inline(always)]
     fn after<Z: Opening>(&mut self, _reply: &Reply, _zone: Option<&ZoneIn<Z>>) {}
 }
 
@@ -36,10 +38,12 @@ pub(crate) trait Shows {
 }
 
 impl<Z: Opening, R, P, D> Shows for Dispatcher<WithThreads<Z>, R, P, D> {
+    #[inline(always)]
     fn show_before<V: Watch>(&self, watcher: &mut V, command: &Command) {
         watcher.before(command, self.machine.zone());
     }
 
+    #[inline(always)]
     fn show_after<V: Watch>(&self, watcher: &mut V, reply: &Reply) {
         watcher.after(reply, self.machine.zone());
     }
@@ -59,6 +63,7 @@ impl<A: Respond + Shows, V: Watch> Respond for Watched<'_, A, V> {
 
     ghost ready = { λ now. A.ready now.answering };
 
+    #[inline(always)]
     fn respond(&mut self, command: Command, reply: &mut Reply) -> Result<(), AllocError> {
         self.answering.show_before(self.watcher, &command);
         self.answering.respond(command, reply)?;
