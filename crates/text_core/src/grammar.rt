@@ -138,12 +138,24 @@ fn row(keyword: Token, zone: Option<ZoneNo>, arguments: &[u8]) -> Option<Command
             blocks(one_number(arguments)?),
             Some(PoolBlocks::Pageblocks),
         )),
-        Map | MapAt | Store | Load | Share | Unmap | Pin | Unpin => Some(zone_on(
-            zone,
-            client_row(keyword, arguments)?,
-        )),
+        Map => on_row(zone, client_row(Map, arguments)),
+        MapAt => on_row(zone, client_row(MapAt, arguments)),
+        Store => on_row(zone, client_row(Store, arguments)),
+        Load => on_row(zone, client_row(Load, arguments)),
+        Share => on_row(zone, client_row(Share, arguments)),
+        Unmap => on_row(zone, client_row(Unmap, arguments)),
+        Pin => on_row(zone, client_row(Pin, arguments)),
+        Unpin => on_row(zone, client_row(Unpin, arguments)),
         _ => None,
     }
+}
+
+/// The command that the call of a client's row makes on a zone, if there is such a row.
+#[inline(always)]
+fn on_row(zone: Option<ZoneNo>, row: Option<Option<ZoneCall>>) -> Option<Command>
+    ensures { result ≡ option_map (λ c. zone_call_on zone c) row }
+{
+    Some(zone_on(zone, row?))
 }
 
 /// The call that a client's keyword and the arguments after its zone make, if there is such a row; it has no call where
