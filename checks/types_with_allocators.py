@@ -36,22 +36,6 @@ LINES = {
         "use std_alloc::vec::Lodged;\n",
         "    list: Vec<u64, Lodged>,\n",
     ),
-    "crates/row_core/src/tests.rt": (
-        "fn rows_of_each_size_come_back(rt: HostRuntime) {\n",
-        "fn rows_that_are_given_come_back(rt: HostRuntime) {\n",
-        "fn words_are_held_and_become_a_row_again(rt: HostRuntime) {\n",
-        "fn a_part_is_copied(rt: HostRuntime) {\n",
-        "fn a_thousand_grounds_are_opened_and_closed(rt: HostRuntime) {\n",
-    ),
-    "crates/number_set/src/tests.rt": (
-        '    let mut table = Vec::from_elem(alloc, false, bound as usize).expect(rt, "memory");\n',
-        "fn answers_as_a_table(rt: HostRuntime) {\n",
-        "fn turns_runs(rt: HostRuntime) {\n",
-        '    let mut table = Vec::from_elem(rt.alloc(), true, 300_000).expect(&rt, "memory");\n',
-        "fn counts_small_runs(rt: HostRuntime) {\n",
-        '    let mut table = Vec::from_elem(rt.alloc(), true, 4_096).expect(&rt, "memory");\n',
-        "fn finds_what_three_sets_lack(rt: HostRuntime) {\n",
-    ),
     "crates/number_set/src/number_set.rt": ("    words: Vec<u64>,\n",),
     "crates/number_set/src/upper_levels.rt": ("    words: Vec<u64>,\n",),
     "crates/number_set/src/words.rt": (
@@ -63,7 +47,6 @@ LINES = {
         "        let list = Vec::with_capacity(alloc, room)?;\n",
         "        let mut list = Vec::with_capacity(alloc, count)?;\n",
     ),
-    "crates/frame_core/src/tests.rt": ("fn a_lent_block_comes_back(rt: HostRuntime) {\n",),
     "crates/zone_core/src/bare/lending.rt": (
         "        match Box::new(alloc, tables) {\n",
         "        Box::into_inner(tables).end()\n",
@@ -94,6 +77,7 @@ MAY_BRING_IN = {
     "std::marker::{Model, PhantomData}",
     "std::marker::{Move, Owns}",
     "std::mem::ManuallyDrop",
+    "std::ops::Deref",
     "std::ops::{DerefSlice, DerefSliceMut, Index, IndexMut}",
     "std::process::Abort",
     "std::ptr::null_mut",
