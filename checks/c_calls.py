@@ -379,7 +379,8 @@ def few(chance, most, count):
 OFTEN = {
     **dict.fromkeys(["map", "load", "store", "unmap"], 200),
     **dict.fromkeys(["map_at", "share", "look", "write", "read"], 60),
-    **dict.fromkeys(["pin", "unpin"], 40),
+    "pin": 55,
+    "unpin": 40,
     **dict.fromkeys(["take_order", "give_order", "read_block", "write_block", "evacuate"], 15),
     **dict.fromkeys(["mark", "unmark", "marked", "info", "quiet", "audit", "ended", "describe", "free_runs", "fragmentation"], 5),
     **dict.fromkeys(["isolate", "commit", "lend_move", "commit_lent"], 20),
