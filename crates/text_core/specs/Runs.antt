@@ -1,5 +1,5 @@
 -- How the run of a script ends, whatever machine answers its commands.
-use Rattle.std.specs.Prelude.{◌≡◌, ℕ, ◌+◌, ◌⊎◌, List, [], ◌∷◌, ◌++◌, length, Option, Some, IfSome}
+use Rattle.std.specs.Prelude.{◌≡◌, ℕ, ◌+◌, ◌⊎◌, List, [], ◌∷◌, ◌++◌, length, Option, Some, None, IfErr, IfOk, IfSome, OnOk, Result}
 use Rattle.std.specs.Io.KnownBytes.{Appends, Consumes}
 use Rattle.text_core.specs.declared.command.Command.{Command}
 use Rattle.text_core.specs.Reply.{newlines}
@@ -79,3 +79,10 @@ IsEnded may asks start LongLine input e left left_new old new = (fault_of input 
 IsEnded may asks start Read input e left left_new old new = IsUnread may start left left_new old new e.line
 IsEnded may asks start Write input e left left_new old new = IsStopped may start input old new e.line
 IsEnded may asks start Memory input e left left_new old new = IsLacking may asks start input old new e.line
+
+-- How a run ended whose reader tells its bytes: the script has no fault, all of its commands were answered and their replies written; or something
+-- else ended it, and the replies to the commands before are written, unless it is that they can't be.
+pub record IsPlayed {S : Type 0} (may : Rule S) (asks : Asking S) (start : S) (left left_new old new : Option (List ℕ)) (result : Result Totals RunError) : Type 0 where
+  pub ok : OnOk result (IfSome left (λ input. fault_of input ≡ None))
+  pub answered : IfOk result (λ totals. IfSome left (λ input. IsTotal may start input old new totals))
+  pub err : IfErr result (λ error. IfSome left (λ input. IsEnded may asks start error.fault input error left left_new old new))

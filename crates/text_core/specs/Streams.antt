@@ -1,5 +1,7 @@
 -- What contracts see of a reader and a writer that note how each read and write went.
-use Rattle.std.specs.Prelude.{◌≡◌, ℕ, ◌+◌, ◌-◌, ◌^◌, ◌<◌, ◌≤◌, ◌⊎◌, min, Bool, IsTrue, List, length, Option, IfSome, Result, MatchResult, ⊤}
+use Rattle.std.specs.Prelude.{◌≡◌, ℕ, ◌+◌, ◌-◌, ◌^◌, ◌<◌, ◌≤◌, ◌⊎◌, min, Bool, IsTrue, List, length, Option, IfErr, IfSome, OnOk, Result, MatchResult, ⊤, false}
+use Rattle.text_core.specs.declared.fault.Fault.TheVariants.{Read, Write}
+use Rattle.text_core.specs.declared.fault.RunError.{RunError}
 
 -- a reader: the bytes that are left, where they are known, the number of reads that gave bytes, and whether the last read failed
 pub record Source : Type 0 where
@@ -33,3 +35,11 @@ pub record IsTooLong (reads reads_new : ℕ) (left : Option (List ℕ)) : Type 0
 -- a read failed, or ten million reads didn't come to the end
 abbrev pub CannotReadOn : Bool → (reads reads_new : ℕ) → Option (List ℕ) → Type 0
 CannotReadOn failed reads reads_new left = IsTrue failed ⊎ IsTooLong reads reads_new left
+
+-- How a run leaves its reader and its writer: where it came to its end, no read failed, and at most ten million reads gave bytes. Where a read
+-- ended it, the reader can't be read on; where a write did, the writer is stuck.
+pub record LeavesStreams {T : Type 0} (failed : Bool) (reads reads_new : ℕ) (left : Option (List ℕ)) (stuck_new : Bool) (result : Result T RunError) : Type 0 where
+  pub heard : OnOk result (failed ≡ false)
+  pub few : reads_new ≤ reads + 10000000
+  pub unread : IfErr result (λ error. error.fault ≡ Read → CannotReadOn failed reads reads_new left)
+  pub stuck : IfErr result (λ error. error.fault ≡ Write → IsTrue stuck_new)

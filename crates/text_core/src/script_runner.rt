@@ -1,11 +1,11 @@
 ghost use Rattle.std.specs.Prelude.{◌≡◌, ℕ, ◌+◌, ◌*◌, ◌^◌, ◌<◌, ◌≤◌, [], ◌∷◌, ◌++◌, List, Option, option_map, length, false, Some, None, IfNone, IfSome, IfErr, IfOk, IsTrue, OnErr, OnOk};
 ghost use Rattle.text_core.specs.Reply.{newlines};
 ghost use Rattle.std.specs.Io.KnownBytes.{Appends};
-ghost use Rattle.text_core.specs.Script.{StopsIn, Answer, command_in_block, command_of_line, fault_of, texts};
-ghost use Rattle.text_core.specs.Runs.{IsEnded, IsTotal};
+ghost use Rattle.text_core.specs.Script.{StopsIn, Answer, command_in_block, command_of_line, texts};
+ghost use Rattle.text_core.specs.Runs.{IsPlayed};
 ghost use Rattle.text_core.specs.ReplyBuffer.{Owes, empty};
 ghost use Rattle.text_core.specs.ScriptRunner.{BeginsLine, Finishes, HasRead, PlaysOn, ReadsCommand, ReadsLine, ReadsOn, begun, block_begun, in_block, noted};
-ghost use Rattle.text_core.specs.Streams.{CannotReadOn};
+ghost use Rattle.text_core.specs.Streams.{LeavesStreams};
 
 use crate::answer::Answers;
 use crate::block::{Block, Blocks, ClientLine};
@@ -319,18 +319,8 @@ impl<A: Respond> ScriptRunner<A> {
         writer: &mut W,
     ) -> Result<Totals, RunError>
         requires { self.old ≡ begun self.old.machine }
-        ensures ok { OnOk result (IfSome (R.remaining reader.old) (λ input. fault_of input ≡ None)) }
-        ensures answered { IfOk result (λ totals. IfSome (R.remaining reader.old) (λ input.
-            IsTotal A.may self.old.machine input (W.contents writer.old) (W.contents writer.new) totals)) }
-        ensures err { IfErr result (λ error. IfSome (R.remaining reader.old) (λ input.
-            IsEnded A.may A.asks self.old.machine error.fault input error (R.remaining reader.old) (R.remaining reader.new)
-            (W.contents writer.old) (W.contents writer.new))) }
-        ensures heard { OnOk result (R.failed reader.new ≡ false) }
-        // At most ten million reads give bytes.
-        ensures few { R.reads reader.new ≤ R.reads reader.old + 10000000 }
-        ensures unread { IfErr result (λ error. error.fault ≡ Fault.Read → CannotReadOn (R.failed reader.new)
-            (R.reads reader.old) (R.reads reader.new) (R.remaining reader.old)) }
-        ensures stuck { IfErr result (λ error. error.fault ≡ Fault.Write → IsTrue (W.stuck writer.new)) }
+        ensures played { IsPlayed A.may A.asks self.old.machine (R.remaining reader.old) (R.remaining reader.new) (W.contents writer.old) (W.contents writer.new) result }
+        ensures streams { LeavesStreams (R.failed reader.new) (R.reads reader.old) (R.reads reader.new) (R.remaining reader.old) (W.stuck writer.new) result }
     {
         let mut buffer = [0; 4096];
         for _ in 0..10_000_000_u32 {
@@ -416,17 +406,8 @@ pub fn play<A: Respond + Drop, R: Input, W: Output>(
     writer: &mut W,
 ) -> Result<Totals, RunError>
     requires { A.ready machine }
-    ensures ok { OnOk result (IfSome (R.remaining reader.old) (λ input. fault_of input ≡ None)) }
-    ensures answered { IfOk result (λ totals. IfSome (R.remaining reader.old) (λ input.
-        IsTotal A.may machine input (W.contents writer.old) (W.contents writer.new) totals)) }
-    ensures err { IfErr result (λ error. IfSome (R.remaining reader.old) (λ input.
-        IsEnded A.may A.asks machine error.fault input error (R.remaining reader.old) (R.remaining reader.new)
-        (W.contents writer.old) (W.contents writer.new))) }
-    ensures heard { OnOk result (R.failed reader.new ≡ false) }
-    ensures few { R.reads reader.new ≤ R.reads reader.old + 10000000 }
-    ensures unread { IfErr result (λ error. error.fault ≡ Fault.Read → CannotReadOn (R.failed reader.new)
-        (R.reads reader.old) (R.reads reader.new) (R.remaining reader.old)) }
-    ensures stuck { IfErr result (λ error. error.fault ≡ Fault.Write → IsTrue (W.stuck writer.new)) }
+    ensures played { IsPlayed A.may A.asks machine (R.remaining reader.old) (R.remaining reader.new) (W.contents writer.old) (W.contents writer.new) result }
+    ensures streams { LeavesStreams (R.failed reader.new) (R.reads reader.old) (R.reads reader.new) (R.remaining reader.old) (W.stuck writer.new) result }
 {
     let mut player = ScriptRunner::new(Blocks::new(alloc), machine);
     player.run(reader, writer)
