@@ -16,7 +16,7 @@ ghost use Rattle.worker_threads.specs.declared.round.Stop.TheVariants.{JournalFu
 ghost use Rattle.worker_threads.specs.declared.work.Work.{Work as Task};
 
 use crate::identity::MemoryIdentity;
-use std::marker::{Brand, PhantomData};
+use std::marker::PhantomData;
 
 /// What the lock of a zone keeps, beside what it keeps of every zone: a fact about the zone, after work was begun so often, that each step of
 /// the work leaves true, and each call of a client that may make calls. Contracts alone know it, and whoever shares a zone picks it. `Open`
@@ -55,25 +55,6 @@ pub trait Keeping: MemoryIdentity {
 
     // A client makes a call that isn't refused. Where the work has stopped, it has still stopped.
     ghost calls: { (W : ℕ) (work : Task) (rounds : ℕ) (z : ZoneState) (client : ℕ) (call : ZoneCall W) → allows client → IsValidZone z → refusal_of call z ≡ None → keeps work rounds z → keeps work rounds (after call client z) };
-}
-
-// Nothing: a call that passes `Brand` picks its own.
-impl Keeping for Brand {
-    ghost begins = { λ work next rounds z may law none keeps. tt };
-
-    ghost takes = { λ work rounds z m begun law accepted found keeps. tt };
-
-    ghost finds_none = { λ work rounds z begun law accepted none keeps. tt };
-
-    ghost stops = { λ work rounds z law accepted none keeps. tt };
-
-    ghost fills = { λ work rounds z error law refused keeps. tt };
-
-    ghost goes_on = { λ work rounds z m stop begun law accepted found keeps stopped. tt };
-
-    ghost commits = { λ work rounds z page serial source target law at keeps. tt };
-
-    ghost calls = { λ W work rounds z client call may law accepted keeps. tt };
 }
 
 /// Of a zone that anyone may use its lock keeps nothing more: each client may make calls, and any work may be done.

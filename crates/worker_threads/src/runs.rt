@@ -59,10 +59,9 @@ impl Runs {
     /// Claims the free frames of each run.
     pub(crate) fn claim<const W: usize>(&self, zone: &mut BareZone<W>)
         requires blocks { AreBlocks (frame_count zone.old) self.now }
-        requires valid { IsValidZone zone.old }
         ensures claimed { zone.new ≡ runs_claimed (2 ^ self.now.order) self.now.left zone.old }
         ensures identity { HasIdentity zone.old.number zone.old.blocks zone.new }
-        ensures valid { IsValidZone zone.new }
+        ensures valid { IsValidZone zone.old → IsValidZone zone.new }
     {
         for place in 0..self.left.len() {
             // A step without moves.
@@ -78,7 +77,6 @@ impl Runs {
         zone: &mut BareZone<W>,
     ) -> Result<Next<LentMove>, ZoneError>
         requires blocks { AreBlocks (frame_count zone.old) self.old }
-        requires valid { IsValidZone zone.old }
         ensures refused { result_err result ≡ run_refusal self.old.left (lend_move_refusal zone.old) }
         ensures err { OnErr result ((zone.new ≡ zone.old) × (self.new ≡ self.old)) }
         ensures lent { IfOk result (Lends (move_out (2 ^ self.old.order) zone.old self.old.left) zone.old zone.new) }
@@ -86,7 +84,7 @@ impl Runs {
         ensures ok { OnOk result (zone.new ≡ next_sent zone.old (move_out (2 ^ self.old.order) zone.old self.old.left)) }
         ensures left { OnOk result (self.new ≡ record self.old { left = still_left (2 ^ self.old.order) zone.old self.old.left }) }
         ensures identity { HasIdentity zone.old.number zone.old.blocks zone.new }
-        ensures valid { IsValidZone zone.new }
+        ensures valid { IsValidZone zone.old → IsValidZone zone.new }
     {
         while let Some(first) = self.left.front() {
             if let Next::Page(lent) = zone.lend_move_from(*first, self.order)? {

@@ -38,10 +38,9 @@ impl Work {
     /// Begins it: a round begins, or the free frames of the runs are claimed.
     pub(crate) fn begin<const W: usize>(&self, zone: &mut BareZone<W>)
         requires runs { AreRuns (frame_count zone.old) self.now }
-        requires valid { IsValidZone zone.old }
         ensures begun { zone.new ≡ work_begun self.now zone.old }
         ensures identity { HasIdentity zone.old.number zone.old.blocks zone.new }
-        ensures valid { IsValidZone zone.new }
+        ensures valid { IsValidZone zone.old → IsValidZone zone.new }
     {
         match self {
             Work::Compact => zone.begin_round(),
@@ -56,7 +55,6 @@ impl Work {
     ) -> Result<Next<LentMove>, ZoneError>
         requires runs { AreRuns (frame_count zone.old) self.old }
         requires given { is_none zone.old.memory ≡ false }
-        requires valid { IsValidZone zone.old }
         ensures refused { result_err result ≡ work_refusal self.old zone.old }
         ensures err { OnErr result ((zone.new ≡ zone.old) × (self.new ≡ self.old)) }
         ensures lent { IfOk result (Lends (next_move self.old zone.old) zone.old zone.new) }
@@ -64,7 +62,7 @@ impl Work {
         ensures ok { OnOk result (zone.new ≡ next_sent self.old zone.old (next_move self.old zone.old)) }
         ensures left { OnOk result (self.new ≡ work_left self.old zone.old) }
         ensures identity { HasIdentity zone.old.number zone.old.blocks zone.new }
-        ensures valid { IsValidZone zone.new }
+        ensures valid { IsValidZone zone.old → IsValidZone zone.new }
     {
         match self {
             Work::Compact => zone.lend_move(),
@@ -79,16 +77,15 @@ impl Work {
         copied: CopiedMove,
     ) -> Result<Ended, Stranger<CopiedMove>>
         requires rows { is_lent_move zone.old copied ≡ true → IsCopiedMove zone.old copied }
-        requires valid { IsValidZone zone.old }
         ensures own { IsOk result ↔ (is_lent_move zone.old copied ≡ true) }
         ensures back { IfErr result (λ stranger. stranger.0 ≡ copied) }
         ensures err { OnErr result (zone.new ≡ zone.old) }
         ensures ended { IfOk result (λ ended. ended ≡ ended_as zone.old copied.page) }
         ensures ok { OnOk result (zone.new ≡ page_ended self.now zone.old copied.serial copied.page copied.source) }
         // In a quiet round no commit makes a pair.
-        ensures met { OnOk result (is_quiet zone.old ≡ true → HaveMet zone.old → is_quiet zone.new ≡ true → HaveMet zone.new) }
+        ensures met { OnOk result (IsValidZone zone.old → is_quiet zone.old ≡ true → HaveMet zone.old → is_quiet zone.new ≡ true → HaveMet zone.new) }
         ensures identity { HasIdentity zone.old.number zone.old.blocks zone.new }
-        ensures valid { IsValidZone zone.new }
+        ensures valid { IsValidZone zone.old → IsValidZone zone.new }
     {
         match self {
             Work::Compact => zone.commit_lent(copied),

@@ -18,7 +18,7 @@ invariant_of-self g c =
     let none = ap (λ (r : Room). out r.zone.records) c.self.view_is ∙ c.requires.none in (
       subst (λ (w : Round). IsRoom _ _ _ _ (record { zone = c.begin.new.zone; kept = r.kept.items; work = work; rounds = rounds; is_under_way = true; round = w })) (sym c.new-self-inside.ensures)
           (room_begun _ _ _ _ _ work c.begin.new.zone rounds is.0 (subst (λ (r : Room). AreRuns (frame_count r.zone) work) (sym c.self.view_is) c.requires.runs)
-          (ap (λ (r : Room). in_hand r.kept) c.self.view_is ∙ c.requires.hands) c.begin.ensures.begun c.begin.ensures.valid c.begin.ensures.identity),
+          (ap (λ (r : Room). in_hand r.kept) c.self.view_is ∙ c.requires.hands) c.begin.ensures.begun (c.begin.ensures.valid is.0.valid) c.begin.ensures.identity),
       subst (λ (w : Round). Keeps g.K.Keeping.keeps g.K.Keeping.stops_at (record { zone = c.begin.new.zone; kept = r.kept.items; work = work; rounds = rounds; is_under_way = true; round = w })) (sym c.new-self-inside.ensures)
           (keeps_begun _ is.1 work c.begin.new.zone rounds c.begin.ensures.begun c.saturating_add-self-inside.ensures (g.K.Keeping.begins r.work work r.rounds r.zone c.requires.may is.0.valid none)),
     )

@@ -49,7 +49,7 @@ invariant_of-self-2 g c =
     let begun = subst (λ (r : Room). 0 < r.rounds) (sym c.self.view_is) c.requires.begun in
     let accepted = not_refused work z _ lends.0 (sym (subst (λ (r : Result (Next LentMove) ZoneError). result_err r ≡ work_refusal work z) found c.lend_next-next.ensures.refused)) in
     let is = c.self.invariant in (
-      room_gets _ _ _ _ _ is.0 next c.args.place free lent lends step half way_is half_is long c.lend_next-next.ensures.valid c.lend_next-next.ensures.identity c.lend_next-next.new.self left c.note.new.self count,
+      room_gets _ _ _ _ _ is.0 next c.args.place free lent lends step half way_is half_is long (c.lend_next-next.ensures.valid is.0.valid) c.lend_next-next.ensures.identity c.lend_next-next.new.self left c.note.new.self count,
       keeps_got _ is.1 next (record { page = lent.page; source = lent.source; target = lent.target }) kept c.lend_next-next.new.self c.note.new.self (step ∙ ap (next_sent work z) lends.0) left count
           (g.K.Keeping.takes work c.self.inside.rounds z _ begun is.0.valid accepted lends.0)
           (λ reason. g.K.Keeping.goes_on work c.self.inside.rounds z _ reason begun is.0.valid accepted lends.0 is.1.fact),

@@ -9,5 +9,5 @@ abbrev pub invariant-loop-place : goal.invariant-loop-place
 invariant-loop-place g l = record {
   claimed : runs_claimed (2 ^ l.fn.self.order) (drop l.place l.fn.self.left) l.zone ≡ runs_claimed (2 ^ l.fn.self.order) l.fn.self.left l.fn.zone;
   identity : HasIdentity l.fn.zone.number l.fn.zone.blocks l.zone;
-  valid : IsValidZone l.zone;
+  valid : IsValidZone l.fn.zone → IsValidZone l.zone;
 }
