@@ -1,10 +1,10 @@
-ghost use Rattle.std.specs.Prelude.{◌≡◌, ◌≢◌, ◌+◌, ◌<◌, ◌≤◌, IfErr, IfOk, IfSome, IsTrue, OnOk, OnSome, None, Some, false, length};
+ghost use Rattle.std.specs.Prelude.{◌≡◌, ◌≢◌, ◌<◌, IfErr, IfOk, IfSome, IsTrue, OnOk, OnSome, None, Some, length};
 ghost use Rattle.std.specs.Io.KnownBytes.{Appends};
 ghost use Rattle.zone_core.specs.Books.{AreFor};
 ghost use Rattle.text_core.specs.declared.fault.Fault.{Fault};
 ghost use Rattle.machine_core.specs.Ends.{EndsIn, FailsAfter, LacksMemory, is_of_script, is_over};
 ghost use Rattle.text_core.specs.Script.{StopsIn, fault_of};
-ghost use Rattle.text_core.specs.Streams.{CannotReadOn};
+ghost use Rattle.text_core.specs.Streams.{LeavesStreams};
 ghost use Rattle.machine_core.specs.Replies.{answers_of, output_of, totals_of};
 
 use crate::machine::Machine;
@@ -35,11 +35,7 @@ pub fn run<R: Input, W: Output>(
         Appends (W.contents writer.old) (W.contents writer.new) (output_of options.journal input)) }
 
     // Where a read ended the run, it failed, or ten million reads didn't come to the end; where a write did, it failed or took no byte.
-    ensures heard { OnOk result (R.failed reader.new ≡ false) }
-    ensures few { R.reads reader.new ≤ R.reads reader.old + 10000000 }
-    ensures unread { IfErr result (λ error. error.fault ≡ Fault.Read → CannotReadOn (R.failed reader.new)
-        (R.reads reader.old) (R.reads reader.new) (R.remaining reader.old)) }
-    ensures stuck { IfErr result (λ error. error.fault ≡ Fault.Write → IsTrue (W.stuck writer.new)) }
+    ensures streams { LeavesStreams (R.failed reader.new) (R.reads reader.old) (R.reads reader.new) (R.remaining reader.old) (W.stuck writer.new) result }
 
     // Whatever else ends the run, the replies to the commands before are written, unless it is that they can't be.
     ensures read { IfErr result (λ error. error.fault ≡ Fault.Read → OnSome (R.remaining reader.old)
@@ -93,11 +89,7 @@ fn run_with<Z: Opening, R: Input, W: Output>(
     ensures err { IfErr result (λ error. IfSome (R.remaining reader.old) (λ input.
         EndsIn error.fault options.journal input error (R.remaining reader.old) (R.remaining reader.new)
         (W.contents writer.old) (W.contents writer.new))) }
-    ensures heard { OnOk result (R.failed reader.new ≡ false) }
-    ensures few { R.reads reader.new ≤ R.reads reader.old + 10000000 }
-    ensures unread { IfErr result (λ error. error.fault ≡ Fault.Read → CannotReadOn (R.failed reader.new)
-        (R.reads reader.old) (R.reads reader.new) (R.remaining reader.old)) }
-    ensures stuck { IfErr result (λ error. error.fault ≡ Fault.Write → IsTrue (W.stuck writer.new)) }
+    ensures streams { LeavesStreams (R.failed reader.new) (R.reads reader.old) (R.reads reader.new) (R.remaining reader.old) (W.stuck writer.new) result }
 {
     let machine = Machine::<Z>::new(alloc, options.journal, blanks);
     play(alloc, machine, reader, writer)
