@@ -82,6 +82,13 @@ copy_answered (Came.Copy copy) = copy ∷ []
 copy_answered Came.End = []
 copy_answered Came.Gone = []
 
+-- a message was received, with no copy in hand before: its copies are in hand, and none was answered. Where it was the last mark that
+-- the taker waited for, no copy is in hand
+pub record IsReceived (t u : DoneTaker) : Type 0 where
+  pub taken : copies_taken u ≡ copies_taken t
+  pub end : has_ended t ≡ false → has_ended u ≡ true → u.in_hand ≡ []
+  pub same : u ≡ record t { came = u.came; in_hand = u.in_hand }
+
 -- the answer is the end exactly where the mark of every sender was received; with it, and where the senders are gone, every copy
 -- that was received has been answered
 abbrev pub IsEndInTime : DoneTaker → Came → Type 0

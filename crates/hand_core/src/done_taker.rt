@@ -1,7 +1,7 @@
 ghost use Rattle.std.specs.Prelude.{◌≡◌, ◌<◌, ◌++◌, ◌∷◌, List, [], true, false, IfSome, IfNone, OnOk, OnErr};
 ghost use Rattle.std.specs.List.{list_all};
 ghost use Rattle.hand_core.specs.CopyQueue.{sender_of};
-ghost use Rattle.hand_core.specs.CopyEnds.{copies_in_one, copies_taken, has_ended, copy_answered, copy_tried, IsEndInTime, IsTriedInTime};
+ghost use Rattle.hand_core.specs.CopyEnds.{copies_in_one, copies_taken, has_ended, copy_answered, copy_tried, IsEndInTime, IsReceived, IsTriedInTime};
 ghost use Rattle.hand_core.specs.CopyInvariants.{marks_of_four};
 
 use crate::batch::BATCH_CAPACITY;
@@ -108,40 +108,22 @@ impl DoneTaker {
     // Receives the message at the front of the queue, with no copy in hand.
     fn receive<R: Wait>(&mut self, rt: &R) -> Result<(), RecvError>
         requires { self.old.in_hand ≡ [] }
-        ensures taken { OnOk result (copies_taken self.new ≡ copies_taken self.old) }
-        ensures end { OnOk result (has_ended self.old ≡ false → has_ended self.new ≡ true → self.new.in_hand ≡ []) }
-        ensures same { self.new ≡ record self.old { came = self.new.came; in_hand = self.new.in_hand } }
+        ensures ok { OnOk result (IsReceived self.old self.new) }
         ensures err { OnErr result (self.new ≡ self.old) }
     {
-        let DoneTaker {
-            marked,
-            hand,
-            from,
-            pass,
-            ..
-        } = self;
-        let message = patience::receive::<Receives, _, _, _, R>(rt, from, pass)?;
-        keep(marked, hand, message);
+        let message = patience::receive::<Receives, _, _, _, R>(rt, &self.from, &mut self.pass)?;
+        keep(&mut self.marked, &mut self.hand, message);
         Ok(())
     }
 
     // Receives the message at the front of the queue, with no copy in hand, and doesn't wait.
     fn try_receive<R: Wait>(&mut self, rt: &R) -> Result<(), TryRecvError>
         requires { self.old.in_hand ≡ [] }
-        ensures taken { OnOk result (copies_taken self.new ≡ copies_taken self.old) }
-        ensures end { OnOk result (has_ended self.old ≡ false → has_ended self.new ≡ true → self.new.in_hand ≡ []) }
-        ensures same { self.new ≡ record self.old { came = self.new.came; in_hand = self.new.in_hand } }
+        ensures ok { OnOk result (IsReceived self.old self.new) }
         ensures err { OnErr result (self.new ≡ self.old) }
     {
-        let DoneTaker {
-            marked,
-            hand,
-            from,
-            pass,
-            ..
-        } = self;
-        let message = from.try_recv_as::<Receives, R>(rt, pass)?;
-        keep(marked, hand, message);
+        let message = self.from.try_recv_as::<Receives, R>(rt, &mut self.pass)?;
+        keep(&mut self.marked, &mut self.hand, message);
         Ok(())
     }
 

@@ -1,4 +1,5 @@
-use Rattle.std.proofs.Common.{ap, ◌∙◌}
+use Rattle.std.proofs.Common.{ap, ◌∙◌, arith, rules}
+use Rattle.std.proofs.lemmas.Grind.{common_steps}
 use Rattle.std.specs.List.{range_with_len}
 use Rattle.crossbeam_channel.specs.Claims.{view}
 use Rattle.hand_core.specs.CopyEnds.{has_ended}
@@ -9,8 +10,11 @@ use Rattle.hand_core.proofs.done_taker.DoneTaker.try_receive.Goals as goal
 pub try_recv_as-requires-clause-rule : goal.try_recv_as-requires-clause-rule
 try_recv_as-requires-clause-rule g c = (off _ _ c.self.invariant.takes, λ items views rule at. tt)
 
-pub returns-clause-end : goal.returns-clause-end
-returns-clause-end g c going ended =
-    c.keep.ensures.hand
-    ∙ last_alone (view c.self.inside.pass) (view c.try_recv_as.new.pass) c.in_ok-message.message (range_with_len 0 c.self.inside.senders)
-    c.in_ok-message.ensures.rule (ap has_ended c.self.view_is ∙ going) ended
+pub returns-clause-ok : goal.returns-clause-ok
+returns-clause-ok g c = record {
+  taken = grind (arith, common_steps);
+  end = λ going ended. c.keep.ensures.hand
+      ∙ last_alone (view c.self.inside.pass) (view c.try_recv_as.new.pass) c.in_ok-message.message (range_with_len 0 c.self.inside.senders)
+      c.in_ok-message.ensures.rule (ap has_ended c.self.view_is ∙ going) ended;
+  same = search rules;
+}
