@@ -133,26 +133,42 @@ fn turn_and_ask(rt: &impl Abort, set: &mut NumberSet, table: &mut [bool], first:
     agree(rt, set, table, bound, end - 1);
 }
 
-/// A full set loses runs at the ends of words, and gets some of them back.
-fn turn_word_ends(rt: &impl Abort, set: &mut NumberSet, table: &mut [bool])
-    requires some { 4096 ≤ length table.old }
+/// Turns runs one after the other, each given by its first number and its order.
+fn turn_each(rt: &impl Abort, set: &mut NumberSet, table: &mut [bool], runs: &[(u32, u32)])
     requires few { length table.old < 2 ^ 24 }
     requires set { length table.old ≤ set.old.bound }
     ensures set { set.new.bound ≡ set.old.bound }
     ensures table { length table.new ≡ length table.old }
 {
-    turn_and_ask(rt, set, table, 63, 0);
-    turn_and_ask(rt, set, table, 0, 6);
-    turn_and_ask(rt, set, table, 0, 7);
-    turn_and_ask(rt, set, table, 0, 7);
-    turn_and_ask(rt, set, table, 63, 0);
-    turn_and_ask(rt, set, table, 96, 5);
-    turn_and_ask(rt, set, table, 0, 6);
-    turn_and_ask(rt, set, table, 0, 7);
-    turn_and_ask(rt, set, table, 3_584, 9);
-    turn_and_ask(rt, set, table, 4_032, 6);
-    turn_and_ask(rt, set, table, 4_032, 3);
-    turn_and_ask(rt, set, table, 4_088, 3);
+    for run in runs {
+        let (first, order) = *run;
+        assert!(rt;
+            order <= 9 && first % (1 << order) == 0,
+            "a run begins there"
+        );
+        assert!(rt;
+            first as usize + (1 << order) <= table.len(),
+            "it ends within the table"
+        );
+        turn_and_ask(rt, set, table, first, order);
+    }
+}
+
+/// A full set loses runs at the ends of words, and gets some of them back.
+fn turn_word_ends(rt: &impl Abort, set: &mut NumberSet, table: &mut [bool])
+    requires few { length table.old < 2 ^ 24 }
+    requires set { length table.old ≤ set.old.bound }
+    ensures set { set.new.bound ≡ set.old.bound }
+    ensures table { length table.new ≡ length table.old }
+{
+    turn_each(rt, set, table, &[(63, 0), (0, 6), (0, 7), (0, 7), (63, 0)]);
+    turn_each(rt, set, table, &[(96, 5), (0, 6), (0, 7)]);
+    turn_each(
+        rt,
+        set,
+        table,
+        &[(3_584, 9), (4_032, 6), (4_032, 3), (4_088, 3)],
+    );
 }
 
 #[test]
@@ -160,10 +176,8 @@ fn turns_runs(rt: HostRuntime) {
     let mut set = NumberSet::filled(rt.alloc(), 300_000).expect(&rt, "memory");
     let mut table = Vec::from_elem(rt.alloc(), true, 300_000).expect(&rt, "memory");
     turn_word_ends(&rt, &mut set, &mut table);
-    turn_and_ask(&rt, &mut set, &mut table, 4_096, 8);
-    turn_and_ask(&rt, &mut set, &mut table, 261_632, 9);
-    turn_and_ask(&rt, &mut set, &mut table, 262_144, 9);
-    turn_and_ask(&rt, &mut set, &mut table, 299_968, 5);
+    let runs = [(4_096, 8), (261_632, 9), (262_144, 9), (299_968, 5)];
+    turn_each(&rt, &mut set, &mut table, &runs);
 }
 
 #[test]
