@@ -10,6 +10,7 @@ The archive that is left has the kit's heap too, which calls malloc, realloc and
     python3 -m launch.c_library                 prints the digest of the sources
     python3 -m launch.c_library built DIGEST    builds the library over what `rt ci` left, and notes the digest"""
 
+import os
 import pathlib
 import re
 import shutil
@@ -65,7 +66,9 @@ def build_command(root, archive):
     for folder in (kit / "rlibs", *(place.parent for place in found.values())):
         words += ["-L", f"dependency={folder}"]
     words += ["--antt-project", kit / "rattle/logic/antt-project.json", "--logic-built", kit / "logic_built"]
-    return [*words, "--jobs", "1", "--links", f"{CRATE}=", "--toolchain", kit / "toolchain", "--backend", "llvm", "-o", archive]
+    # Nothing else is built meanwhile.
+    jobs = str(len(os.sched_getaffinity(0)))
+    return [*words, "--jobs", jobs, "--links", f"{CRATE}=", "--toolchain", kit / "toolchain", "--backend", "llvm", "-o", archive]
 
 
 def build(root):
