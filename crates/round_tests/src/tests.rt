@@ -4,6 +4,7 @@ ghost use Rattle.zone_core.specs.Books.{AreFor};
 mod alone;
 mod beside;
 mod calls;
+mod carrying;
 mod collecting;
 mod copiers;
 mod gates;

@@ -3,7 +3,7 @@
 use super::answers::Answer;
 use super::calls::Call;
 use super::many_pageblocks::{frame_of, plays};
-use super::{frame, order};
+use super::{address, frame, order};
 use frame_core::ZoneNo;
 use std::process::Abort;
 use zone_core::{BareZone, ZoneError};
@@ -215,12 +215,13 @@ fn free_runs_lie_in_no_larger_one(rt: HostRuntime) {
     assert!(rt; zone.free_runs(9) == Some(0));
 }
 
-/// Of two pages one is moved, and the other is isolated and found.
+/// Of two pages one is moved, and the other is isolated and found by the lower one of its addresses.
 #[test]
 fn a_round_is_made_in_slices(rt: HostRuntime) {
     let rows = [
         (Call::Map((0, 0)), Answer::Frame(0)),
         (Call::Map((0, 1)), Answer::Frame(1)),
+        (Call::Share((0, 1), (0, 2)), Answer::Done),
     ];
     let mut zone = opened(&rt, 1, 64);
     plays(&rt, &mut zone, "two pages", &rows);
@@ -230,4 +231,5 @@ fn a_round_is_made_in_slices(rt: HostRuntime) {
     assert!(rt; zone.isolate_next().is_ok());
     let moving = zone.next_moving(frame(&rt, 1)).expect(&rt, "a moving page");
     assert!(rt; moving.source.get() == 1);
+    assert!(rt; moving.address == address(&rt, (0, 1)));
 }

@@ -86,7 +86,8 @@ fn hands_out_each_pageblock(rt: &(impl Abort + AllocGlobal), blocks: u32)
     assert_frames(rt, zone.frames(), zone.info());
 }
 
-/// A round moves a page from frame 0 to the last frame, and an evacuation of the last eight frames to the one below them.
+/// A round moves a page from frame 0 to the last frame and stays quiet, up to an evacuation of the last eight frames, which moves the page to
+/// the one below them.
 fn moves_a_page(rt: &(impl Abort + AllocGlobal), blocks: u32)
     requires { (0 < blocks) × (blocks ≤ 4096) }
 {
@@ -94,7 +95,9 @@ fn moves_a_page(rt: &(impl Abort + AllocGlobal), blocks: u32)
     let last = 512 * blocks - 1;
     assert!(rt; zone.map(client(rt), address(rt, PAGE), false).is_ok());
     assert!(rt; zone.compact() == Answered::Met && frame_of(rt, &zone, PAGE) == last);
+    assert!(rt; zone.quiet());
     assert!(rt; zone.evacuate(frame(rt, last - 7), order(rt, 3)) == Ok(1));
+    assert!(rt; !zone.quiet());
     assert!(rt; frame_of(rt, &zone, PAGE) == last - 8);
     assert_frames(rt, zone.frames(), zone.info());
 }

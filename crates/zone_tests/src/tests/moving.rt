@@ -55,7 +55,8 @@ const RUNS_A_ROUND: &[Part<'static>] = &[Part {
     ],
 }];
 
-/// Pages of another zone, under another serial or with another number are strangers, and so is the page once it has ended.
+/// Pages of another zone, under another serial or with another number are strangers, and so is the page once it has ended. It is one under
+/// this serial when it moves again.
 const REFUSES_STRANGERS: &[Part<'static>] = &[Part {
     times: 1,
     rows: &[
@@ -68,6 +69,10 @@ const REFUSES_STRANGERS: &[Part<'static>] = &[Part {
         (Step::PutBack, Answer::Done),
         (Step::Stranger(3, 0, 0), Answer::Stranger),
         (Step::Audit, Answer::Audited(1, 0, 1)),
+        (Step::Isolate, Answer::Page),
+        (Step::Stranger(3, 0, 0), Answer::Stranger),
+        (Step::PutBack, Answer::Done),
+        (Step::Audit, Answer::Audited(2, 0, 2)),
     ],
 }];
 
@@ -121,7 +126,7 @@ const FILLS_ITS_JOURNAL: &[Part<'static>] = &[
     },
 ];
 
-/// A round that began with a page that may be moved is quiet, after a load too, up to a pin. A page has 255 pins at most.
+/// A round that began with a page that may be moved is quiet, after a load too, up to a mark or a pin. A page has 255 pins at most.
 const TAKES_PINS: &[Part<'static>] = &[
     Part {
         times: 1,
@@ -130,6 +135,11 @@ const TAKES_PINS: &[Part<'static>] = &[
             (Step::Round, Answer::Done),
             (Step::Quiet, Answer::Is(true)),
             (Step::Call(Call::Load(PAGE, 0)), Answer::Value(0)),
+            (Step::Quiet, Answer::Is(true)),
+            (Step::Call(Call::Mark(0)), Answer::Done),
+            (Step::Quiet, Answer::Is(false)),
+            (Step::Call(Call::Unmark(0)), Answer::Done),
+            (Step::Round, Answer::Done),
             (Step::Quiet, Answer::Is(true)),
         ],
     },

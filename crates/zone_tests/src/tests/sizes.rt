@@ -26,20 +26,21 @@ fn plays<'a>(
     tries(rt, &Case::of_zone(name, size, places, &parts));
 }
 
-/// Words that go past the page are refused, and nothing is read or written.
+/// Words that go past the page are refused, and nothing is read or written. All words of the page are read, and each is noted.
 fn refuses_words_past_the_page(rt: &(impl Abort + AllocGlobal), size: Size) {
     use zone::Step;
     let last = (size.words() - 1) as u32;
+    let zeros = [0; 512];
     let rows = [
         (
             Step::Write(last, &[7; 2]),
             Answer::Refused(ZoneError::Range),
         ),
         (Step::Read(last, &[7; 2]), Answer::Refused(ZoneError::Range)),
-        (Step::Call(Call::Load(PAGE, last)), Answer::Value(0)),
+        (Step::Read(0, &zeros[..size.words()]), Answer::Done),
         (Step::Write(last, &[7]), Answer::Done),
         (Step::Call(Call::Load(PAGE, last)), Answer::Value(7)),
-        (Step::Journal, Answer::Value(4)),
+        (Step::Journal, Answer::Value(3 + size.words() as u64)),
     ];
     plays(rt, "past the page", size, 4096, &rows);
 }
