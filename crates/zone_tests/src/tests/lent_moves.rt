@@ -7,7 +7,7 @@ use super::lending::{WORDS, memory, open_in};
 use super::{address, client, word};
 use frame_core::{Address, ClientNo};
 use std::process::Abort;
-use zone_core::{BareZone, Ended, LentMove, Next, ZoneError};
+use zone_core::{BareZone, Ended, LentMove, Next, Stranger, ZoneError};
 
 /// A value of this type may go to another thread.
 fn crosses<T: Send>(_value: &T) {}
@@ -29,6 +29,23 @@ fn assert_moving(rt: &impl Abort, zone: &mut BareZone<8>, client: ClientNo, addr
 {
     assert!(rt; !zone.lends_none());
     assert!(rt; zone.load(client, *address, word(rt, 3)).err() == Some(ZoneError::Moving));
+}
+
+/// Under another serial the move is handed back, with its rows, and the zone is as before.
+fn assert_own(rt: &impl Abort, zone: &mut BareZone<8>, lent: LentMove) -> LentMove
+    requires { IsLentMove zone.old lent }
+    ensures zone { zone.new ≡ zone.old }
+    ensures lent { result ≡ lent }
+{
+    let (way, from, to) = lent.into_parts();
+    assert!(rt; way.serial == 0);
+    let mut later = way;
+    later.serial = 1;
+    let Err(Stranger(back)) = zone.put_back_lent(LentMove::of(later, from, to)) else {
+        panic!(rt; "it is taken under another serial");
+    };
+    let (_, from, to) = back.into_parts();
+    LentMove::of(way, from, to)
 }
 
 /// A page with one word that isn't 0.
@@ -63,6 +80,7 @@ fn put_one_back(rt: &impl Abort, zone: &mut BareZone<8>, client: ClientNo, addre
     map_one(rt, zone, client, address);
     let lent = lend_next(rt, zone);
     assert_moving(rt, zone, client, address);
+    let lent = assert_own(rt, zone, lent);
     assert!(rt; zone.put_back_lent(lent).is_ok());
     assert_back(rt, zone, client, address);
 }
