@@ -5,7 +5,7 @@ ghost use Rattle.state_core.specs.LentMoves.{IsLentMove};
 
 use super::lending::{WORDS, memory, open_in};
 use super::{address, client, word};
-use frame_core::{Address, ClientNo};
+use frame_core::{Address, ClientNo, IsolatedOf, PageNo, PageOf, ZoneNo};
 use std::process::Abort;
 use zone_core::{BareZone, Ended, LentMove, Next, Stranger, ZoneError};
 
@@ -23,12 +23,20 @@ fn lend_next(rt: &impl Abort, zone: &mut BareZone<8>) -> LentMove
     }
 }
 
-/// While its words are lent, the page is moving.
+/// The page of the zone's first move, as a move by value has it.
+fn by_value(rt: &impl Abort) -> IsolatedOf<8> {
+    let zone = ZoneNo::new(3).expect(rt, "a zone");
+    let number = PageNo::new(0).expect(rt, "a page");
+    IsolatedOf::new(0, PageOf::new(zone, number))
+}
+
+/// While its words are lent, the page is moving, and its move isn't ended by value.
 fn assert_moving(rt: &impl Abort, zone: &mut BareZone<8>, client: ClientNo, address: &Address)
     ensures { zone.new ≡ zone.old }
 {
     assert!(rt; !zone.lends_none());
     assert!(rt; zone.load(client, *address, word(rt, 3)).err() == Some(ZoneError::Moving));
+    assert!(rt; zone.put_back(by_value(rt)).is_err(), "a lent move is ended by value");
 }
 
 /// Under another serial the move is handed back, with its rows, and the zone is as before.
