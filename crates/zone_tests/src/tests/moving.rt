@@ -76,6 +76,22 @@ const REFUSES_STRANGERS: &[Part<'static>] = &[Part {
     ],
 }];
 
+/// An unmovable page stays. A page that gets its number is moved again after it was put back.
+const TAKES_A_NUMBER_AGAIN: &[Part<'static>] = &[Part {
+    times: 1,
+    rows: &[
+        (Step::Call(Call::Unmap(PAGE)), Answer::Done),
+        (Step::Call(Call::MapUnmovable(PAGE)), Answer::Frame(0)),
+        (Step::Isolate, Answer::Met),
+        (Step::Call(Call::Unmap(PAGE)), Answer::Done),
+        (Step::Call(Call::Map(PAGE)), Answer::Frame(0)),
+        (Step::Isolate, Answer::Page),
+        (Step::PutBack, Answer::Done),
+        (Step::Isolate, Answer::Page),
+        (Step::PutBack, Answer::Done),
+    ],
+}];
+
 /// An end seat is split into 64 parts, each of which counts. The audit is refused while one is missing.
 const SPLITS_ITS_SEAT: &[Part<'static>] = &[
     Part {
@@ -165,6 +181,7 @@ fn moves_are_made_and_ended(rt: HostRuntime) {
         ("a page moves with its words", 64, MOVES_ITS_WORDS),
         ("a round on one thread", 21, RUNS_A_ROUND),
         ("strangers are refused", 64, REFUSES_STRANGERS),
+        ("a number is used again", 64, TAKES_A_NUMBER_AGAIN),
         ("a seat is split", 4, SPLITS_ITS_SEAT),
         ("a journal is filled", 65536, FILLS_ITS_JOURNAL),
         ("a page takes pins", 512, TAKES_PINS),
