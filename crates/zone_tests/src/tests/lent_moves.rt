@@ -36,7 +36,10 @@ fn assert_moving(rt: &impl Abort, zone: &mut BareZone<8>, client: ClientNo, addr
 {
     assert!(rt; !zone.lends_none());
     assert!(rt; zone.load(client, *address, word(rt, 3)).err() == Some(ZoneError::Moving));
-    assert!(rt; zone.put_back(by_value(rt)).is_err(), "a lent move is ended by value");
+    assert!(rt;
+        zone.put_back(by_value(rt)).is_err(),
+        "a lent move is ended by value"
+    );
 }
 
 /// Under another serial the move is handed back, with its rows, and the zone is as before.
