@@ -1,7 +1,6 @@
 -- A round over a zone that nobody else has comes to what the round by hand comes to.
-use Rattle.std.proofs.Common.{◌≡◌, ◌+◌, ◌<◌, ◌≤◌, ◌↔◌, inl, inr, sym, ap, subst, ◌∙◌, arith, true, refl, Option, Some, None, IsOk, IfOk, OnOk}
+use Rattle.std.proofs.Common.{◌≡◌, ◌+◌, ◌<◌, ◌≤◌, ℕ, sym, ap, subst, ◌∙◌, arith, true, refl, Option, Some, None, IfOk, OnOk}
 use Rattle.std.specs.Prelude.{Result, Ok, Err}
-use Rattle.std.proofs.lemmas.Bool.{cases_eq, cases_lt}
 use Rattle.frame_core.specs.Moves.{isolated}
 use Rattle.zone_core.specs.Alone.{IsAtRest, KeepsAlone, KeepsScanning}
 use Rattle.zone_core.specs.ByHand.{all_isolated, by_hand, scan_pair}
@@ -23,11 +22,14 @@ use Rattle.state_core.specs.ZoneState.{ZoneState, frame_count, is_quiet}
 use Rattle.zone_core.specs.Seats.{ScanSeat, EndSeat, IsAudited}
 use Rattle.round_core.specs.Alone.{StopsAlone, QuietAlone}
 use Rattle.round_core.specs.declared.error.RoundError.{RoundError}
-use Rattle.round_core.specs.declared.error.RoundError.TheVariants.{Broken}
 use Rattle.round_core.specs.declared.round.Round.{Round}
 use Rattle.round_core.specs.declared.round.Stop.TheVariants as stop
 use Rattle.round_core.specs.Scanning.{HasBegun}
-use Rattle.round_core.specs.Rounds.{IsRound, IsRefusedEarly, IsBroken, stop_for, stop_by_hand}
+use Rattle.round_core.specs.Rounds.{IsRound, IsUnlimited, stop_for, stop_by_hand}
+use Rattle.round_core.specs.Settling.{IsAnswered, IsRoundRun, answer_between, round_of}
+use Rattle.round_core.proofs.Limits.{if_unlimited}
+use Rattle.round_core.proofs.Settling.{answered, counted_by, if_counted_by}
+use Rattle.round_core.specs.declared.compacting.Settlement.{Settlement}
 
 -- the scanner goes on once it has begun, and stops as by hand
 
@@ -38,21 +40,6 @@ pub stops_alone : (start z : ZoneState) → IsValidZone z → KeepsScanning star
 stops_alone start z law keeps none rest =
     let seen = alone_stops start z keeps none rest in
     record { count_is = seen.count; stop_is = ap stop_for (refusal_same z (all_isolated start) seen) }
-
--- what an audit found that passed
-audited : (z : ZoneState) (scan : ScanSeat) (ends : EndSeat) (r : Result Audit ZoneError) → IsOk r → IfOk r (λ a. IsAudited z scan ends a) → (a : Audit) × IsAudited z scan ends a
-audited z scan ends (Ok a) ok is = (a, is)
-audited z scan ends (Err error) ok is = cc
-
-not_broken : (r : Round) → ◌≡◌ {A = Result Round RoundError} (Ok r) (Err Broken) → ⊥
-not_broken r e = cc
-
--- seats that aren't broken are whole
-whole : (scan : ScanSeat) (ends : EndSeat) → (IsBroken scan ends → ⊥) → (64 ≤ ends.parts) × (ends.moved + ends.back ≡ scan.count)
-whole scan ends sound = (
-  elim (cases_lt ends.parts 64) [ inl few ↦ absurd (sound (inl few)) | inr all ↦ all ],
-  elim (cases_eq (ends.moved + ends.back) scan.count) [ inl same ↦ same | inr differs ↦ absurd (sound (inr differs)) ],
-)
 
 -- where the round isolated a page, the fingers stand where they stand after the round by hand
 fingers_by_hand : (start z : ZoneState) → IsAtRest start → IsValidZone z → KeepsAlone start z → isolated start.records < isolated z.records
@@ -76,44 +63,62 @@ pub record IsByHand (start z : ZoneState) (r : Round) : Type 0 where
   pub none_back : r.back ≡ 0
   pub stopped : r.stopped ≡ stop_by_hand start
 
+-- such a round, and what its answer says of the seats
+pub record IsRoundByHand (copiers : ℕ) (start z : ZoneState) (scan scan_new : ScanSeat) (ends ends_new : EndSeat) (result : Result Round RoundError) : Type 0 where
+  pub answered : IsAnswered (StopsAlone start) (IsAtRest start) None copiers scan scan_new ends ends_new result
+  pub unlimited : IsUnlimited result
+  pub by_hand : IfOk result (IsByHand start z)
+  pub unbegun : scan_new.rounds ≡ scan.rounds → IsSame start z
+
 -- what the audits before and after a round find, with the seats that it was given and left
-module _ (start z : ZoneState) (scan scan_new : ScanSeat) (ends ends_new : EndSeat) (before after : Result Audit ZoneError) (law_start : IsValidZone start) (law : IsValidZone z) (keeps : KeepsAlone start z) (quiet : QuietAlone start z)
-    (told : 64 ≤ ends.parts → IsOk before ↔ (ends.moved + ends.back ≡ scan.count)) (found : IfOk before (λ a. IsAudited start scan ends a)) (counted : scan.count ≡ isolated start.records)
-    (told_new : 64 ≤ ends_new.parts → IsOk after ↔ (ends_new.moved + ends_new.back ≡ scan_new.count)) (found_new : IfOk after (λ a. IsAudited z scan_new ends_new a)) (counted_new : scan_new.count ≡ isolated z.records) where
-  module _ (sound : IsBroken scan ends → ⊥) where
-    first : (a : Audit) × IsAudited start scan ends a
-    first = let seats = whole scan ends sound in audited start scan ends before ((told seats.0).1 seats.1) found
+module _ (start z : ZoneState) (scan scan_new : ScanSeat) (ends ends_new : EndSeat) (before : Audit) (law_start : IsValidZone start) (law : IsValidZone z) (keeps : KeepsAlone start z) (quiet : QuietAlone start z)
+    (found : IsAudited start scan ends before) (counted_new : scan_new.count ≡ isolated z.records) where
+  at_rest : IsAtRest start
+  at_rest = record { valid = law_start; none_out = found.none_out }
 
-    at_rest : IsAtRest start
-    at_rest = record { valid = law_start; none_out = first.1.none_out }
+  counted : scan.count ≡ isolated start.records
+  counted = sym found.scan ∙ found.isolated
 
-    pub same_unbegun : scan_new ≡ scan → IsSame start z
-    same_unbegun same = alone_unbegun start z at_rest keeps (sym counted_new ∙ ap (λ (s : ScanSeat). s.count) same ∙ counted)
+  same_unbegun : scan_new ≡ scan → IsSame start z
+  same_unbegun same = alone_unbegun start z at_rest keeps (sym counted_new ∙ ap (λ (s : ScanSeat). s.count) same ∙ counted)
 
-    ok_by_hand : (r : Round) → StopsAlone start scan_new.count r.stopped → (IsAtRest start → ends_new.back ≡ ends.back) → IsRound scan scan_new ends ends_new r → IsByHand start z r
-    ok_by_hand r stops backs round =
-        let all = round.whole in
-        let started = round.count in
-        let last = (audited z scan_new ends_new after ((told_new (omega arith)).1 round.settled) found_new).1 in
-        let stop = stops at_rest in
-        let kept = backs at_rest in
-        let back = round.back in
-        let none_back = sym last.back ∙ last.ends_back ∙ kept ∙ sym first.1.ends_back ∙ first.1.back in
-        let same = alone_exact start z at_rest law keeps (sym counted_new ∙ stop.count_is) last.none_out none_back in
-        let more : 0 < r.count → isolated start.records < isolated z.records = λ some. omega (arith, some, started, counted, counted_new) in
-        record {
-          same = same;
-          fingers = λ some. fingers_by_hand start z at_rest law keeps (more some) (sym counted_new ∙ stop.count_is) same;
-          quiet = λ some. quiet at_rest (more some) none_back;
-          count = ap (λ n. n + r.count) (sym counted) ∙ round.count ∙ counted_new ∙ sym (isolated_same (by_hand start) z same);
-          none_back = omega arith;
-          stopped = stop.stop_is;
-        }
+  round_by_hand : (after : Audit) (r : Round) → IsAudited z scan_new ends_new after → StopsAlone start scan_new.count r.stopped → (IsAtRest start → ends_new.back ≡ ends.back) → IsRound scan scan_new ends ends_new r → IsByHand start z r
+  round_by_hand after r last stops backs round =
+      let started = round.count in
+      let stop = stops at_rest in
+      let kept = backs at_rest in
+      let back = round.back in
+      let none_back = sym last.back ∙ last.ends_back ∙ kept ∙ sym found.ends_back ∙ found.back in
+      let same = alone_exact start z at_rest law keeps (sym counted_new ∙ stop.count_is) last.none_out none_back in
+      let more : 0 < r.count → isolated start.records < isolated z.records = λ some. omega (arith, some, started, counted, counted_new) in
+      record {
+        same = same;
+        fingers = λ some. fingers_by_hand start z at_rest law keeps (more some) (sym counted_new ∙ stop.count_is) same;
+        quiet = λ some. quiet at_rest (more some) none_back;
+        count = ap (λ n. n + r.count) (sym counted) ∙ round.count ∙ counted_new ∙ sym (isolated_same (by_hand start) z same);
+        none_back = omega (arith, back, kept);
+        stopped = stop.stop_is;
+      }
 
-  pub result_by_hand : (result : Result Round RoundError) → IfOk result (λ r. StopsAlone start scan_new.count r.stopped) → OnOk result (IsAtRest start → ends_new.back ≡ ends.back) → IfOk result (λ r. IsRound scan scan_new ends ends_new r) → IsRefusedEarly scan scan_new ends ends_new result
-      → IfOk result (IsByHand start z)
-  result_by_hand (Ok r) stops backs round early = ok_by_hand (λ broken. not_broken r (early.broken.1 broken).0) r stops backs round
-  result_by_hand (Err error) stops backs round early = tt
+  result_by_hand : (settled : Result Settlement RoundError) (after : Result Audit ZoneError) → IfOk after (IsAudited z scan_new ends_new)
+      → IfOk (answer_between before settled after) (λ r. StopsAlone start scan_new.count r.stopped) → OnOk (answer_between before settled after) (IsAtRest start → ends_new.back ≡ ends.back)
+      → IfOk (answer_between before settled after) (IsRound scan scan_new ends ends_new) → IfOk (answer_between before settled after) (IsByHand start z)
+  result_by_hand (Err error) after last stops backs round = tt
+  result_by_hand (Ok s) (Err error) last stops backs round = tt
+  result_by_hand (Ok s) (Ok after) last stops backs round = round_by_hand after (round_of before after s) last stops backs round
+
+  pub comes_by_hand : (copiers : ℕ) (settled : Result Settlement RoundError) (after : Result Audit ZoneError) → ends.parts ≡ 64 → IfOk after (IsAudited z scan_new ends_new)
+      → (64 ≤ ends_new.parts → ends_new.moved + ends_new.back ≤ scan_new.count) → IsRoundRun (StopsAlone start) (IsAtRest start) None copiers scan scan_new ends ends_new settled
+      → IsRoundByHand copiers start z scan scan_new ends ends_new (answer_between before settled after)
+  comes_by_hand copiers settled after whole last few ran =
+      let all = answered scan scan_new ends ends_new before (counted_by start scan ends before found) whole ran.counts (StopsAlone start) (IsAtRest start) None copiers settled after ran (if_counted_by z scan_new ends_new after last) few in
+      let stops = if_unlimited (StopsAlone start) scan_new.count (answer_between before settled after) all.stops in
+      record {
+        answered = all;
+        unlimited = stops.1;
+        by_hand = result_by_hand settled after last stops.0 all.none_back all.round;
+        unbegun = λ none. same_unbegun (all.early.same none).0;
+      }
 
 -- the clauses
 

@@ -9,3 +9,4 @@ pub mod Copying
 pub mod Beside
 pub mod NoReceipt
 pub mod QuietAlone
+pub mod Settling

@@ -9,3 +9,4 @@ pub mod Runs
 pub mod Alone
 pub mod Scanning
 pub mod PuttingBack
+pub mod Settling

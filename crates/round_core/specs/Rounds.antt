@@ -4,7 +4,6 @@ use Rattle.std.specs.List.{flat_map, range_with_len}
 use Rattle.std.specs.List.Sorted.{IsPermutation, IsStrictlyIncreasing}
 use Rattle.zone_core.specs.ByHand.{all_isolated}
 use Rattle.state_core.specs.declared.error.ZoneError.{ZoneError}
-use Rattle.state_core.specs.declared.information.Audit.{Audit}
 use Rattle.state_core.specs.Isolating.{isolate_refusal}
 use Rattle.state_core.specs.ZoneState.{ZoneState}
 use Rattle.zone_core.specs.Seats.{ScanSeat, EndSeat}
@@ -39,18 +38,6 @@ lists_of r = map (λ v. v.items) r.by_copier.items
 pub record AreShared (lists : List (List ℕ)) (base count : ℕ) : Type 0 where
   pub rising : All IsStrictlyIncreasing lists
   pub each_once : IsPermutation (flat_map (λ list. list) lists) (range_with_len base count)
-
--- what a round did, by the audit before it and the seats after it
-pub record IsAfter (before : Audit) (scan : ScanSeat) (ends : EndSeat) (r : Round) : Type 0 where
-  pub base : r.base ≡ before.isolated
-  pub count : before.isolated + r.count ≡ scan.count
-  pub whole : ends.parts ≡ 64
-  pub settled : ends.moved + ends.back ≡ scan.count
-  pub moved : before.moved + r.moved ≡ ends.moved
-  pub back : before.back + r.back ≡ ends.back
-  pub sum : r.moved + r.back ≡ r.count
-  pub shared : AreShared (lists_of r) r.base r.count
-  pub stopped : scan.last ≡ Some (answer_at r.stopped)
 
 -- what a round did that was answered Ok, by the seats before and after it
 pub record IsRound (scan scan_new : ScanSeat) (ends ends_new : EndSeat) (r : Round) : Type 0 where

@@ -5,17 +5,21 @@ ghost use Rattle.zone_core.specs.Fingers.{IsSameInRound};
 ghost use Rattle.zone_core.specs.Outcome.{IsSame};
 ghost use Rattle.round_core.specs.Kept.{LockInvariant};
 ghost use Rattle.round_core.specs.Rounds.{IsRound, IsRefusedEarly, IsBroken, IsUnlimited, stop_by_hand};
+ghost use Rattle.round_core.specs.Scanning.{HasMore};
+ghost use Rattle.round_core.specs.Settling.{IsRoundRun};
 ghost use Rattle.state_core.specs.Packed.{IsPacked};
 ghost use Rattle.state_core.specs.Pairs.{is_calm};
 ghost use Rattle.state_core.specs.ZoneState.{is_quiet};
 ghost use Rattle.zone_core.specs.ZoneIdentity.{HasIdentity};
 
-use crate::compacting::compact;
+use crate::compacting::{Settlement, round_between, run_round};
 use crate::error::RoundError;
 use crate::gate::Gate;
 use crate::keeping::Keeping;
+use crate::plan::Plan;
 use crate::round::{Round, Stop};
 use crate::shared_zone::KeptIn;
+use frame_core::Serial;
 use std::alloc::Global;
 use std::marker::Brand;
 use std::sync::Wait;
@@ -57,47 +61,54 @@ pub fn compact_alone<Z: Opening + Send + Sync, G: Gate, R: Threads + Wait + Sync
     ensures round { IfOk result.1 (λ r. IsRound seats.old.scan seats.new.scan seats.old.ends seats.new.ends r) }
     ensures early { IsRefusedEarly seats.old.scan seats.new.scan seats.old.ends seats.new.ends result.1 }
 {
-    // The audits are for contracts: they say how many pages were isolated and how many moves have ended, before the round and after it.
-    let _ = zone.audit(&mut seats.scan, &mut seats.ends);
-    let (mut zone, round) = compact_shared::<Brand, Z, G, R>(
-        rt, alloc, zone, seats, copiers, cap, gate,
+    let Ok(before) = zone.audit(&mut seats.scan, &mut seats.ends) else {
+        return (zone, Err(RoundError::Broken));
+    };
+    let plan = Plan {
+        alloc,
+        copiers,
+        cap,
+        most: None,
+    };
+    let (mut zone, settled) = run_shared::<Brand, Z, G, R>(
+        rt,
+        zone,
+        seats,
+        before.isolated,
+        plan,
+        gate,
     );
-    let _ = zone.audit(&mut seats.scan, &mut seats.ends);
-    (zone, round)
+    let after = zone.audit(&mut seats.scan, &mut seats.ends);
+    (zone, round_between(&before, settled, after))
 }
 
-/// Runs the round over a zone with the number and the pageblocks that the type names.
-fn compact_shared<
+/// Runs a round over a zone with the number and the pageblocks that the type names, as `run_round` does.
+fn run_shared<
     K: Keeping + Send + Sync,
     Z: Opening + Send + Sync,
     G: Gate,
     R: Threads + Wait + Sync,
 >(
     rt: &R,
-    alloc: Global,
     zone: ZoneIn<Z>,
     seats: &mut SeatsIn<Z>,
-    copiers: usize,
-    cap: usize,
+    base: Serial,
+    plan: Plan,
     gate: &G,
-) -> (ZoneIn<Z>, Result<Round, RoundError>)
-    requires copiers { (0 < copiers) × (copiers ≤ 4) }
-    requires cap { (0 < cap) × (cap ≤ 64) }
+) -> (ZoneIn<Z>, Result<Settlement, RoundError>)
+    requires base { base ≡ seats.old.scan.count }
+    requires whole { seats.old.ends.parts ≡ 64 }
+    requires most { HasMore plan.most }
+    requires begins { K.begins_at seats.old.scan.count }
     requires identity { HasIdentity K.number K.blocks zone }
     requires keeps { K.keeps zone }
     requires told { K.told zone.records ≡ None }
-    requires begins { K.begins_at seats.old.scan.count }
     ensures keeps { K.keeps result.0 }
-    ensures stops { IfOk result.1 (λ r. K.stops_at seats.new.scan.count r.stopped) }
-    ensures unlimited { IsUnlimited result.1 }
-    ensures none_back { OnOk result.1 (K.unpinned → seats.new.ends.back ≡ seats.old.ends.back) }
-    ensures lists { IfOk result.1 (λ r. vec_len r.by_copier ≡ copiers) }
     ensures kept { LockInvariant result.0 }
     ensures identity { HasIdentity K.number K.blocks result.0 }
-    ensures round { IfOk result.1 (λ r. IsRound seats.old.scan seats.new.scan seats.old.ends seats.new.ends r) }
-    ensures early { IsRefusedEarly seats.old.scan seats.new.scan seats.old.ends seats.new.ends result.1 }
+    ensures ran { IsRoundRun K.stops_at K.unpinned plan.most plan.copiers seats.old.scan seats.new.scan seats.old.ends seats.new.ends result.1 }
 {
     let shared = KeptIn::<K, Z>::new(zone);
-    let round = compact(rt, alloc, &shared, seats, copiers, cap, gate);
-    (shared.into_zone(), round)
+    let settled = run_round(rt, &shared, seats, base, plan, gate);
+    (shared.into_zone(), settled)
 }

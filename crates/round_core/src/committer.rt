@@ -1,17 +1,16 @@
-ghost use Rattle.std.specs.Prelude.{◌≡◌, false, IfOk, IfErr};
+ghost use Rattle.std.specs.Prelude.{◌≡◌, false};
 ghost use Rattle.hand_core.specs.CopyEnds.{has_ended};
 
 use crate::gate::{COMMITTER, Gate, Point, tell_all};
 use crate::keeping::Keeping;
-use crate::memory::{CopierParts, Copies};
+use crate::memory::Copies;
 use crate::shared_zone::KeptIn;
-use crate::stack::stack;
 use crate::under_lock::commit_copies;
 use frame_core::Serial;
 use hand_core::Came;
 use std::marker::PhantomData;
 use std::sync::Wait;
-use std::thread::{Promise, PromisedHandle, Scope, Threads};
+use std::thread::{Promise, PromisedHandle};
 use zone_core::{EndSeatIn, Opening};
 
 /// What the committer hands back: its part of the end seat, the least serial that was refused, and whether it came to
@@ -31,7 +30,7 @@ enum Following {
 }
 
 /// Commits all copies that come, with one part of the end seat, as many at once as the list has room for.
-fn commit_all<K: Keeping, Z: Opening, G: Gate, R: Wait>(
+pub(crate) fn commit_all<K: Keeping, Z: Opening, G: Gate, R: Wait>(
     rt: &R,
     shared: &KeptIn<K, Z>,
     mut copies: Copies,
@@ -88,7 +87,7 @@ fn gather<R: Wait>(rt: &R, copies: &mut Copies) -> Following
 /// The committer hands back the one part of the end seat that it was given.
 #[derive(Drop)]
 pub(crate) struct HandsPartBack<K: Keeping> {
-    of: PhantomData<K>,
+    pub(crate) of: PhantomData<K>,
 }
 
 impl<K: Keeping, Z: Opening> Promise<Committed<Z>> for HandsPartBack<K> {
@@ -98,43 +97,3 @@ impl<K: Keeping, Z: Opening> Promise<Committed<Z>> for HandsPartBack<K> {
 }
 
 pub(crate) type Committer<K, Z> = PromisedHandle<Committed<Z>, HandsPartBack<K>>;
-
-/// Starts the committer. Where no thread can be started, the committer's body runs on this thread. The copiers' parts are dropped
-/// then, and the senders with them, so that the body ends at once.
-pub(crate) fn start_committer<
-    's,
-    'e,
-    K: Keeping + Send + Sync,
-    Z: Opening + Send + Sync,
-    G: Gate,
-    R: Threads + Wait + Sync,
->(
-    scope: &'s Scope<'s, &'e ()>,
-    rt: &'e R,
-    shared: &'e KeptIn<K, Z>,
-    copier_parts: CopierParts,
-    copies: Copies,
-    seat: EndSeatIn<Z>,
-    gate: &'e G,
-) -> Result<(CopierParts, Committer<K, Z>), EndSeatIn<Z>>
-    requires { (has_ended copies.taker ≡ false) × (seat.parts ≡ 1) × (seat.back ≡ 0) }
-    ensures copier_parts { IfOk result (λ started. started.0 ≡ copier_parts) }
-    ensures part { IfErr result (λ seat. seat.parts ≡ 1) }
-{
-    let started = stack().spawn_scoped_with(
-        scope,
-        HandsPartBack::<K> { of: PhantomData },
-        move || -> Committed<Z>
-            requires { (has_ended copies.taker ≡ false) × (seat.parts ≡ 1) × (seat.back ≡ 0) }
-            ensures { (result.seat.parts ≡ 1) × (K.unpinned → result.seat.back ≡ 0) }
-        { commit_all(rt, shared, copies, seat, gate) },
-    );
-    match started {
-        Ok(committer) => Ok((copier_parts, committer)),
-        Err(refused) => {
-            drop(copier_parts);
-            let Committed { seat, .. } = (refused.value)();
-            Err(seat)
-        }
-    }
-}

@@ -1,14 +1,16 @@
 ghost use Rattle.std.specs.Prelude.{◌≡◌, ◌≢◌, ◌+◌, ◌*◌, ◌<◌, ◌≤◌, ◌↔◌, true, map, None, Some, IsOk, IfOk, IfErr, OnOk, length, vec_len};
-ghost use Rattle.round_core.specs.Counts.{AreCounted};
-ghost use Rattle.round_core.specs.Rounds.{AreShared, IsRound, IsRefusedEarly, IsAfter, IsUnlimited, IsWant};
-ghost use Rattle.round_core.specs.Runs.{CanRun, AreJoined, HasRun, IsLentBack, IsRunOrNot};
-ghost use Rattle.round_core.specs.Scanning.{HasMore, IsAllowed, limit_at};
+ghost use Rattle.round_core.specs.Counts.{AreCounted, CountsNoLess};
+ghost use Rattle.round_core.specs.Rounds.{IsRound, IsRefusedEarly, IsUnlimited, IsWant};
+ghost use Rattle.round_core.specs.Runs.{CanRun, AreJoined, IsLentBack, IsRunOrNot};
+ghost use Rattle.round_core.specs.Scanning.{HasMore};
+ghost use Rattle.round_core.specs.Settling.{IsAnswered, IsRoundRun, IsSettled, answer_between};
 
-use crate::crew::{RoundRun, run};
+use crate::crew::{RoundRun, Site};
 use crate::error::RoundError;
 use crate::gate::Gate;
 use crate::keeping::Keeping;
 use crate::memory::{CopierResults, Memory, reserve};
+use crate::plan::Plan;
 use crate::round::{Round, Stop};
 use crate::shared_zone::KeptIn;
 use frame_core::Serial;
@@ -17,7 +19,7 @@ use std::alloc::Global;
 use std::sync::Wait;
 use std::thread;
 use std::thread::Threads;
-use zone_core::{Audit, Opening, SeatsIn};
+use zone_core::{Audit, Opening, SeatsIn, ZoneError};
 
 /// Moves what can be moved, with 1 to 4 copiers, over queues with room for `cap` pages and for `cap` copies, 1 to 64. Under one hold of
 /// the lock as many pages are isolated as a queue has room for, or as there are in a batch for each copier where that is more. A
@@ -53,7 +55,13 @@ pub fn compact<
     ensures round { IfOk result (λ r. IsRound seats.old.scan seats.new.scan seats.old.ends seats.new.ends r) }
     ensures early { IsRefusedEarly seats.old.scan seats.new.scan seats.old.ends seats.new.ends result }
 {
-    run_round(rt, alloc, shared, seats, copiers, cap, None, gate)
+    let plan = Plan {
+        alloc,
+        copiers,
+        cap,
+        most: None,
+    };
+    run_whole(rt, shared, seats, plan, gate)
 }
 
 /// Runs a round as `compact` does that isolates `most` pages at most. The list of a copier has room for so many serials, or for those of
@@ -87,58 +95,33 @@ pub fn compact_at_most<
     ensures round { IfOk result (λ r. IsRound seats.old.scan seats.new.scan seats.old.ends seats.new.ends r) }
     ensures early { IsRefusedEarly seats.old.scan seats.new.scan seats.old.ends seats.new.ends result }
 {
-    run_round(rt, alloc, shared, seats, copiers, cap, Some(most), gate)
+    let plan = Plan {
+        alloc,
+        copiers,
+        cap,
+        most: Some(most),
+    };
+    run_whole(rt, shared, seats, plan, gate)
 }
 
-/// Runs a round, with a limit if there is one.
-fn run_round<K: Keeping + Send + Sync, Z: Opening + Send + Sync, G: Gate, R: Threads + Wait + Sync>(
+/// Runs a round between two audits under the lock.
+fn run_whole<K: Keeping + Send + Sync, Z: Opening + Send + Sync, G: Gate, R: Threads + Wait + Sync>(
     rt: &R,
-    alloc: Global,
     shared: &KeptIn<K, Z>,
     seats: &mut SeatsIn<Z>,
-    copiers: usize,
-    cap: usize,
-    most: Option<u32>,
+    plan: Plan,
     gate: &G,
 ) -> Result<Round, RoundError>
-    requires copiers { (0 < copiers) × (copiers ≤ 4) }
-    requires cap { (0 < cap) × (cap ≤ 64) }
-    requires most { HasMore most }
+    requires most { HasMore plan.most }
     requires begins { K.begins_at seats.old.scan.count }
-    ensures stops { IfOk result (λ r. IsAllowed K.stops_at (limit_at seats.old.scan.count most) seats.new.scan.count r.stopped) }
-    ensures none_back { OnOk result (K.unpinned → seats.new.ends.back ≡ seats.old.ends.back) }
-    ensures lists { IfOk result (λ r. vec_len r.by_copier ≡ copiers) }
-    ensures round { IfOk result (λ r. IsRound seats.old.scan seats.new.scan seats.old.ends seats.new.ends r) }
-    ensures early { IsRefusedEarly seats.old.scan seats.new.scan seats.old.ends seats.new.ends result }
+    ensures { IsAnswered K.stops_at K.unpinned plan.most plan.copiers seats.old.scan seats.new.scan seats.old.ends seats.new.ends result }
 {
-    let before = audit(rt, shared, seats)?;
-    let all = 256 * shared.blocks();
-    let serials = most.unwrap_or(all).min(all) as usize;
-    let Ok(memory) = reserve(rt, alloc, before.isolated, copiers, serials, cap, most) else {
-        return Err(RoundError::Memory);
+    let Ok(before) = audit(rt, shared, seats) else {
+        return Err(RoundError::Broken);
     };
-    let Some(ran) = in_scope(rt, shared, seats, memory, gate) else {
-        return Err(not_started(rt, shared, seats));
-    };
-    wind_up(rt, shared, seats, &before, ran)
-}
-
-/// Why a round is refused whose threads couldn't all be started. The audit shows that no move has ended.
-fn not_started<K: Keeping, Z: Opening, R: Wait>(
-    rt: &R,
-    shared: &KeptIn<K, Z>,
-    seats: &mut SeatsIn<Z>,
-) -> RoundError
-    requires whole { seats.old.ends.parts ≡ 64 }
-    requires ended { seats.old.scan.count ≤ seats.old.ends.moved + seats.old.ends.back }
-    ensures error { result ≡ RoundError.NoWorker }
-    ensures settled { seats.old.ends.moved + seats.old.ends.back ≡ seats.old.scan.count }
-    ensures same { (seats.new.scan ≡ seats.old.scan) × (seats.new.ends ≡ seats.old.ends) }
-{
-    match audit(rt, shared, seats) {
-        Ok(_) => RoundError::NoWorker,
-        Err(error) => error,
-    }
+    let settled = run_round(rt, shared, seats, before.isolated, plan, gate);
+    let after = audit(rt, shared, seats);
+    round_between(&before, settled, after)
 }
 
 /// Audits the zone under the lock, with its seats.
@@ -146,17 +129,75 @@ fn audit<K: Keeping, Z: Opening, R: Wait>(
     rt: &R,
     shared: &KeptIn<K, Z>,
     seats: &mut SeatsIn<Z>,
-) -> Result<Audit, RoundError>
+) -> Result<Audit, ZoneError>
     ensures counts { IfOk result (AreCounted seats.old.scan seats.old.ends) }
     ensures whole { OnOk result (seats.old.ends.parts ≡ 64) }
     ensures exact { 64 ≤ seats.old.ends.parts → (IsOk result ↔ (seats.old.ends.moved + seats.old.ends.back ≡ seats.old.scan.count)) }
     ensures most { 64 ≤ seats.old.ends.parts → seats.old.ends.moved + seats.old.ends.back ≤ seats.old.scan.count }
-    ensures broken { IfErr result (λ error. error ≡ RoundError.Broken) }
     ensures same { (seats.new.scan ≡ seats.old.scan) × (seats.new.ends ≡ seats.old.ends) }
 {
     let mut room = shared.lock(rt);
-    let audit = room.zone.audit(&mut seats.scan, &mut seats.ends);
-    audit.or(Err(RoundError::Broken))
+    room.zone.audit(&mut seats.scan, &mut seats.ends)
+}
+
+/// What is known of a round after its hand-over was settled.
+#[derive(Drop)]
+pub(crate) struct Settlement {
+    base: Serial,
+    by_copier: Vec<Vec<Serial>>,
+    stopped: Stop,
+}
+
+/// The answer of a round, by what was settled and by the audits before and after it.
+pub(crate) fn round_between(
+    before: &Audit,
+    settled: Result<Settlement, RoundError>,
+    after: Result<Audit, ZoneError>,
+) -> Result<Round, RoundError>
+    requires { IfOk after (CountsNoLess before.now) }
+    ensures { result ≡ answer_between before.now settled after }
+{
+    let settled = settled?;
+    let after = after.or(Err(RoundError::Broken))?;
+    Ok(Round {
+        base: settled.base,
+        count: after.isolated - before.isolated,
+        moved: after.moved - before.moved,
+        back: after.back - before.back,
+        by_copier: settled.by_copier,
+        stopped: settled.stopped,
+    })
+}
+
+/// Runs a round whose first page has the serial `base`, and settles its hand-over.
+pub(crate) fn run_round<
+    K: Keeping + Send + Sync,
+    Z: Opening + Send + Sync,
+    G: Gate,
+    R: Threads + Wait + Sync,
+>(
+    rt: &R,
+    shared: &KeptIn<K, Z>,
+    seats: &mut SeatsIn<Z>,
+    base: Serial,
+    plan: Plan,
+    gate: &G,
+) -> Result<Settlement, RoundError>
+    requires base { base ≡ seats.old.scan.count }
+    requires whole { seats.old.ends.parts ≡ 64 }
+    requires most { HasMore plan.most }
+    requires begins { K.begins_at seats.old.scan.count }
+    ensures { IsRoundRun K.stops_at K.unpinned plan.most plan.copiers seats.old.scan seats.new.scan seats.old.ends seats.new.ends result }
+{
+    let all = 256 * shared.blocks();
+    let serials = plan.most.unwrap_or(all).min(all) as usize;
+    let Ok(memory) = reserve(rt, base, serials, plan) else {
+        return Err(RoundError::Memory);
+    };
+    let Some(ran) = in_scope(rt, shared, seats, memory, gate) else {
+        return Err(RoundError::NoWorker);
+    };
+    settle_round(ran)
 }
 
 /// Runs the threads of a round in a scope of their own. None where one of them can't be started.
@@ -178,7 +219,13 @@ fn in_scope<K: Keeping + Send + Sync, Z: Opening + Send + Sync, G: Gate, R: Thre
             requires { CanRun K.begins_at lent.now.scan lent.now.ends memory }
             ensures { IsLentBack lent.entry.ghost_name result.0.ghost_name × IsRunOrNot K.stops_at K.unpinned memory.pages.left (vec_len memory.copier_parts.takers) lent.entry.now.scan result.0.now.scan lent.entry.now.ends result.0.now.ends result.1 }
         {
-            let ran = run(scope, rt, shared, lent, memory, gate);
+            let site = Site {
+                scope,
+                rt,
+                shared,
+                gate,
+            };
+            let ran = site.run(lent, memory);
             (lent, ran)
         },
     );
@@ -186,49 +233,10 @@ fn in_scope<K: Keeping + Send + Sync, Z: Opening + Send + Sync, G: Gate, R: Thre
     ran
 }
 
-/// Settles the hand-over of a round that ran, and audits the zone.
-fn wind_up<K: Keeping, Z: Opening, R: Wait>(
-    rt: &R,
-    shared: &KeptIn<K, Z>,
-    seats: &mut SeatsIn<Z>,
-    before: &Audit,
-    ran: RoundRun,
-) -> Result<Round, RoundError>
-    requires ran { HasRun before.now.isolated seats.old.scan ran }
-    requires ends { (before.now.moved ≤ seats.old.ends.moved) × (before.now.back ≤ seats.old.ends.back) × (before.now.moved + before.now.back ≡ before.now.isolated) }
-    ensures round { IfOk result (λ r. IsAfter before.now seats.old.scan seats.old.ends r) }
-    ensures late { IfErr result (λ error. IsWant error → ⊥) }
-    ensures stop { IfOk result (λ r. ran.stop ≡ Some r.stopped) }
-    ensures lists { IfOk result (λ r. vec_len r.by_copier ≡ vec_len ran.joined.lists) }
-    ensures same { (seats.new.scan ≡ seats.old.scan) × (seats.new.ends ≡ seats.old.ends) }
-{
-    let settled = settle_round(ran)?;
-    let after = audit(rt, shared, seats)?;
-    Ok(Round {
-        base: settled.base,
-        count: after.isolated - before.isolated,
-        moved: after.moved - before.moved,
-        back: after.back - before.back,
-        by_copier: settled.by_copier,
-        stopped: settled.stopped,
-    })
-}
-
-/// What is known of a round after its hand-over was settled.
-#[derive(Drop)]
-struct Settlement {
-    base: Serial,
-    by_copier: Vec<Vec<Serial>>,
-    stopped: Stop,
-}
-
 /// Settles the hand-over of a round that ran.
 fn settle_round(ran: RoundRun) -> Result<Settlement, RoundError>
     requires { AreJoined ran.giver ran.joined }
-    ensures base { IfOk result (λ s. s.base ≡ ran.giver.base) }
-    ensures shared { IfOk result (λ s. AreShared (map (λ v. v.items) s.by_copier.items) s.base (length ran.giver.given)) }
-    ensures stopped { IfOk result (λ s. ran.stop ≡ Some s.stopped) }
-    ensures lists { IfOk result (λ s. vec_len s.by_copier ≡ vec_len ran.joined.lists) }
+    ensures settled { IfOk result (IsSettled ran) }
     ensures late { IfErr result (λ error. IsWant error → ⊥) }
 {
     let stopped = stop_of(&ran)?;

@@ -4,7 +4,7 @@ ghost use Rattle.hand_core.specs.CopyEnds.{has_ended};
 ghost use Rattle.round_core.specs.Runs.{IsFresh, IsUnstarted, IsEmpty, CanRun, AreJoined, IsRunOver, IsRunOrNot};
 ghost use Rattle.round_core.specs.Scanning.{HasMore};
 
-use crate::committer::{Committed, Committer, start_committer};
+use crate::committer::{Committed, Committer, HandsPartBack, commit_all};
 use crate::copier::{Carried, Copier, start_copier};
 use crate::gate::Gate;
 use crate::keeping::Keeping;
@@ -12,9 +12,11 @@ use crate::memory::{CopierParts, CopierResults, Copies, Memory, Pages};
 use crate::round::Stop;
 use crate::scanner::scan_all;
 use crate::shared_zone::KeptIn;
+use crate::stack::stack;
 use crate::under_lock::least;
 use frame_core::Serial;
 use hand_core::Giver;
+use std::marker::PhantomData;
 use std::sync::Wait;
 use std::thread::{Scope, Threads};
 use zone_core::{EndSeatIn, Opening, ScanSeatIn, Seats, SeatsIn};
@@ -108,50 +110,6 @@ fn join_early<K: Keeping, Z: Opening, R: Threads>(
     seat
 }
 
-/// Starts the committer and the copiers. Where one of them can't be started, those that run come to their ends, and the part of the
-/// end seat is handed back.
-fn start_crew<
-    's,
-    'e,
-    K: Keeping + Send + Sync,
-    Z: Opening + Send + Sync,
-    G: Gate,
-    R: Threads + Wait + Sync,
->(
-    scope: &'s Scope<'s, &'e ()>,
-    rt: &'e R,
-    shared: &'e KeptIn<K, Z>,
-    copier_parts: CopierParts,
-    copies: Copies,
-    part: EndSeatIn<Z>,
-    gate: &'e G,
-) -> Result<Crew<K, Z>, EndSeatIn<Z>>
-    requires copier_parts { IsUnstarted copier_parts }
-    requires committer { (has_ended copies.taker ≡ false) × (part.parts ≡ 1) × (part.back ≡ 0) }
-    ensures giver { IfOk result (λ crew. crew.giver ≡ copier_parts.giver) }
-    ensures copiers { IfOk result (λ crew. (vec_len crew.copiers ≡ vec_len copier_parts.takers) × All (λ c. c.promise.taker.value.hand_over ≡ copier_parts.giver.hand_over) crew.copiers.items) }
-    ensures part { IfErr result (λ part. part.parts ≡ 1) }
-{
-    let (mut copier_parts, committer) = start_committer(
-        scope,
-        rt,
-        shared,
-        copier_parts,
-        copies,
-        part,
-        gate,
-    )?;
-    if start_copiers(scope, rt, &mut copier_parts, gate).is_none() {
-        return Err(join_early(rt, copier_parts, committer));
-    }
-    let CopierParts { giver, copiers, .. } = copier_parts;
-    Ok(Crew {
-        giver,
-        copiers,
-        committer,
-    })
-}
-
 /// Runs a round with its scanner on this thread, and joins its crew.
 fn run_crew<K: Keeping, Z: Opening, G: Gate, R: Threads + Wait>(
     rt: &R,
@@ -199,40 +157,110 @@ fn run_crew<K: Keeping, Z: Opening, G: Gate, R: Threads + Wait>(
     }
 }
 
-/// Runs the threads of a round. None where one of them can't be started.
-pub(crate) fn run<
+/// The scope that the threads of a round run in, and what each of them uses.
+#[derive(Drop)]
+pub(crate) struct Site<'s, 'e, K: Keeping, Z: Opening, G: Gate, R> {
+    pub(crate) scope: &'s Scope<'s, &'e ()>,
+    pub(crate) rt: &'e R,
+    pub(crate) shared: &'e KeptIn<K, Z>,
+    pub(crate) gate: &'e G,
+}
+
+impl<
     's,
     'e,
     K: Keeping + Send + Sync,
     Z: Opening + Send + Sync,
     G: Gate,
     R: Threads + Wait + Sync,
->(
-    scope: &'s Scope<'s, &'e ()>,
-    rt: &'e R,
-    shared: &'e KeptIn<K, Z>,
-    seats: &mut SeatsIn<Z>,
-    memory: Memory,
-    gate: &'e G,
-) -> Option<RoundRun>
-    requires { CanRun K.begins_at seats.old.scan seats.old.ends memory }
-    ensures { IsRunOrNot K.stops_at K.unpinned memory.pages.left (vec_len memory.copier_parts.takers) seats.old.scan seats.new.scan seats.old.ends seats.new.ends result }
-{
-    let Memory {
-        copier_parts,
-        copies,
-        pages,
-        joined,
-    } = memory;
-    let Seats { scan, ends } = seats;
-    let Some(part) = ends.split() else {
-        unreachable!()
-    };
-    match start_crew(scope, rt, shared, copier_parts, copies, part, gate) {
-        Ok(crew) => Some(run_crew(rt, shared, scan, ends, crew, pages, joined, gate)),
-        Err(part) => {
-            ends.join(part);
-            None
+> Site<'s, 'e, K, Z, G, R> {
+    /// Runs the threads of a round. None where one of them can't be started.
+    pub(crate) fn run(&self, seats: &mut SeatsIn<Z>, memory: Memory) -> Option<RoundRun>
+        requires { CanRun K.begins_at seats.old.scan seats.old.ends memory }
+        ensures { IsRunOrNot K.stops_at K.unpinned memory.pages.left (vec_len memory.copier_parts.takers) seats.old.scan seats.new.scan seats.old.ends seats.new.ends result }
+    {
+        let Memory {
+            copier_parts,
+            copies,
+            pages,
+            joined,
+        } = memory;
+        let Seats { scan, ends } = seats;
+        let Some(part) = ends.split() else {
+            unreachable!()
+        };
+        match self.start_crew(copier_parts, copies, part) {
+            Ok(crew) => Some(run_crew(
+                self.rt,
+                self.shared,
+                scan,
+                ends,
+                crew,
+                pages,
+                joined,
+                self.gate,
+            )),
+            Err(part) => {
+                ends.join(part);
+                None
+            }
+        }
+    }
+
+    /// Starts the committer and the copiers. Where one of them can't be started, those that run come to their ends, and the part of the
+    /// end seat is handed back.
+    fn start_crew(
+        &self,
+        copier_parts: CopierParts,
+        copies: Copies,
+        part: EndSeatIn<Z>,
+    ) -> Result<Crew<K, Z>, EndSeatIn<Z>>
+        requires copier_parts { IsUnstarted copier_parts }
+        requires committer { (has_ended copies.taker ≡ false) × (part.parts ≡ 1) × (part.back ≡ 0) }
+        ensures giver { IfOk result (λ crew. crew.giver ≡ copier_parts.giver) }
+        ensures copiers { IfOk result (λ crew. (vec_len crew.copiers ≡ vec_len copier_parts.takers) × All (λ c. c.promise.taker.value.hand_over ≡ copier_parts.giver.hand_over) crew.copiers.items) }
+        ensures part { IfErr result (λ part. part.parts ≡ 1) }
+    {
+        let (mut copier_parts, committer) = self.start_committer(copier_parts, copies, part)?;
+        if start_copiers(self.scope, self.rt, &mut copier_parts, self.gate).is_none() {
+            return Err(join_early(self.rt, copier_parts, committer));
+        }
+        let CopierParts { giver, copiers, .. } = copier_parts;
+        Ok(Crew {
+            giver,
+            copiers,
+            committer,
+        })
+    }
+
+    /// Starts the committer. Where no thread can be started, the committer's body runs on this thread. The copiers' parts are dropped
+    /// then, and the senders with them, so that the body ends at once.
+    fn start_committer(
+        &self,
+        copier_parts: CopierParts,
+        copies: Copies,
+        seat: EndSeatIn<Z>,
+    ) -> Result<(CopierParts, Committer<K, Z>), EndSeatIn<Z>>
+        requires { (has_ended copies.taker ≡ false) × (seat.parts ≡ 1) × (seat.back ≡ 0) }
+        ensures copier_parts { IfOk result (λ started. started.0 ≡ copier_parts) }
+        ensures part { IfErr result (λ seat. seat.parts ≡ 1) }
+    {
+        let (rt, shared, gate) = (self.rt, self.shared, self.gate);
+        let started = stack().spawn_scoped_with(
+            self.scope,
+            HandsPartBack::<K> { of: PhantomData },
+            move || -> Committed<Z>
+                requires { (has_ended copies.taker ≡ false) × (seat.parts ≡ 1) × (seat.back ≡ 0) }
+                ensures { (result.seat.parts ≡ 1) × (K.unpinned → result.seat.back ≡ 0) }
+            { commit_all(rt, shared, copies, seat, gate) },
+        );
+        match started {
+            Ok(committer) => Ok((copier_parts, committer)),
+            Err(refused) => {
+                drop(copier_parts);
+                let Committed { seat, .. } = (refused.value)();
+                Err(seat)
+            }
         }
     }
 }

@@ -15,6 +15,7 @@ mod gate;
 mod identity;
 mod keeping;
 mod memory;
+mod plan;
 mod round;
 mod scanner;
 mod shared_zone;

@@ -8,6 +8,7 @@ ghost use Rattle.round_core.specs.Scanning.{HasMore};
 
 use crate::copier::Copier;
 use crate::division::Division;
+use crate::plan::Plan;
 use frame_core::{Copied, Isolated, Serial};
 use hand_core::{
     DoneSender, DoneTaker, Giver, HandError, Taker, Takers, done_open_in_batches, open_in_batches,
@@ -62,25 +63,25 @@ pub(crate) struct CopierResults {
     pub(crate) whole: bool,
 }
 
-/// Takes the memory of a round whose first page has the serial `base`: `cap` pages and copies in the queues, and `serials`
-/// serials in the list of each copier. The round may isolate `most` pages, or as many as move.
+/// Takes the memory of a round whose first page has the serial `base`, with room for `serials` serials in the list of each copier.
 pub(crate) fn reserve<R>(
     rt: &R,
-    alloc: Global,
     base: Serial,
-    copiers: usize,
     serials: usize,
-    cap: usize,
-    most: Option<u32>,
+    plan: Plan,
 ) -> Result<Memory, AllocError>
-    requires copiers { (0 < copiers) × (copiers ≤ 4) }
-    requires cap { (0 < cap) × (cap ≤ 64) }
-    requires most { HasMore most }
+    requires { HasMore plan.most }
     ensures ready { IfOk result (IsReady base) }
-    ensures most { IfOk result (λ memory. memory.pages.left ≡ most) }
-    ensures copiers { IfOk result (λ memory. vec_len memory.copier_parts.takers ≡ copiers) }
-    ensures room { IfOk result (HasRoom copiers cap serials) }
+    ensures most { IfOk result (λ memory. memory.pages.left ≡ plan.most) }
+    ensures copiers { IfOk result (λ memory. vec_len memory.copier_parts.takers ≡ plan.copiers) }
+    ensures room { IfOk result (HasRoom plan.copiers plan.cap serials) }
 {
+    let Plan {
+        alloc,
+        copiers,
+        cap,
+        most,
+    } = plan;
     let division = Division::new(copiers, cap);
     let hold = division.pages_a_hold();
     let list = VecDeque::with_capacity(alloc, hold)?;

@@ -8,12 +8,12 @@ use Rattle.round_core.proofs.QuietAlone.{quiet_begins, quiet_scans, quiet_commit
 use Rattle.round_core.proofs.alone.compact_alone.Given as goal
 
 -- the zone that is shared
-abbrev pub ghosts-compact_shared-K-ZoneIdentity : goal.ghosts-compact_shared-K-ZoneIdentity
-ghosts-compact_shared-K-ZoneIdentity g a = record { number = a.zone.number; blocks = a.zone.blocks }
+abbrev pub ghosts-run_shared-K-ZoneIdentity : goal.ghosts-run_shared-K-ZoneIdentity
+ghosts-run_shared-K-ZoneIdentity g a = record { number = a.zone.number; blocks = a.zone.blocks }
 
 -- and what its lock keeps, since nobody else has it: what the round comes to
-abbrev pub ghosts-compact_shared-K-Keeping : goal.ghosts-compact_shared-K-Keeping
-ghosts-compact_shared-K-Keeping g a = record {
+abbrev pub ghosts-run_shared-K-Keeping : goal.ghosts-run_shared-K-Keeping
+ghosts-run_shared-K-Keeping g a = record {
   keeps = λ z. KeepsAlone a.zone z × QuietAlone a.zone z;
   keeps_scanning = λ z. KeepsScanning a.zone z × QuietAlone a.zone z;
   begins_at = λ n. n ≡ isolated a.zone.records;
