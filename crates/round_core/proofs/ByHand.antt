@@ -122,6 +122,10 @@ module _ (start z : ZoneState) (scan scan_new : ScanSeat) (ends ends_new : EndSe
 
 -- the clauses
 
+pub if_ok : {P Q : Round → Type 0} → ((r : Round) → P r → Q r) → (result : Result Round RoundError) → IfOk result P → IfOk result Q
+if_ok says (Ok r) is = says r is
+if_ok says (Err error) is = tt
+
 met_for : (refusal : Option ZoneError) → stop_for refusal ≡ stop.Met → refusal ≡ None
 met_for None e = refl
 met_for (Some error) e = cc
@@ -131,29 +135,8 @@ module _ (start z : ZoneState) where
   if_same (Ok r) is = is.same
   if_same (Err error) is = tt
 
-  pub if_fingers : (result : Result Round RoundError) → IfOk result (IsByHand start z) → IfOk result (λ r. 0 < r.count → IsSameInRound (by_hand start) z)
-  if_fingers (Ok r) is = is.fingers
-  if_fingers (Err error) is = tt
-
-  pub if_quiet : (result : Result Round RoundError) → IfOk result (IsByHand start z) → IfOk result (λ r. 0 < r.count → is_quiet z ≡ is_calm start)
-  if_quiet (Ok r) is = is.quiet
-  if_quiet (Err error) is = tt
-
-  pub if_counted : (result : Result Round RoundError) → IfOk result (IsByHand start z) → IfOk result (λ r. isolated start.records + r.count ≡ isolated (by_hand start).records)
-  if_counted (Ok r) is = is.count
-  if_counted (Err error) is = tt
-
-  pub if_none_back : (result : Result Round RoundError) → IfOk result (IsByHand start z) → IfOk result (λ r. r.back ≡ 0)
-  if_none_back (Ok r) is = is.none_back
-  if_none_back (Err error) is = tt
-
-  pub if_stopped : (result : Result Round RoundError) → IfOk result (IsByHand start z) → IfOk result (λ r. r.stopped ≡ stop_by_hand start)
-  if_stopped (Ok r) is = is.stopped
-  if_stopped (Err error) is = tt
-
   pub if_packed : IsValidZone start → (result : Result Round RoundError) → IfOk result (IsByHand start z) → IfOk result (λ r. r.stopped ≡ stop.Met → is_calm start ≡ true → IsPacked z)
-  if_packed law (Ok r) is = λ met calm. packed_exact start z law calm (met_for (isolate_refusal (all_isolated start)) (sym is.stopped ∙ met)) is.same
-  if_packed law (Err error) is = tt
+  if_packed law = if_ok (λ r is met calm. packed_exact start z law calm (met_for (isolate_refusal (all_isolated start)) (sym is.stopped ∙ met)) is.same)
 
 -- what is known of a zone and its seats is known of the same
 pub known_on : (P : ZoneState → ScanSeat → EndSeat → Type 0) (z z_new : ZoneState) (scan scan_new : ScanSeat) (ends ends_new : EndSeat) → z_new ≡ z → scan_new ≡ scan → ends_new ≡ ends → P z scan ends → P z_new scan_new ends_new

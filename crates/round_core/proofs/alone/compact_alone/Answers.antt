@@ -7,7 +7,7 @@ use Rattle.round_core.specs.Alone.{StopsAlone, QuietAlone}
 use Rattle.round_core.specs.Counts.{CountsOn}
 use Rattle.round_core.specs.Settling.{IsRoundRun, answer_between}
 use Rattle.round_core.proofs.Settling.{counted_by, if_counted_by, no_less}
-use Rattle.round_core.proofs.ByHand.{IsRoundByHand, comes_by_hand, if_same, if_fingers, if_quiet, if_counted, if_none_back, if_stopped, if_packed, known_on}
+use Rattle.round_core.proofs.ByHand.{IsRoundByHand, comes_by_hand, if_ok, if_same, if_packed, known_on}
 use Rattle.round_core.proofs.alone.compact_alone.Goals as goal
 use Rattle.round_core.proofs.alone.compact_alone.Given.{Over}
 use Rattle.round_core.proofs.alone.compact_alone.Goals.{After-round_between}
@@ -52,19 +52,19 @@ pub returns-clause-exact : goal.returns-clause-exact
 returns-clause-exact g c = if_same c.args.zone c.audit-after.new.self c.round_between.result (by_hand g c).by_hand
 
 pub returns-clause-fingers : goal.returns-clause-fingers
-returns-clause-fingers g c = if_fingers c.args.zone c.audit-after.new.self c.round_between.result (by_hand g c).by_hand
+returns-clause-fingers g c = if_ok (λ r is. is.fingers) c.round_between.result (by_hand g c).by_hand
 
 pub returns-clause-quiet : goal.returns-clause-quiet
-returns-clause-quiet g c = if_quiet c.args.zone c.audit-after.new.self c.round_between.result (by_hand g c).by_hand
+returns-clause-quiet g c = if_ok (λ r is. is.quiet) c.round_between.result (by_hand g c).by_hand
 
 pub returns-clause-count : goal.returns-clause-count
-returns-clause-count g c = if_counted c.args.zone c.audit-after.new.self c.round_between.result (by_hand g c).by_hand
+returns-clause-count g c = if_ok (λ r is. is.count) c.round_between.result (by_hand g c).by_hand
 
 pub returns-clause-none_back : goal.returns-clause-none_back
-returns-clause-none_back g c = if_none_back c.args.zone c.audit-after.new.self c.round_between.result (by_hand g c).by_hand
+returns-clause-none_back g c = if_ok (λ r is. is.none_back) c.round_between.result (by_hand g c).by_hand
 
 pub returns-clause-stopped : goal.returns-clause-stopped
-returns-clause-stopped g c = if_stopped c.args.zone c.audit-after.new.self c.round_between.result (by_hand g c).by_hand
+returns-clause-stopped g c = if_ok (λ r is. is.stopped) c.round_between.result (by_hand g c).by_hand
 
 pub returns-clause-unlimited : goal.returns-clause-unlimited
 returns-clause-unlimited g c = (by_hand g c).unlimited
