@@ -1,5 +1,5 @@
 -- What was settled of a round between its audits, and the round that is answered.
-use Rattle.std.proofs.Common.{◌≡◌, ◌+◌, ◌-◌, ◌<◌, ◌≤◌, ◌∙◌, ◌⊎◌, ⊎_elim, inl, inr, ℕ, ap, sym, subst, refl, arith, Option, Some, IfSome, OnSome, map, length, vec_len}
+use Rattle.std.proofs.Common.{◌≡◌, ◌+◌, ◌-◌, ◌≤◌, ◌∙◌, ◌⊎◌, ⊎_elim, inl, inr, ℕ, ap, sym, subst, refl, arith, Option, Some, IfSome, OnSome, map, length}
 use Rattle.std.specs.Prelude.{Result, Ok, Err, IfOk, IfErr}
 use Rattle.state_core.specs.declared.error.ZoneError.{ZoneError}
 use Rattle.state_core.specs.declared.information.Audit.{Audit}

@@ -1,4 +1,4 @@
-ghost use Rattle.std.specs.Prelude.{◌≡◌, ◌≢◌, ◌+◌, ◌*◌, ◌<◌, ◌≤◌, ◌↔◌, true, map, None, Some, IsOk, IfOk, IfErr, OnOk, length, vec_len};
+ghost use Rattle.std.specs.Prelude.{◌≡◌, ◌≢◌, ◌+◌, ◌*◌, ◌<◌, ◌≤◌, ◌↔◌, true, None, Some, IsOk, IfOk, IfErr, OnOk, vec_len};
 ghost use Rattle.round_core.specs.Counts.{AreCounted, CountsNoLess};
 ghost use Rattle.round_core.specs.Rounds.{IsRound, IsRefusedEarly, IsUnlimited, IsWant};
 ghost use Rattle.round_core.specs.Runs.{CanRun, AreJoined, IsLentBack, IsRunOrNot};

@@ -1,6 +1,6 @@
 //! The memory of a round, which is taken before it begins.
 
-ghost use Rattle.std.specs.Prelude.{◌≡◌, ◌/◌, ◌<◌, ◌≤◌, [], false, All, IfOk, vec_len, vec_capacity};
+ghost use Rattle.std.specs.Prelude.{◌≡◌, ◌/◌, ◌<◌, [], false, All, IfOk, vec_len, vec_capacity};
 ghost use Rattle.hand_core.specs.CopyEnds.{has_ended};
 ghost use Rattle.round_core.specs.Crews.{IsUnused, IsUnsent};
 ghost use Rattle.round_core.specs.Runs.{IsFresh, IsEmpty, IsReady, HasRoom};

@@ -1,8 +1,7 @@
-use Rattle.std.proofs.Common.{◌≡◌, ◌∙◌, sym, subst, ap, None}
+use Rattle.std.proofs.Common.{◌∙◌, sym, subst, ap, None}
 use Rattle.state_core.specs.Valid.{IsValidZone}
-use Rattle.state_core.specs.ZoneState.{ZoneState}
 use Rattle.zone_core.specs.Alone.{IsAtRest, KeepsAlone}
-use Rattle.zone_core.specs.Seats.{ScanSeat, EndSeat}
+use Rattle.zone_core.specs.Seats.{EndSeat}
 use Rattle.round_core.specs.Alone.{StopsAlone, QuietAlone}
 use Rattle.round_core.specs.Counts.{CountsOn}
 use Rattle.round_core.specs.Settling.{IsRoundRun, answer_between}
