@@ -18,7 +18,7 @@ use std::marker::Brand;
 use std::snapshot::Snapshot;
 use std::sync::Wait;
 use std::thread;
-use std::thread::{Promise, PromisedHandle, Scope, Threads};
+use std::thread::{Promise, Scope, Threads};
 use text_core::{Answer, ClientLine, Reply};
 use zone_core::{ClientCall, Opening, SeatsIn, ZoneIn};
 
@@ -171,7 +171,20 @@ fn in_scope<
     both
 }
 
-/// Runs a round on this thread and those that it starts, and the client on one more thread.
+/// A client hands back its answers and its receipts.
+#[derive(Drop)]
+struct Plays<J: Telling> {
+    turn: Snapshot<ClientTurn<J>>,
+}
+
+impl<J: Telling> Promise<ClientTurn<J>> for Plays<J> {
+    ghost use Rattle.script_core.specs.Clients.{AreClientAnswers};
+
+    ghost kept_by = { λ p r. AreClientAnswers p.turn.value.client p.turn.value.lines.items r.answers.items r.client };
+}
+
+/// Runs a round on this thread and those that it starts, and the client on one more thread. Where that can't be started, the turn is
+/// dropped, and no call was made.
 fn run_both<
     's,
     'e,
@@ -192,7 +205,17 @@ fn run_both<
     requires plays { MayPlay K.allows J.pair turn }
     ensures ran { RunsBeside turn seats.old seats.new result }
 {
-    let player = start_client(scope, rt, shared, turn)?;
+    let promise = Plays {
+        turn: Snapshot::of(&turn),
+    };
+    let started = scope.spawn_with(
+        promise,
+        move || -> ClientTurn<J>
+            requires plays { MayPlay K.allows J.pair turn }
+            ensures { AreClientAnswers turn.client turn.lines.items result.answers.items result.client }
+        { play_lines(rt, shared, turn) },
+    );
+    let player = started.ok()?;
     let round = compact(
         rt,
         alloc,
@@ -212,48 +235,6 @@ fn run_both<
         answers,
         round,
     })
-}
-
-/// A client hands back its answers and its receipts.
-#[derive(Drop)]
-struct Plays<J: Telling> {
-    turn: Snapshot<ClientTurn<J>>,
-}
-
-impl<J: Telling> Promise<ClientTurn<J>> for Plays<J> {
-    ghost use Rattle.script_core.specs.Clients.{AreClientAnswers};
-
-    ghost kept_by = { λ p r. AreClientAnswers p.turn.value.client p.turn.value.lines.items r.answers.items r.client };
-}
-
-/// Starts a client. Where no thread can be started, its turn is dropped, and it has made no call.
-fn start_client<
-    's,
-    'e,
-    K: Keeping + Send + Sync,
-    J: Telling + Send + 's,
-    Z: Opening + Send + Sync,
-    R: Threads + Wait + Sync,
->(
-    scope: &'s Scope<'s, &'e ()>,
-    rt: &'e R,
-    shared: &'e KeptIn<K, Z>,
-    turn: ClientTurn<J>,
-) -> Option<PromisedHandle<ClientTurn<J>, Plays<J>>>
-    requires plays { MayPlay K.allows J.pair turn }
-    ensures { IfSome result (λ player. player.promise.turn.value ≡ turn) }
-{
-    let promise = Plays {
-        turn: Snapshot::of(&turn),
-    };
-    let started = scope.spawn_with(
-        promise,
-        move || -> ClientTurn<J>
-            requires plays { MayPlay K.allows J.pair turn }
-            ensures { AreClientAnswers turn.client turn.lines.items result.answers.items result.client }
-        { play_lines(rt, shared, turn) },
-    );
-    started.ok()
 }
 
 /// Makes the calls of a client's lines, one after the other.
