@@ -11,16 +11,17 @@ mod sheet;
 mod sign;
 mod view;
 
-use process::program;
+use process::{program, read_words};
 use script_core::Source;
 use std::process::ExitCode;
 use std::{env, io};
 
 fn main(rt: HostRuntime) -> ExitCode {
+    let asked = read_words(env::args(&rt));
     ExitCode::from(program(
         &rt,
         rt.alloc(),
-        env::args(&rt),
+        asked,
         &mut Source::new(rt.reader()),
         &mut io::writer(&rt),
         &mut rt.stderr(),

@@ -37,18 +37,18 @@ const OPTIONS: Options = Options {
 };
 
 /// What the words of the command line ask for.
-enum Asked {
+pub enum Asked {
     Picture,
     Help,
     Unknown,
 }
 
-/// Draws the script that the reader gives. The result is the exit status: 0 where the picture or the help was written, 2 where the words
+/// Draws the script that the reader gives, if that is asked for. The result is the exit status: 0 where the picture or the help was written, 2 where the words
 /// were refused, and else 1. Why there is no picture is told to the writer of faults.
 pub fn program<R: Input, W: Write, F: Write, H: Threads + Wait + Sync>(
     rt: &H,
     alloc: Global,
-    words: io::Result<Args>,
+    asked: Asked,
     reader: &mut R,
     writer: &mut W,
     faults: &mut F,
@@ -58,7 +58,7 @@ pub fn program<R: Input, W: Write, F: Write, H: Threads + Wait + Sync>(
     ensures quiet { result ≢ 0 → IfSome (R.remaining reader.old) (λ input.
         fault_of input ≢ None → Keeps (W.contents writer.old) (W.contents writer.new)) }
 {
-    match read_words(words) {
+    match asked {
         Asked::Picture => picture(rt, alloc, reader, writer, faults),
         Asked::Help => {
             let _ = writer.write_all(HELP.as_bytes());
@@ -72,7 +72,7 @@ pub fn program<R: Input, W: Write, F: Write, H: Threads + Wait + Sync>(
 }
 
 /// What the words ask for, the first of which is the program's name.
-fn read_words(words: io::Result<Args>) -> Asked {
+pub fn read_words(words: io::Result<Args>) -> Asked {
     let Ok(words) = words else {
         return Asked::Unknown;
     };
