@@ -1,14 +1,16 @@
 -- What the run of one machine says, in terms of another machine that gives the same replies to such scripts.
-use Rattle.std.proofs.Common.{◌≡◌, ◌⊎◌, ℕ, List, [], ◌∷◌, ◌++◌, refl, sym, subst, inl, inr, Option, Some, None}
+use Rattle.std.proofs.Common.{◌≡◌, ◌⊎◌, ℕ, List, [], ◌∷◌, ◌++◌, refl, sym, subst, inl, inr, Option, Some, None, Result}
 use Rattle.std.specs.List.{AllByRecursion}
 use Rattle.std.specs.Io.KnownBytes.{Consumes}
+use Rattle.text_core.specs.declared.command.Command.{Command}
 use Rattle.text_core.specs.declared.fault.Fault.{Fault}
 use Rattle.text_core.specs.declared.fault.Fault.TheVariants.{Syntax, LongLine, Read, Write, Memory}
 use Rattle.text_core.specs.declared.fault.RunError.{RunError}
 use Rattle.text_core.specs.declared.totals.Totals.{Totals}
-use Rattle.text_core.specs.Runs.{Asking, Begins, IsAnswered, IsAsking, IsEnded, IsTotal, Replied, Rule}
+use Rattle.text_core.specs.Runs.{Asking, Begins, IsAnswered, IsAsking, IsEnded, IsPlayed, IsTotal, Replied, Rule}
 use Rattle.text_core.specs.Script.{Answer, IsBeginning, Numbered, commands_of}
 use Rattle.text_core.proofs.Beginnings.{all_before, all_of_beginning}
+use Rattle.text_core.proofs.Carried.{ends_carried, totals_carried}
 
 -- the other machine gives the same answers, and is afterwards as it should be beside the first
 pub record Goes {S T : Type 0} (to : Rule T) (R : S → T → Type 0) (b : T) (c : Numbered) (answers : List Answer) (after : S) : Type 0 where
@@ -104,3 +106,13 @@ module _ {S T : Type 0} (may : Rule S) (asks : Asking S) (start : S) (to : Rule 
         asking = asking_as input h.before h.begins.after (first_as h.before before h.begins).beside e.line all (first_as h.before before h.begins).related h.asking;
         written = h.written;
       }
+
+-- and of the machine that its own machine stands for
+pub played_carried : {S T : Type 0} (may : Rule S) (rule : Rule T) (seen : S → T) (steps : (old : S) (c : Numbered) (answers : List Answer) (new : S) → may old c answers new → rule (seen old) c answers (seen new))
+    (asks : Asking S) (asks_by : Asking T) (asking : (old : S) (c : Command) → asks old c → asks_by (seen old) c) (start : S) (first : T) (is : seen start ≡ first)
+    (left left_new old new : Option (List ℕ)) (r : Result Totals RunError) → IsPlayed may asks start left left_new old new r → IsPlayed rule asks_by first left left_new old new r
+played_carried may rule seen steps asks asks_by asking start first is left left_new old new r played = record {
+  ok = played.ok;
+  answered = totals_carried may rule seen steps asks asks_by asking start first is left left_new old new r played.answered;
+  err = ends_carried may rule seen steps asks asks_by asking start first is left left_new old new r played.err;
+}

@@ -1,10 +1,8 @@
 -- What the run of a machine with threads says of a script without rounds, pools and blocks, as a run on one thread says it, and of a script
 -- without blocks, as a run by hand says it.
-use Rattle.std.proofs.Common.{◌≡◌, ℕ, ◌<◌, ◌≤◌, List, refl, sym, subst, inl, inr, Option, Some, None}
-use Rattle.std.specs.Prelude.{IfErr, IfOk, IfSome, OnOk, Result}
+use Rattle.std.proofs.Common.{◌≡◌, ℕ, ◌<◌, ◌≤◌, List, refl, sym, subst, inl, inr, Option, Some, None, Result, Ok, Err}
+use Rattle.std.specs.Prelude.{IfSome}
 use Rattle.std.specs.List.{AllByRecursion}
-use Rattle.std.specs.Io.KnownBytes.{Appends}
-use Rattle.std.proofs.lemmas.Result.{MatchResult-weaker}
 use Rattle.text_core.specs.declared.command.Command.{Command}
 use Rattle.text_core.specs.declared.command.Command.TheVariants.{Compact, Pool, During}
 use Rattle.machine_core.specs.World.{WorldState}
@@ -13,12 +11,12 @@ use Rattle.text_core.specs.declared.reply.Reply.{Reply}
 use Rattle.text_core.specs.declared.fault.Fault.{Fault}
 use Rattle.text_core.specs.declared.fault.RunError.{RunError}
 use Rattle.text_core.specs.declared.totals.Totals.{Totals}
-use Rattle.machine_core.specs.Ends.{EndsIn}
-use Rattle.text_core.specs.Runs.{IsAnswered, IsEnded, IsTotal}
-use Rattle.text_core.specs.Script.{Answer, Numbered, by, commands_of, parts_of}
-use Rattle.machine_core.specs.Replies.{output_of, totals_of}
+use Rattle.text_core.specs.Runs.{IsAnswered, IsEnded, IsPlayed, IsTotal}
+use Rattle.text_core.specs.Script.{Answer, Numbered, by, commands_of, fault_of, parts_of}
+use Rattle.machine_core.specs.Replies.{totals_of}
 use Rattle.machine_core.specs.OneThread.{IsSingleStep, OneThread, IsStep, Opens, single_at_first}
 use Rattle.script_core.specs.WithThreads.{AsksMemory, IsBlockFor, IsUnthreaded, IsStepAt, IsThreadedStep, IsUnthreadedScript, WithThreads, threaded_at_first}
+use Rattle.script_core.specs.Runs.{IsAnsweredWhole, IsEndedEarly, IsRunOnThreads}
 use Rattle.script_core.specs.ByHand.{IsAloneScript, IsByHandStep, OpensByHand, To}
 use Rattle.script_core.proofs.Following.{Follows, IsFollowable, all_followable, asks_follows, first_follows, step_follows}
 use Rattle.script_core.proofs.RunsAs.{Goes, answered_as, ends_as, total_as}
@@ -99,40 +97,32 @@ module _ (places : ℕ) where
         ends_as IsThreadedStep AsksMemory (threaded_at_first places) (IsByHandStep places) OpensByHand (To None) IsFollowable (Follows places) (first_follows places) (step_follows places range) (asks_follows places)
         f input e left left_new old new known (ranged input alone)
 
--- a run of a machine with threads
-module _ (places : ℕ) (left left_new old new : Option (List ℕ)) where
-  pub totals_alone : (r : Result Totals RunError) → IfOk r (λ totals. IfSome left (λ input. IsTotal IsThreadedStep (threaded_at_first places) input old new totals))
-      → IfOk r (λ totals. IfSome left (λ input. IsUnthreadedScript input → totals ≡ totals_of places input))
-  totals_alone r h = MatchResult-weaker r h (λ totals said. known_weaker left (λ input. IsTotal IsThreadedStep (threaded_at_first places) input old new totals) (λ input. IsUnthreadedScript input → totals ≡ totals_of places input)
-      (λ input known total none. single_totals places input old new totals (alone_total places input old new totals none total)) said) (λ _ u. u)
-
-  pub answered_of_total : (r : Result Totals RunError) → IfOk r (λ totals. IfSome left (λ input. IsTotal IsThreadedStep (threaded_at_first places) input old new totals))
-      → OnOk r (IfSome left (λ input. IsAnswered IsThreadedStep (threaded_at_first places) input old new))
-  answered_of_total r h = MatchResult-weaker r h (λ totals said. known_weaker left (λ input. IsTotal IsThreadedStep (threaded_at_first places) input old new totals) (λ input. IsAnswered IsThreadedStep (threaded_at_first places) input old new)
-      (λ input known total. total.answered) said) (λ _ u. u)
-
-  pub written_alone : (r : Result Totals RunError) → IfOk r (λ totals. IfSome left (λ input. IsTotal IsThreadedStep (threaded_at_first places) input old new totals))
-      → OnOk r (IfSome left (λ input. IsUnthreadedScript input → Appends old new (output_of places input)))
-  written_alone r h = MatchResult-weaker r h (λ totals said. known_weaker left (λ input. IsTotal IsThreadedStep (threaded_at_first places) input old new totals) (λ input. IsUnthreadedScript input → Appends old new (output_of places input))
-      (λ input known total none. single_output places input old new (alone_answered places input old new none total.answered)) said) (λ _ u. u)
-
-  pub ended_alone : (r : Result Totals RunError) → IfErr r (λ e. IfSome left (λ input. IsEnded IsThreadedStep AsksMemory (threaded_at_first places) e.fault input e left left_new old new))
-      → IfErr r (λ e. IfSome left (λ input. IsUnthreadedScript input → EndsIn e.fault places input e left left_new old new))
-  ended_alone r h = MatchResult-weaker r h (λ _ u. u) (λ e said. known_weaker left
-      (λ input. IsEnded IsThreadedStep AsksMemory (threaded_at_first places) e.fault input e left left_new old new)
-      (λ input. IsUnthreadedScript input → EndsIn e.fault places input e left left_new old new)
-      (λ input known end none. single_ends places e.fault input e left left_new old new (alone_ends places e.fault input e left left_new old new known none end)) said)
-
-  module _ (range : (0 < places) × (places ≤ 65536)) where
-    pub written_by_hand : (r : Result Totals RunError) → IfOk r (λ totals. IfSome left (λ input. IsTotal IsThreadedStep (threaded_at_first places) input old new totals))
-        → OnOk r (IfSome left (λ input. IsAloneScript input → IsAnswered (IsByHandStep places) (To None) input old new))
-    written_by_hand r h = MatchResult-weaker r h (λ totals said. known_weaker left (λ input. IsTotal IsThreadedStep (threaded_at_first places) input old new totals)
-        (λ input. IsAloneScript input → IsAnswered (IsByHandStep places) (To None) input old new)
-        (λ input known total alone. answered_by_hand places range input old new alone total.answered) said) (λ _ u. u)
-
-    pub ended_by_hand : (r : Result Totals RunError) → IfErr r (λ e. IfSome left (λ input. IsEnded IsThreadedStep AsksMemory (threaded_at_first places) e.fault input e left left_new old new))
-        → IfErr r (λ e. IfSome left (λ input. IsAloneScript input → IsEnded (IsByHandStep places) OpensByHand (To None) e.fault input e left left_new old new))
-    ended_by_hand r h = MatchResult-weaker r h (λ _ u. u) (λ e said. known_weaker left
-        (λ input. IsEnded IsThreadedStep AsksMemory (threaded_at_first places) e.fault input e left left_new old new)
-        (λ input. IsAloneScript input → IsEnded (IsByHandStep places) OpensByHand (To None) e.fault input e left left_new old new)
-        (λ input known end alone. ends_by_hand places range e.fault input e left left_new old new known alone end) said)
+-- a run on threads, by the replies that its machine may give
+module _ (places : ℕ) (range : (0 < places) × (places ≤ 65536)) (left left_new old new : Option (List ℕ)) where
+  pub threaded_run : (r : Result Totals RunError) → IsPlayed IsThreadedStep AsksMemory (threaded_at_first places) left left_new old new r → IsRunOnThreads places left left_new old new r
+  threaded_run (Ok totals) played =
+      let T : List ℕ → Type 0 = λ input. IsTotal IsThreadedStep (threaded_at_first places) input old new totals in
+      record {
+        played = played;
+        whole = known_weaker left T (λ input. IsAnsweredWhole places input old new) (λ input known total. record {
+          whole = subst (λ (l : Option (List ℕ)). IfSome l (λ i. fault_of i ≡ None)) known played.ok;
+          answered = total.answered;
+          replies = λ none. single_output places input old new (alone_answered places input old new none total.answered);
+          by_hand = λ alone. answered_by_hand places range input old new alone total.answered;
+        }) played.answered;
+        early = tt;
+        totals = known_weaker left T (λ input. IsUnthreadedScript input → totals ≡ totals_of places input)
+            (λ input known total none. single_totals places input old new totals (alone_total places input old new totals none total)) played.answered;
+      }
+  threaded_run (Err e) played =
+      let E : List ℕ → Type 0 = λ input. IsEnded IsThreadedStep AsksMemory (threaded_at_first places) e.fault input e left left_new old new in
+      record {
+        played = played;
+        whole = tt;
+        early = known_weaker left E (λ input. IsEndedEarly places e input left left_new old new) (λ input known end. record {
+          ends = end;
+          alone = λ none. single_ends places e.fault input e left left_new old new (alone_ends places e.fault input e left left_new old new known none end);
+          by_hand = λ alone. ends_by_hand places range e.fault input e left left_new old new known alone end;
+        }) played.err;
+        totals = tt;
+      }

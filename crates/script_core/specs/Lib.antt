@@ -4,6 +4,7 @@ pub mod CommandLine
 pub mod Counts
 pub mod MachineByHand
 pub mod Profile2
+pub mod Runs
 pub mod Status
 pub mod Stops
 pub mod Values

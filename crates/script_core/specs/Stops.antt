@@ -1,14 +1,11 @@
 -- How a run stops before the end of its script, and what the writer for faults is told of it.
-use Rattle.std.specs.Prelude.{◌≡◌, ◌⊎◌, ℕ, Bool, IsTrue, List, ◌++◌, codes, decimal, take, Option, IfSome, None}
+use Rattle.std.specs.Prelude.{◌≡◌, ◌⊎◌, ℕ, Bool, IsTrue, List, ◌++◌, codes, decimal, take, Option, IfSome}
 use Rattle.std.specs.Io.KnownBytes.{Appends, Keeps}
 use Rattle.text_core.specs.declared.fault.Fault.TheVariants.{Read, Write, Memory}
 use Rattle.text_core.specs.declared.fault.RunError.{RunError}
-use Rattle.machine_core.specs.Ends.{EndsIn}
-use Rattle.text_core.specs.Runs.{IsEnded}
 use Rattle.text_core.specs.FaultNumber.{fault_number}
 use Rattle.text_core.specs.Streams.{CannotReadOn}
-use Rattle.script_core.specs.ByHand.{IsAloneScript, IsByHandStep, OpensByHand, To}
-use Rattle.script_core.specs.WithThreads.{AsksMemory, IsThreadedStep, IsUnthreadedScript, threaded_at_first}
+use Rattle.script_core.specs.Runs.{IsEndedEarly}
 
 -- the line that says which fault ended the run, and at which line of the script
 abbrev pub fault_line : RunError → List ℕ
@@ -34,11 +31,7 @@ pub record LacksMemory (status : ℕ) (old new told told_new : Option (List ℕ)
 pub record Stops (places : ℕ) (left left_new old new : Option (List ℕ)) (reads reads_new : ℕ) (failed stuck : Bool)
     (told told_new : Option (List ℕ)) (told_stuck : Bool) : Type 0 where
   pub error : RunError
-  pub ends : IfSome left (λ input. IsEnded IsThreadedStep AsksMemory (threaded_at_first places) error.fault input error left left_new old new)
-  -- a script without rounds, pools and blocks was answered as on one thread
-  pub alone : IfSome left (λ input. IsUnthreadedScript input → EndsIn error.fault places input error left left_new old new)
-  -- and one without blocks as where each round is made by hand
-  pub by_hand : IfSome left (λ input. IsAloneScript input → IsEnded (IsByHandStep places) OpensByHand (To None) error.fault input error left left_new old new)
+  pub ends : IfSome left (λ input. IsEndedEarly places error input left left_new old new)
   pub unread : error.fault ≡ Read → CannotReadOn failed reads reads_new left
   pub unwritten : error.fault ≡ Write → IsTrue stuck
   pub tells : Tells error told told_new told_stuck

@@ -1,14 +1,10 @@
-ghost use Rattle.std.specs.Prelude.{◌≡◌, ◌≢◌, ◌+◌, ◌≤◌, ◌⊎◌, [], false, true, None, IfOk, IfErr, IfSome};
-ghost use Rattle.std.specs.Io.KnownBytes.{Appends, Keeps};
+ghost use Rattle.std.specs.Prelude.{◌≡◌, ◌≢◌, ◌+◌, ◌≤◌, ◌⊎◌, [], false, true, IfOk, IfErr, IfSome};
+ghost use Rattle.std.specs.Io.KnownBytes.{Keeps};
 ghost use Rattle.clap.specs.Words.{kind_of};
 ghost use Rattle.script_core.specs.CommandLine.{IfDone, texts_of, refusal_of, journal_of, is_help, asks_help, asks_only_help};
+ghost use Rattle.script_core.specs.Runs.{IsAnsweredWhole};
 ghost use Rattle.script_core.specs.Status.{status_of};
 ghost use Rattle.script_core.specs.Stops.{LacksMemory, Stops};
-ghost use Rattle.text_core.specs.Runs.{IsAnswered};
-ghost use Rattle.text_core.specs.Script.{fault_of};
-ghost use Rattle.machine_core.specs.Replies.{output_of};
-ghost use Rattle.script_core.specs.ByHand.{IsAloneScript, IsByHandStep, To};
-ghost use Rattle.script_core.specs.WithThreads.{IsThreadedStep, IsUnthreadedScript, threaded_at_first};
 
 use crate::on_threads::run_on_threads;
 use crate::options::given_options;
@@ -57,16 +53,10 @@ pub fn program<R: Input, W: Output, F: Output, H: Threads + Wait + Sync>(
     ensures quiet { result ≡ 2 → Keeps (W.contents writer.old) (W.contents writer.new) }
     // At most ten million reads of the script give bytes.
     ensures few { R.reads reader.new ≤ R.reads reader.old + 10000000 }
-    // Where the words give options and the status is 0, the script has no fault, and was answered; one without rounds, pools and
-    // blocks was answered as on one thread.
-    ensures whole { IfDone words result (R.remaining reader.old) (λ places input. fault_of input ≡ None) }
-    ensures answered { IfDone words result (R.remaining reader.old) (λ places input.
-        IsAnswered IsThreadedStep (threaded_at_first places) input (W.contents writer.old) (W.contents writer.new)) }
-    ensures replies { IfDone words result (R.remaining reader.old) (λ places input.
-        IsUnthreadedScript input → Appends (W.contents writer.old) (W.contents writer.new) (output_of places input)) }
-    // One without blocks was answered as by the machine that makes its rounds by hand.
-    ensures by_hand { IfDone words result (R.remaining reader.old) (λ places input.
-        IsAloneScript input → IsAnswered (IsByHandStep places) (To None) input (W.contents writer.old) (W.contents writer.new)) }
+    // Where the words give options and the status is 0, the script has no fault, and was answered: one without blocks as where each
+    // round is made by hand.
+    ensures whole { IfDone words result (R.remaining reader.old) (λ places input.
+        IsAnsweredWhole places input (W.contents writer.old) (W.contents writer.new)) }
     // There was no memory to read the words, or the run stopped.
     ensures fault { IfOk words (λ args. result ≡ 1 → LacksMemory result (W.contents writer.old) (W.contents writer.new)
         (F.contents faults.old) (F.contents faults.new) (F.stuck faults.new) ⊎ Stops (journal_of (texts_of args))
@@ -91,13 +81,8 @@ fn play<R: Input, W: Output, F: Output, H: Threads + Wait + Sync>(
 ) -> u8
     ensures status { result ≤ 1 }
     ensures few { R.reads reader.new ≤ R.reads reader.old + 10000000 }
-    ensures whole { result ≡ 0 → IfSome (R.remaining reader.old) (λ input. fault_of input ≡ None) }
-    ensures answered { result ≡ 0 → IfSome (R.remaining reader.old) (λ input.
-        IsAnswered IsThreadedStep (threaded_at_first options.journal) input (W.contents writer.old) (W.contents writer.new)) }
-    ensures replies { result ≡ 0 → IfSome (R.remaining reader.old) (λ input.
-        IsUnthreadedScript input → Appends (W.contents writer.old) (W.contents writer.new) (output_of options.journal input)) }
-    ensures by_hand { result ≡ 0 → IfSome (R.remaining reader.old) (λ input.
-        IsAloneScript input → IsAnswered (IsByHandStep options.journal) (To None) input (W.contents writer.old) (W.contents writer.new)) }
+    ensures whole { result ≡ 0 → IfSome (R.remaining reader.old) (λ input.
+        IsAnsweredWhole options.journal input (W.contents writer.old) (W.contents writer.new)) }
     ensures fault { result ≡ 1 → Stops options.journal
         (R.remaining reader.old) (R.remaining reader.new) (W.contents writer.old) (W.contents writer.new)
         (R.reads reader.old) (R.reads reader.new) (R.failed reader.new) (W.stuck writer.new)

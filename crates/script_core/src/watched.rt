@@ -1,9 +1,14 @@
-//! A run of a script that is watched.
+//! How a script is played, watched or not.
+
+ghost use Rattle.text_core.specs.Runs.{IsPlayed};
+ghost use Rattle.text_core.specs.Streams.{LeavesStreams};
 
 use crate::dispatcher::Dispatcher;
 use crate::with_threads::WithThreads;
-use std::alloc::AllocError;
-use text_core::{Answer, Answers, Block, Command, Reply, Respond};
+use std::alloc::{AllocError, Global};
+use text_core::{
+    Answer, Answers, Block, Command, Input, Output, Reply, Respond, RunError, Totals, play,
+};
 use zone_core::{Opening, ZoneIn};
 
 /// What watches the run of a script. The zone that is open, if one is, is lent to it before each command and after it. A block is one
@@ -16,16 +21,45 @@ pub trait Watch {
     fn after<Z: Opening>(&mut self, reply: &Reply, zone: Option<&ZoneIn<Z>>);
 }
 
-/// Nothing watches.
+/// What plays a script. Nothing watches unless a player says so.
+pub(crate) trait Player: Sized + Drop {
+    /// Plays the script that a reader gives on a machine, and writes its replies, as `play` does.
+    fn play<A: Respond + Shows + Drop, R: Input, W: Output>(
+        self,
+        alloc: Global,
+        machine: A,
+        reader: &mut R,
+        writer: &mut W,
+    ) -> Result<Totals, RunError>
+        requires ready { A.ready machine }
+        ensures played { IsPlayed A.may A.asks machine (R.remaining reader.old) (R.remaining reader.new) (W.contents writer.old) (W.contents writer.new) result }
+        ensures streams { LeavesStreams (R.failed reader.new) (R.reads reader.old) (R.reads reader.new) (R.remaining reader.old) (W.stuck writer.new) result }
+    {
+        play(alloc, machine, reader, writer)
+    }
+}
+
+/// Plays a script that nothing watches.
 #[derive(Drop)]
-pub(crate) struct NoWatch;
+pub(crate) struct Unwatched;
 
-impl Watch for NoWatch {
-    #[inline(always)]
-    fn before<Z: Opening>(&mut self, _command: &Command, _zone: Option<&ZoneIn<Z>>) {}
+impl Player for Unwatched {}
 
-    #[inline(always)]
-    fn after<Z: Opening>(&mut self, _reply: &Reply, _zone: Option<&ZoneIn<Z>>) {}
+/// A watcher sees the zone before each command and after it.
+impl<V: Watch> Player for &mut V {
+    fn play<A: Respond + Shows + Drop, R: Input, W: Output>(
+        self,
+        alloc: Global,
+        answering: A,
+        reader: &mut R,
+        writer: &mut W,
+    ) -> Result<Totals, RunError> {
+        let watched = Watched {
+            answering,
+            watcher: self,
+        };
+        play(alloc, watched, reader, writer)
+    }
 }
 
 /// What has a zone to show.
@@ -38,12 +72,10 @@ pub(crate) trait Shows {
 }
 
 impl<Z: Opening, R, P, D> Shows for Dispatcher<WithThreads<Z>, R, P, D> {
-    #[inline(always)]
     fn show_before<V: Watch>(&self, watcher: &mut V, command: &Command) {
         watcher.before(command, self.machine.zone());
     }
 
-    #[inline(always)]
     fn show_after<V: Watch>(&self, watcher: &mut V, reply: &Reply) {
         watcher.after(reply, self.machine.zone());
     }
@@ -51,9 +83,9 @@ impl<Z: Opening, R, P, D> Shows for Dispatcher<WithThreads<Z>, R, P, D> {
 
 /// A machine that answers a script, and what watches it. What it answers is what it would answer alone.
 #[derive(Drop)]
-pub(crate) struct Watched<'w, A, V> {
-    pub(crate) answering: A,
-    pub(crate) watcher: &'w mut V,
+struct Watched<'w, A, V> {
+    answering: A,
+    watcher: &'w mut V,
 }
 
 impl<A: Respond + Shows, V: Watch> Respond for Watched<'_, A, V> {
@@ -63,7 +95,6 @@ impl<A: Respond + Shows, V: Watch> Respond for Watched<'_, A, V> {
 
     ghost ready = { λ now. A.ready now.answering };
 
-    #[inline(always)]
     fn respond(&mut self, command: Command, reply: &mut Reply) -> Result<(), AllocError> {
         self.answering.show_before(self.watcher, &command);
         self.answering.respond(command, reply)?;

@@ -72,7 +72,6 @@ impl<Z: Opening> WithThreads<Z> {
     }
 
     /// The zone that is open, if one is.
-    #[inline(always)]
     pub(crate) fn zone(&self) -> Option<&ZoneIn<Z>>
         ensures some { IfSome result (λ zone. option_map (λ w. w.zone) self.now.single.world ≡ Some zone.now) }
         ensures none { IfNone result (self.now.single.world ≡ None) }

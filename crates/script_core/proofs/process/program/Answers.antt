@@ -1,12 +1,8 @@
-use Rattle.std.proofs.Common.{◌∙◌, ℕ, arith, inl, subst, sym, None}
+use Rattle.std.proofs.Common.{◌∙◌, ℕ, arith, inl, subst, sym}
 use Rattle.std.specs.Prelude.{IfSome}
 use Rattle.std.proofs.lemmas.Result.{IfOk-weaker}
-use Rattle.std.specs.Io.KnownBytes.{Appends}
 use Rattle.clap.specs.Words.{kind_of}
-use Rattle.machine_core.specs.Replies.{output_of}
-use Rattle.text_core.specs.Runs.{IsAnswered}
-use Rattle.script_core.specs.ByHand.{IsAloneScript, IsByHandStep, To}
-use Rattle.script_core.specs.WithThreads.{IsThreadedStep, IsUnthreadedScript, threaded_at_first}
+use Rattle.script_core.specs.Runs.{IsAnsweredWhole}
 use Rattle.script_core.proofs.Endings.{helped, no_help, one_lacks_memory, refused, two_is_no_help, two_refuses}
 use Rattle.script_core.proofs.process.program.Goals as goal
 
@@ -30,12 +26,6 @@ pub returns-in-Err-clause-fault : goal.returns-in-Err-clause-fault
 returns-in-Err-clause-fault g c =
     IfOk-weaker c.args.words _ _ (λ args kinds one. inl (c.answer.ensures.memory (one_lacks_memory (kind_of c.in-Err.error) (sym c.answer.ensures.status ∙ one)))) c.in-Err.ensures.refused
 
-pub returns-in-Ok-clause-by_hand : goal.returns-in-Ok-clause-by_hand
-returns-in-Ok-clause-by_hand g c =
-    IfOk-weaker c.args.words _ _ (λ args given none done. subst (λ (places : ℕ). IfSome (g.R.Read.remaining c.args.reader.now) (λ input. IsAloneScript input
-    → IsAnswered (IsByHandStep places) (To None) input (g.W.Write.contents c.args.writer.now) (g.W.Write.contents c.play.new.writer))) given.journal (c.play.ensures.by_hand done))
-    c.in-Ok.ensures.ok
-
 -- words that clap gave options for aren't refused, and the status of a run is at most 1
 pub returns-in-Ok-clause-refused : goal.returns-in-Ok-clause-refused
 returns-in-Ok-clause-refused g c = IfOk-weaker c.args.words _ _ (λ args none some ask. absurd (some none)) c.in-Ok.ensures.refused
@@ -47,16 +37,7 @@ pub returns-in-Ok-clause-help : goal.returns-in-Ok-clause-help
 returns-in-Ok-clause-help g c = IfOk-weaker c.args.words _ _ (λ args none some ask. absurd (some none)) c.in-Ok.ensures.refused
 
 pub returns-in-Ok-clause-whole : goal.returns-in-Ok-clause-whole
-returns-in-Ok-clause-whole g c = IfOk-weaker c.args.words _ _ (λ args given none done. c.play.ensures.whole done) c.in-Ok.ensures.ok
-
-pub returns-in-Ok-clause-answered : goal.returns-in-Ok-clause-answered
-returns-in-Ok-clause-answered g c =
+returns-in-Ok-clause-whole g c =
     IfOk-weaker c.args.words _ _ (λ args given none done. subst (λ (places : ℕ). IfSome (g.R.Read.remaining c.args.reader.now) (λ input.
-    IsAnswered IsThreadedStep (threaded_at_first places) input (g.W.Write.contents c.args.writer.now) (g.W.Write.contents c.play.new.writer))) given.journal (c.play.ensures.answered done))
-    c.in-Ok.ensures.ok
-
-pub returns-in-Ok-clause-replies : goal.returns-in-Ok-clause-replies
-returns-in-Ok-clause-replies g c =
-    IfOk-weaker c.args.words _ _ (λ args given none done. subst (λ (places : ℕ). IfSome (g.R.Read.remaining c.args.reader.now) (λ input. IsUnthreadedScript input
-    → Appends (g.W.Write.contents c.args.writer.now) (g.W.Write.contents c.play.new.writer) (output_of places input))) given.journal (c.play.ensures.replies done))
+    IsAnsweredWhole places input (g.W.Write.contents c.args.writer.now) (g.W.Write.contents c.play.new.writer))) given.journal (c.play.ensures.whole done))
     c.in-Ok.ensures.ok
