@@ -81,7 +81,7 @@ HAND_PROOFS = {
     ),
     "crates/compactd_c/proofs/memory/compactd_close_in/Answers.antt": (
         "it says that a zone that isn't refused lends no words, and proves no function by hand",
-        "e5b4d83f5a99de45446a895f13f98b0bb1a58f35ff70e9323727058411198ba2",
+        "e90230a289435db70d1216d6c5429b31798075e4f411357e1fc0d47ce7d3c878",
     ),
     "crates/compactd_c/proofs/memory/compactd_return_block/Answers.antt": (
         "it says that the words lie where those of the block do, and proves no function by hand",
@@ -89,7 +89,7 @@ HAND_PROOFS = {
     ),
     "crates/compactd_c/proofs/memory/compactd_return_page/Answers.antt": (
         "it says that the words lie where those of the page do, and proves no function by hand",
-        "533c4be5c0256c79be2e06b30238d5d0858d0965eba41c69df5b0774508cd857",
+        "16c670dc9113b971c7d9de1b9a397df54b6eb1bf683c59f99b3a35ce572698ac",
     ),
     "crates/compactd_c/proofs/pool/Pool/TheSendSync/Send.antt": (
         "the prover finds no pointer fit to go to another thread",
@@ -125,7 +125,7 @@ HAND_PROOFS = {
     ),
     "crates/compactd_c/proofs/zone/empty_some/Answers.antt": (
         "it says that a run has no more claimed frames than frames, and proves no function by hand",
-        "6f493b492c2205806d4afb616d9b068534a23c1d77c37f134f7fccc8fdc86c41",
+        "e2d474ff3dfa0f8c574490e0dc6ee3e2f914c512966591f2877280c0e4838108",
     ),
     "crates/compactd_c/proofs/zone/lending/end_refusal/Answers.antt": (
         "it says whether any words are lent, and proves no function by hand",

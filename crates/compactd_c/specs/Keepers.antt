@@ -8,7 +8,7 @@ use Rattle.keeper_core.specs.declared.keeper.Step.TheVariants.{Emptied, Claimed,
 use Rattle.state_core.specs.ZoneState.{ZoneState}
 use Rattle.state_core.specs.declared.error.ZoneError.{ZoneError}
 use Rattle.state_core.specs.declared.error.ZoneError.TheVariants.{NoBlock}
-use Rattle.compactd_c.specs.Asked.{is_order}
+use Rattle.compactd_c.specs.Ranges.{is_order}
 
 -- a run has to be open
 abbrev pub cheapest_refusal : ZoneState → (order : ℕ) → Option ZoneError

@@ -9,8 +9,8 @@ use Rattle.state_core.specs.Pairs.{next_pair}
 use Rattle.state_core.specs.ZoneState.{ZoneState}
 use Rattle.state_core.specs.declared.error.ZoneError.{ZoneError}
 use Rattle.state_core.specs.declared.error.ZoneError.TheVariants.{Range, Stranger}
-use Rattle.compactd_c.specs.Answers.{answer as answer_of, left, number_for}
-use Rattle.compactd_c.specs.Asked.{is_block, ranged}
+use Rattle.compactd_c.specs.Answers.{number_for, IsCall}
+use Rattle.compactd_c.specs.Ranges.{is_block, ranged}
 use Rattle.compactd_c.specs.declared.lent_moves.HeldMove.{HeldMove}
 
 -- the move that C has, where it has words of both frames
@@ -62,6 +62,11 @@ IsCopied held = IfSome (move_of held) (λ m. m.to.words ≡ m.from.words)
 abbrev pub HasItsWords : HeldMove → ZoneState → Type 0
 HasItsWords held z = IfSome (move_of held) (λ m. is_lent_move z m ≡ true → IsLentMove z m)
 
+-- both, where a pool has such a zone
+pub record HasCopied (held : HeldMove) (zone : Option ZoneState) : Type 0 where
+  pub copied : IsCopied held
+  pub rows : (z : ZoneState) → zone ≡ Some z → HasItsWords held z
+
 -- why the end of a move is refused, if it is: C lacks words of it, or has more of one frame, or the zone hasn't lent the words of such a move
 abbrev pub end_move_refusal : Option LentMove → ZoneState → Option ZoneError
 end_move_refusal None z = Some Range
@@ -77,7 +82,6 @@ held_ended step (Some m) z = step z m
 
 -- C brought a move back, which a step of the zone ended, or the call was refused and changed nothing
 pub record IsBroughtBack (step : ZoneState → LentMove → ZoneState) (old new : Option ZoneState) (held held_new : HeldMove) (number : ℕ) : Type 0 where
-  pub answer : number ≡ answer_of old (end_move_refusal (move_of held))
-  pub zone : new ≡ left old (end_move_refusal (move_of held)) (held_ended step (move_of held))
+  pub call : IsCall (end_move_refusal (move_of held)) (held_ended step (move_of held)) old new number
   pub taken : number ≡ 0 → HasNone held_new
   pub kept : ¬ (number ≡ 0) → IsKept held held_new

@@ -1,7 +1,7 @@
 pub mod Answers
-pub mod Asked
 pub mod Batches
 pub mod Carried
+pub mod Emptied
 pub mod Keepers
 pub mod Kinds
 pub mod Lent
@@ -10,6 +10,8 @@ pub mod Looks
 pub mod Memory
 pub mod Moving
 pub mod Owned
+pub mod Ranges
 pub mod Records
+pub mod Rounds
 pub mod Sizes
 pub mod Told

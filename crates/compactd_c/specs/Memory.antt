@@ -1,13 +1,14 @@
 -- Pools in memory of the caller's, and the words of their blocks in the caller's hands.
-use Rattle.std.specs.Prelude.{◌≡◌, ℕ, ◌*◌, ◌^◌, Bool, false, List, [], length, ◌&&◌, nat_eq, is_none, if◌then◌else◌, Option, Some, None}
+use Rattle.std.specs.Prelude.{◌≡◌, ℕ, ◌*◌, ◌^◌, Bool, false, List, [], length, ◌&&◌, nat_eq, is_none, if◌then◌else◌, IfSome, Option, Some, None}
 use Rattle.std.specs.FinSet as set
+use denote.RawPtr.{Ptr}
 use Rattle.row_core.specs.Seen.{Row}
 use Rattle.state_core.specs.Lending.{lend_page_refusal, lend_refusal, page_return_refusal, return_refusal}
 use Rattle.state_core.specs.Opening.{IsAllowed}
 use Rattle.state_core.specs.ZoneState.{ZoneState}
 use Rattle.state_core.specs.declared.error.ZoneError.{ZoneError}
 use Rattle.state_core.specs.declared.error.ZoneError.TheVariants.{Lent, OwnMemory}
-use Rattle.compactd_c.specs.Asked.{address_of, is_address, is_block, is_client, ranged}
+use Rattle.compactd_c.specs.Ranges.{address_of, is_address, is_block, is_client, ranged}
 use Rattle.compactd_c.specs.Kinds.{IsPageSize}
 use Rattle.compactd_c.specs.Sizes.{size_with, some_places}
 
@@ -46,3 +47,14 @@ page_words_refusal space vpage z = ranged (is_address space vpage) (lend_page_re
 abbrev pub page_back_refusal : ℕ → ℕ → ℕ → Option Row → ZoneState → Option ZoneError
 page_back_refusal client space vpage held z =
     ranged (is_client client && (is_address space vpage && are_words z.page_size held)) (page_return_refusal z (address_of space vpage))
+
+-- C gets these words of the zone, which lie at this place, or has the words that it had where the call is refused
+pub record AreLent (words : ZoneState → List ℕ) (place : ZoneState → Option Ptr) (zone : Option ZoneState) (number : ℕ) (old new : Option Row) : Type 0 where
+  pub lent : (z : ZoneState) → zone ≡ Some z → number ≡ 0 → IfSome new (λ row. (row.words ≡ words z) × (Some row.at ≡ place z))
+  pub given : number ≡ 0 → ¬ (new ≡ None)
+  pub kept : ¬ (number ≡ 0) → new ≡ old
+
+-- the words that C brought back are taken, or it has them where the call is refused
+pub record AreTaken (number : ℕ) (old new : Option Row) : Type 0 where
+  pub taken : number ≡ 0 → new ≡ None
+  pub kept : ¬ (number ≡ 0) → new ≡ old

@@ -1,5 +1,6 @@
 -- What C is told of a zone, as C sees it.
-use Rattle.std.specs.Prelude.{ℕ, ◌+◌, true, false, List, [], ◌∷◌, length, nat_le, if◌then◌else◌, Option, Some, None}
+use Rattle.std.specs.Prelude.{◌≡◌, ℕ, ◌+◌, true, false, List, [], ◌∷◌, length, nat_le, if◌then◌else◌, Option, Some, None}
+use Rattle.frame_core.specs.Moves.{isolated, moved, put_back}
 use Rattle.state_core.specs.declared.information.Info.{Info}
 use Rattle.state_core.specs.declared.information.Look.{Look}
 use Rattle.state_core.specs.declared.information.Look.TheVariants.{At, Moving}
@@ -7,6 +8,7 @@ use Rattle.state_core.specs.ZoneState.{ZoneState}
 use Rattle.compactd_c.specs.declared.looking.Counts.{Counts}
 use Rattle.compactd_c.specs.declared.looking.Geometry.{Geometry}
 use Rattle.compactd_c.specs.declared.looking.PageInfo.{PageInfo}
+use Rattle.compactd_c.specs.declared.looking.RoundCounts.{RoundCounts}
 
 -- what the spare words of a structure hold
 abbrev pub reserved : List ℕ
@@ -14,15 +16,7 @@ reserved = 0 ∷ 0 ∷ []
 
 -- the counts
 abbrev pub counts_of : Info → Counts
-counts_of info = record {
-  free = info.free;
-  pages = info.pages;
-  moving = info.moving;
-  huge = info.huge;
-  whole = info.whole;
-  held = info.held;
-  reserved = reserved;
-}
+counts_of info = record { free = info.free; pages = info.pages; moving = info.moving; huge = info.huge; whole = info.whole; held = info.held; reserved = reserved }
 
 -- how many places the journal has, used or not: none where it isn't kept, which has more than 65,536
 abbrev pub places_of : ZoneState → ℕ
@@ -39,3 +33,11 @@ page_info_of (Some (At frame flags pins maps)) =
     Some (record { serial = 0; frame = frame; flags = flags.0; pins = pins; maps = maps; moving = false; reserved = reserved })
 page_info_of (Some (Moving serial pins maps)) =
     Some (record { serial = serial; frame = 0; flags = 0; pins = pins; maps = maps; moving = true; reserved = reserved })
+
+-- how many pages were isolated, and what became of them: each was moved or put back
+pub record AreMoves (z : ZoneState) (counts : RoundCounts) : Type 0 where
+  pub isolated : counts.isolated ≡ isolated z.records
+  pub moved : counts.moved ≡ moved z.records
+  pub back : counts.back ≡ put_back z.records
+  pub sum : counts.moved + counts.back ≡ counts.isolated
+  pub reserved : counts.reserved ≡ reserved

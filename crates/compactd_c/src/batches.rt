@@ -1,12 +1,9 @@
 //! What C calls to map or to unmap many pages, one after the other. C passes a pointer to the requests and then how many they are.
 
-ghost use Rattle.std.specs.Prelude.{◌≡◌, None, Some};
-ghost use Rattle.compactd_c.specs.Answers.{left};
-ghost use Rattle.compactd_c.specs.Batches.{after_turn, after_turns, all_answered, answered, asked_by, first_refusal};
-ghost use Rattle.state_core.specs.ZoneState.{ZoneState};
+ghost use Rattle.std.specs.Prelude.{◌≡◌};
+ghost use Rattle.compactd_c.specs.Batches.{after_turn, after_turns, all_answered, answered, first_refusal, IsBatch};
 
-use crate::asked::Asked;
-use crate::calls::{CLOSED, framed, number};
+use crate::calls::{numbered, told};
 use crate::pool::Pool;
 use crate::zone::Zone;
 
@@ -41,14 +38,9 @@ pub extern "C" fn compactd_map_many(
     client: u32,
     requests: &mut [PageRequest],
 ) -> u32
-    ensures closed { pool.old.zone ≡ None → (result ≡ 51) × (requests.new ≡ requests.old) }
-    ensures answer { (z : ZoneState) → pool.old.zone ≡ Some z → result ≡ first_refusal requests.new }
-    ensures zone { pool.new.zone ≡ left pool.old.zone (λ z. None) (λ z. after_turns client Change.Map z requests.old) }
-    ensures requests { (z : ZoneState) → pool.old.zone ≡ Some z → requests.new ≡ all_answered client Change.Map z requests.old }
+    ensures { IsBatch client Change.Map pool.old.zone pool.new.zone requests.old requests.new result }
 {
-    let Some(zone) = pool.zone() else {
-        return CLOSED;
-    };
+    let zone = open_zone!(pool);
     change_all(zone, client, Change::Map, requests)
 }
 
@@ -62,14 +54,9 @@ pub extern "C" fn compactd_unmap_many(
     client: u32,
     requests: &mut [PageRequest],
 ) -> u32
-    ensures closed { pool.old.zone ≡ None → (result ≡ 51) × (requests.new ≡ requests.old) }
-    ensures answer { (z : ZoneState) → pool.old.zone ≡ Some z → result ≡ first_refusal requests.new }
-    ensures zone { pool.new.zone ≡ left pool.old.zone (λ z. None) (λ z. after_turns client Change.Unmap z requests.old) }
-    ensures requests { (z : ZoneState) → pool.old.zone ≡ Some z → requests.new ≡ all_answered client Change.Unmap z requests.old }
+    ensures { IsBatch client Change.Unmap pool.old.zone pool.new.zone requests.old requests.new result }
 {
-    let Some(zone) = pool.zone() else {
-        return CLOSED;
-    };
+    let zone = open_zone!(pool);
     change_all(zone, client, Change::Unmap, requests)
 }
 
@@ -94,21 +81,12 @@ fn change_one(zone: &mut Zone, client: u32, change: Change, request: &mut PageRe
     ensures request { request.new ≡ answered client change zone.old request.old }
     ensures zone { zone.new ≡ after_turn client change zone.old request.old }
 {
-    let answer = zone.make(client, asked_by(change, request));
-    request.status = framed(answer.map_err(number), &mut request.frame);
-}
-
-/// What a client asks by a request.
-fn asked_by(change: Change, request: &PageRequest) -> Asked
-    ensures { result ≡ asked_by change request.now }
-{
     let PageRequest { space, vpage, .. } = *request;
-    match change {
-        Change::Map => Asked::Map {
-            space,
-            vpage,
-            unmovable: request.unmovable != 0,
-        },
-        Change::Unmap => Asked::Unmap { space, vpage },
-    }
+    request.status = match change {
+        Change::Map => {
+            let mapped = zone.map(client, space, vpage, request.unmovable != 0);
+            told(mapped, &mut request.frame)
+        }
+        Change::Unmap => numbered(zone.unmap(client, space, vpage)),
+    };
 }

@@ -1,7 +1,7 @@
 //! What C calls to make the moves of a round itself: it isolates a page, copies its words, and brings them back.
 
 ghost use Rattle.std.specs.Prelude.{◌≡◌, ◌↔◌, true, length, IsTrue, None, Some};
-ghost use Rattle.compactd_c.specs.Answers.{left};
+ghost use Rattle.compactd_c.specs.Answers.{left, IsTold};
 ghost use Rattle.compactd_c.specs.Carried.{IsOwn, moving_page_of, words_of, isolate_number, isolate_refused, commit_refused};
 ghost use Rattle.frame_core.specs.Moves.{out};
 ghost use Rattle.state_core.specs.Ending.{committed, ended_as};
@@ -11,7 +11,7 @@ ghost use Rattle.state_core.specs.Packed.{IsPacked};
 ghost use Rattle.state_core.specs.Pairs.{HaveMet, next_pair};
 ghost use Rattle.state_core.specs.ZoneState.{ZoneState, is_quiet};
 
-use crate::calls::{CLOSED, MET, number as number_for, told};
+use crate::calls::{MET, number as number_for, told};
 use crate::pool::Pool;
 use state_core::Ended;
 
@@ -43,9 +43,7 @@ pub extern "C" fn compactd_isolate(pool: &mut Pool, page: &mut MovingPage, words
     ensures packed { (z : ZoneState) → pool.new.zone ≡ Some z → result ≡ 53 → is_quiet z ≡ true → length (out z.records) ≡ 0 → IsPacked z }
     ensures kept { ¬ (result ≡ 0) → (page.new ≡ page.old) × (words.new ≡ words.old) }
 {
-    let Some(zone) = pool.zone() else {
-        return CLOSED;
-    };
+    let zone = open_zone!(pool);
     let answer = zone.isolate(words);
     match answer {
         Ok(Some(isolated)) => {
@@ -73,12 +71,10 @@ pub extern "C" fn compactd_commit(
     ensures own { (z : ZoneState) → pool.old.zone ≡ Some z → (result ≡ 0) ↔ IsOwn z page.now.serial page.now.number words.now }
     ensures refused { (z : ZoneState) → pool.old.zone ≡ Some z → ¬ (result ≡ 0) → result ≡ number_of (commit_refused z (length words.now)) }
     ensures zone { (z : ZoneState) → pool.old.zone ≡ Some z → result ≡ 0 → pool.new.zone ≡ Some (committed z page.now.serial page.now.number) }
-    ensures moved { (z : ZoneState) → pool.old.zone ≡ Some z → result ≡ 0 → IsTrue moved.new ↔ (ended_as z page.now.number ≡ Ended.Moved) }
-    ensures kept { ¬ (result ≡ 0) → (pool.new.zone ≡ pool.old.zone) × (moved.new ≡ moved.old) }
+    ensures moved { IsTold (λ z moved. IsTrue moved ↔ (ended_as z page.now.number ≡ Ended.Moved)) pool.old.zone result moved.old moved.new }
+    ensures kept { ¬ (result ≡ 0) → pool.new.zone ≡ pool.old.zone }
 {
-    let Some(zone) = pool.zone() else {
-        return CLOSED;
-    };
+    let zone = open_zone!(pool);
     let answer = zone.commit(page.serial, page.number, words);
     told(answer.map(|ended| ended == Ended::Moved), moved)
 }

@@ -1,17 +1,17 @@
 //! What C calls to empty a run of frames in steps: it is claimed, emptied, and handed out or dropped.
 
-ghost use Rattle.std.specs.Prelude.{◌≡◌, ◌+◌, ◌≤◌, ◌/◌, ◌^◌, ℕ, true, false, Some};
+ghost use Rattle.std.specs.Prelude.{◌≡◌, ◌/◌, ◌^◌, ℕ, true, false, Some};
 ghost use Rattle.std.specs.FinMap as map;
-ghost use Rattle.compactd_c.specs.Answers.{answer, left};
-ghost use Rattle.compactd_c.specs.Asked.{is_block, ranged};
-ghost use Rattle.fewest_core.specs.Claims.{claim_refusal, claimed_frames, claimed_taken, drop_refusal, step_refusal, stepped, take_claimed_refusal};
-ghost use Rattle.fewest_core.specs.Evacuation.{is_in_run, IsCarriedOut};
+ghost use Rattle.compactd_c.specs.Answers.{IsCall, IsTold};
+ghost use Rattle.compactd_c.specs.Emptied.{IsEmptied};
+ghost use Rattle.compactd_c.specs.Ranges.{is_block, ranged};
+ghost use Rattle.fewest_core.specs.Claims.{claim_refusal, claimed_taken, drop_refusal, step_refusal, stepped, take_claimed_refusal};
+ghost use Rattle.fewest_core.specs.Evacuation.{is_in_run};
 ghost use Rattle.fewest_core.specs.FewestMoves.{cost};
-ghost use Rattle.frame_core.specs.Moves.{moved as pages_moved};
-ghost use Rattle.state_core.specs.Claiming.{is_claimed, run_claimed, run_dropped};
+ghost use Rattle.state_core.specs.Claiming.{run_claimed, run_dropped};
 ghost use Rattle.state_core.specs.ZoneState.{ZoneState, is_free};
 
-use crate::calls::{CLOSED, number, numbered, told};
+use crate::calls::{number, numbered, told};
 use crate::pool::Pool;
 
 /// Claims the free frames of a run of 2^order frames, which is aligned to its size, so that no page comes there, and gets how many pages
@@ -21,18 +21,13 @@ use crate::pool::Pool;
 /// of the run is in a marked pageblock, handed out, claimed already, or of a page that is moving, pinned or unmovable. Refused as CLOSED.
 #[unsafe(no_mangle)]
 pub extern "C" fn compactd_claim(pool: &mut Pool, first: u32, order: u32, pages: &mut u32) -> u32
-    ensures answer { result ≡ answer pool.old.zone (λ z. ranged (is_block first order) (claim_refusal z first order)) }
-    ensures zone { pool.new.zone ≡ left pool.old.zone (λ z. ranged (is_block first order) (claim_refusal z first order)) (run_claimed first (2 ^ order)) }
-    ensures pages { (z : ZoneState) → pool.old.zone ≡ Some z → result ≡ 0 → pages.new ≡ cost z (2 ^ order) (first / 2 ^ order) }
+    ensures call { IsCall (λ z. ranged (is_block first order) (claim_refusal z first order)) (run_claimed first (2 ^ order)) pool.old.zone pool.new.zone result }
+    ensures pages { IsTold (λ z pages. pages ≡ cost z (2 ^ order) (first / 2 ^ order)) pool.old.zone result pages.old pages.new }
     // No frame of the run is free then.
     ensures shut { (z : ZoneState) → pool.new.zone ≡ Some z → result ≡ 0 → (frame : ℕ) → is_in_run first (2 ^ order) frame ≡ true → is_free z frame ≡ false }
-    ensures kept { ¬ (result ≡ 0) → pages.new ≡ pages.old }
 {
-    let Some(zone) = pool.zone() else {
-        return CLOSED;
-    };
-    let answer = zone.claim(first, order);
-    told(answer, pages)
+    let zone = open_zone!(pool);
+    told(zone.claim(first, order), pages)
 }
 
 /// A step: claims the frames of a run that are free, and moves at most `most` pages out of it, the lowest first, each to the highest free
@@ -50,21 +45,11 @@ pub extern "C" fn compactd_empty_some(
     moved: &mut u32,
     unclaimed: &mut u32,
 ) -> u32
-    ensures answer { result ≡ answer pool.old.zone (λ z. ranged (is_block first order) (step_refusal z first order most)) }
-    ensures zone { pool.new.zone ≡ left pool.old.zone (λ z. ranged (is_block first order) (step_refusal z first order most)) (λ z. stepped first (2 ^ order) z most) }
-    ensures most { result ≡ 0 → moved.new ≤ most }
-    // The records of the zone that it leaves have so many moves more.
-    ensures records { (z : ZoneState) → pool.old.zone ≡ Some z → result ≡ 0 → pages_moved (stepped first (2 ^ order) z most).records ≡ pages_moved z.records + moved.new }
-    ensures unclaimed { (z : ZoneState) → pool.new.zone ≡ Some z → result ≡ 0 → claimed_frames first (2 ^ order) z + unclaimed.new ≡ 2 ^ order }
-    // No frame of the run is free then, what was claimed stays so, and the pages are as they were, but for the frames of those that went.
-    ensures shut { (z : ZoneState) → pool.new.zone ≡ Some z → result ≡ 0 → (frame : ℕ) → is_in_run first (2 ^ order) frame ≡ true → is_free z frame ≡ false }
-    ensures claims { (old new : ZoneState) → pool.old.zone ≡ Some old → pool.new.zone ≡ Some new → result ≡ 0 → (frame : ℕ) → is_claimed old frame ≡ true → is_claimed new frame ≡ true }
-    ensures carried { (old new : ZoneState) → pool.old.zone ≡ Some old → pool.new.zone ≡ Some new → result ≡ 0 → IsCarriedOut first (2 ^ order) old new }
+    ensures call { IsCall (λ z. ranged (is_block first order) (step_refusal z first order most)) (λ z. stepped first (2 ^ order) z most) pool.old.zone pool.new.zone result }
+    ensures emptied { (old new : ZoneState) → pool.old.zone ≡ Some old → pool.new.zone ≡ Some new → result ≡ 0 → IsEmptied first order most old new (record { moved = moved.new; unclaimed = unclaimed.new }) }
     ensures kept { ¬ (result ≡ 0) → (moved.new ≡ moved.old) × (unclaimed.new ≡ unclaimed.old) }
 {
-    let Some(zone) = pool.zone() else {
-        return CLOSED;
-    };
+    let zone = open_zone!(pool);
     match zone.empty_some(first, order, most) {
         Ok(step) => {
             *moved = step.moved;
@@ -81,15 +66,11 @@ pub extern "C" fn compactd_empty_some(
 /// NO_BLOCK where a frame of the run isn't claimed, or as CLOSED.
 #[unsafe(no_mangle)]
 pub extern "C" fn compactd_take_claimed(pool: &mut Pool, first: u32, order: u32) -> u32
-    ensures answer { result ≡ answer pool.old.zone (λ z. ranged (is_block first order) (take_claimed_refusal z first order)) }
-    ensures zone { pool.new.zone ≡ left pool.old.zone (λ z. ranged (is_block first order) (take_claimed_refusal z first order)) (λ z. claimed_taken z first order) }
+    ensures call { IsCall (λ z. ranged (is_block first order) (take_claimed_refusal z first order)) (λ z. claimed_taken z first order) pool.old.zone pool.new.zone result }
     ensures taken { (z : ZoneState) → pool.new.zone ≡ Some z → result ≡ 0 → map.get z.handed_out first ≡ Some order }
 {
-    let Some(zone) = pool.zone() else {
-        return CLOSED;
-    };
-    let answer = zone.take_claimed(first, order);
-    numbered(answer)
+    let zone = open_zone!(pool);
+    numbered(zone.take_claimed(first, order))
 }
 
 /// Drops the claims of the frames of a run, which are free then. The latest round isn't quiet any more.
@@ -97,12 +78,8 @@ pub extern "C" fn compactd_take_claimed(pool: &mut Pool, first: u32, order: u32)
 /// Refused as RANGE where a number is out of its range or no block of this order can begin at the frame, or as CLOSED.
 #[unsafe(no_mangle)]
 pub extern "C" fn compactd_drop_claim(pool: &mut Pool, first: u32, order: u32) -> u32
-    ensures answer { result ≡ answer pool.old.zone (λ z. ranged (is_block first order) (drop_refusal z first order)) }
-    ensures zone { pool.new.zone ≡ left pool.old.zone (λ z. ranged (is_block first order) (drop_refusal z first order)) (run_dropped first (2 ^ order)) }
+    ensures call { IsCall (λ z. ranged (is_block first order) (drop_refusal z first order)) (run_dropped first (2 ^ order)) pool.old.zone pool.new.zone result }
 {
-    let Some(zone) = pool.zone() else {
-        return CLOSED;
-    };
-    let answer = zone.drop_claim(first, order);
-    numbered(answer)
+    let zone = open_zone!(pool);
+    numbered(zone.drop_claim(first, order))
 }

@@ -2,23 +2,22 @@
 
 ghost use Rattle.std.specs.Prelude.{◌≡◌, ◌&&◌, nat_lt, None, Some, unwrap_or, IsOk, IfOk, OnOk, OnErr};
 ghost use Rattle.std.specs.Result.{result_err};
-ghost use Rattle.compactd_c.specs.Answers.{answer, left, number_for};
-ghost use Rattle.compactd_c.specs.Asked.{address_of, is_address, is_client, is_order, ranged};
+ghost use Rattle.compactd_c.specs.Answers.{answer_of, number_for, IsCall, IsTold};
+ghost use Rattle.compactd_c.specs.Ranges.{address_of, is_address, is_client, is_order, ranged};
 ghost use Rattle.compactd_c.specs.Kinds.{IsPageSize};
 ghost use Rattle.state_core.specs.Access.{access_refusal, value_at, loaded, stored};
 ghost use Rattle.state_core.specs.Claiming.{with_apart};
 ghost use Rattle.state_core.specs.HandingOut.{lowest_run, take_order_refusal, give_order_refusal, block_taken, block_given};
 ghost use Rattle.state_core.specs.Mapping.{map_refusal, map_at_refusal, mapped};
 ghost use Rattle.state_core.specs.Marking.{mark_refusal, unmark_refusal, block_marked, block_unmarked};
-ghost use Rattle.compactd_c.specs.Sizes.{size_with, some_places};
+ghost use Rattle.compactd_c.specs.Sizes.{size_with, some_places, IsOpening};
 ghost use Rattle.state_core.specs.Opening.{IsAllowed, IsOpenable, IsSize, opened_sized, opened_unrecorded, opened_with, places_of as opened_places};
 ghost use Rattle.state_core.specs.Pinning.{pin_refusal, pinned, unpin_refusal, unpinned};
 ghost use Rattle.state_core.specs.Sharing.{share_refusal, shared};
 ghost use Rattle.state_core.specs.Unmapping.{unmap_refusal, unmapped};
-ghost use Rattle.state_core.specs.ZoneState.{ZoneState, frame_for};
+ghost use Rattle.state_core.specs.ZoneState.{frame_for};
 
-use crate::asked::Asked;
-use crate::calls::{CLOSED, done, framed, make, number, numbered, told};
+use crate::calls::{CLOSED, number, numbered, told};
 use crate::pool::Pool;
 use crate::zone::Zone;
 use state_core::{ZoneError, ZoneSize};
@@ -33,11 +32,7 @@ pub(crate) const OPEN: u32 = 52;
 /// Refused as OPEN where the pool is open, as RANGE where a number is out of its range, or as MEMORY where there isn't enough memory.
 #[unsafe(no_mangle)]
 pub extern "C" fn compactd_open(alloc: Global, pool: &mut Pool, page_words: u32, blocks: u32) -> u32
-    ensures open { ¬ (pool.old.zone ≡ None) → result ≡ 52 }
-    ensures range { pool.old.zone ≡ None → ¬ (IsPageSize page_words × IsSize blocks) → result ≡ 1 }
-    ensures memory { pool.old.zone ≡ None → IsPageSize page_words × IsSize blocks → ¬ (result ≡ 0) → result ≡ 14 }
-    ensures zone { result ≡ 0 → pool.new.zone ≡ Some (opened_unrecorded page_words 0 blocks) }
-    ensures kept { ¬ (result ≡ 0) → pool.new.zone ≡ pool.old.zone }
+    ensures { IsOpening (IsPageSize page_words × IsSize blocks) (λ zone. zone ≡ Some (opened_unrecorded page_words 0 blocks)) pool.old.zone pool.new.zone result }
 {
     if let Some(_) = pool.zone() {
         return OPEN;
@@ -64,11 +59,7 @@ pub extern "C" fn compactd_open_sized(
     vpages: u32,
     places: u32,
 ) -> u32
-    ensures open { ¬ (pool.old.zone ≡ None) → result ≡ 52 }
-    ensures range { pool.old.zone ≡ None → ¬ (IsPageSize page_words × IsAllowed (size_with blocks spaces vpages) (some_places places)) → result ≡ 1 }
-    ensures memory { pool.old.zone ≡ None → IsPageSize page_words × IsAllowed (size_with blocks spaces vpages) (some_places places) → ¬ (result ≡ 0) → result ≡ 14 }
-    ensures zone { result ≡ 0 → pool.new.zone ≡ Some (opened_sized page_words 0 (size_with blocks spaces vpages) (opened_places (some_places places))) }
-    ensures kept { ¬ (result ≡ 0) → pool.new.zone ≡ pool.old.zone }
+    ensures { IsOpening (IsPageSize page_words × IsAllowed (size_with blocks spaces vpages) (some_places places)) (λ zone. zone ≡ Some (opened_sized page_words 0 (size_with blocks spaces vpages) (opened_places (some_places places)))) pool.old.zone pool.new.zone result }
 {
     if let Some(_) = pool.zone() {
         return OPEN;
@@ -103,11 +94,7 @@ pub extern "C" fn compactd_open_journal(
     blocks: u32,
     places: u32,
 ) -> u32
-    ensures open { ¬ (pool.old.zone ≡ None) → result ≡ 52 }
-    ensures range { pool.old.zone ≡ None → ¬ (IsPageSize page_words × IsOpenable blocks places) → result ≡ 1 }
-    ensures memory { pool.old.zone ≡ None → IsPageSize page_words × IsOpenable blocks places → ¬ (result ≡ 0) → result ≡ 14 }
-    ensures zone { result ≡ 0 → pool.new.zone ≡ Some (opened_with page_words 0 blocks places) }
-    ensures kept { ¬ (result ≡ 0) → pool.new.zone ≡ pool.old.zone }
+    ensures { IsOpening (IsPageSize page_words × IsOpenable blocks places) (λ zone. zone ≡ Some (opened_with page_words 0 blocks places)) pool.old.zone pool.new.zone result }
 {
     if let Some(_) = pool.zone() {
         return OPEN;
@@ -141,7 +128,7 @@ fn opened(pool: &mut Pool, alloc: Global, zone: Result<Zone, ZoneError>) -> u32
 /// Refused as CLOSED.
 #[unsafe(no_mangle)]
 pub extern "C" fn compactd_close(alloc: Global, pool: &mut Pool) -> u32
-    ensures answer { result ≡ answer pool.old.zone (λ z. None) }
+    ensures answer { result ≡ answer_of pool.old.zone (λ z. None) }
     ensures zone { pool.new.zone ≡ None }
 {
     match pool.take(alloc) {
@@ -156,12 +143,9 @@ pub extern "C" fn compactd_close(alloc: Global, pool: &mut Pool) -> u32
 /// Refused as CLOSED.
 #[unsafe(no_mangle)]
 pub extern "C" fn compactd_set_apart(pool: &mut Pool, apart: bool) -> u32
-    ensures answer { result ≡ answer pool.old.zone (λ z. None) }
-    ensures zone { pool.new.zone ≡ left pool.old.zone (λ z. None) (λ z. with_apart z apart) }
+    ensures call { IsCall (λ z. None) (λ z. with_apart z apart) pool.old.zone pool.new.zone result }
 {
-    let Some(zone) = pool.zone() else {
-        return CLOSED;
-    };
+    let zone = open_zone!(pool);
     zone.set_apart(apart);
     0
 }
@@ -179,23 +163,11 @@ pub extern "C" fn compactd_map(
     unmovable: bool,
     frame: &mut u32,
 ) -> u32
-    ensures answer { result ≡ answer pool.old.zone (λ z. ranged (is_client client && is_address space vpage) (map_refusal z (address_of space vpage))) }
-    ensures zone { pool.new.zone ≡ left pool.old.zone (λ z. ranged (is_client client && is_address space vpage) (map_refusal z (address_of space vpage))) (λ z. mapped z client (address_of space vpage) unmovable (unwrap_or (frame_for z unmovable) 0)) }
-    ensures frame { (z : ZoneState) → pool.old.zone ≡ Some z → result ≡ 0 → frame.new ≡ unwrap_or (frame_for z unmovable) 0 }
-    ensures kept { ¬ (result ≡ 0) → frame.new ≡ frame.old }
+    ensures call { IsCall (λ z. ranged (is_client client && is_address space vpage) (map_refusal z (address_of space vpage))) (λ z. mapped z client (address_of space vpage) unmovable (unwrap_or (frame_for z unmovable) 0)) pool.old.zone pool.new.zone result }
+    ensures frame { IsTold (λ z frame. frame ≡ unwrap_or (frame_for z unmovable) 0) pool.old.zone result frame.old frame.new }
 {
-    framed(
-        make(
-            pool,
-            client,
-            Asked::Map {
-                space,
-                vpage,
-                unmovable,
-            },
-        ),
-        frame,
-    )
+    let zone = open_zone!(pool);
+    told(zone.map(client, space, vpage, unmovable), frame)
 }
 
 /// Makes an address name a fresh page in a given frame.
@@ -210,19 +182,10 @@ pub extern "C" fn compactd_map_at(
     unmovable: bool,
     frame: u32,
 ) -> u32
-    ensures answer { result ≡ answer pool.old.zone (λ z. ranged (is_client client && (is_address space vpage && nat_lt frame 16777216)) (map_at_refusal z (address_of space vpage) frame)) }
-    ensures zone { pool.new.zone ≡ left pool.old.zone (λ z. ranged (is_client client && (is_address space vpage && nat_lt frame 16777216)) (map_at_refusal z (address_of space vpage) frame)) (λ z. mapped z client (address_of space vpage) unmovable frame) }
+    ensures call { IsCall (λ z. ranged (is_client client && (is_address space vpage && nat_lt frame 16777216)) (map_at_refusal z (address_of space vpage) frame)) (λ z. mapped z client (address_of space vpage) unmovable frame) pool.old.zone pool.new.zone result }
 {
-    done(make(
-        pool,
-        client,
-        Asked::MapAt {
-            space,
-            vpage,
-            unmovable,
-            frame,
-        },
-    ))
+    let zone = open_zone!(pool);
+    numbered(zone.map_at(client, space, vpage, unmovable, frame))
 }
 
 /// Reads a word of the page that an address names.
@@ -237,16 +200,11 @@ pub extern "C" fn compactd_load(
     word: u32,
     value: &mut u64,
 ) -> u32
-    ensures answer { result ≡ answer pool.old.zone (λ z. ranged (is_client client && (is_address space vpage && nat_lt word z.page_size)) (access_refusal z (address_of space vpage))) }
-    ensures zone { pool.new.zone ≡ left pool.old.zone (λ z. ranged (is_client client && (is_address space vpage && nat_lt word z.page_size)) (access_refusal z (address_of space vpage))) (λ z. loaded z client (address_of space vpage) word) }
-    ensures value { (z : ZoneState) → pool.old.zone ≡ Some z → result ≡ 0 → value.new ≡ value_at z (address_of space vpage) word }
-    ensures kept { ¬ (result ≡ 0) → value.new ≡ value.old }
+    ensures call { IsCall (λ z. ranged (is_client client && (is_address space vpage && nat_lt word z.page_size)) (access_refusal z (address_of space vpage))) (λ z. loaded z client (address_of space vpage) word) pool.old.zone pool.new.zone result }
+    ensures value { IsTold (λ z value. value ≡ value_at z (address_of space vpage) word) pool.old.zone result value.old value.new }
 {
-    let Some(zone) = pool.zone() else {
-        return CLOSED;
-    };
-    let answer = zone.load(client, space, vpage, word);
-    told(answer, value)
+    let zone = open_zone!(pool);
+    told(zone.load(client, space, vpage, word), value)
 }
 
 /// Writes a word of the page that an address names.
@@ -261,14 +219,10 @@ pub extern "C" fn compactd_store(
     word: u32,
     value: u64,
 ) -> u32
-    ensures answer { result ≡ answer pool.old.zone (λ z. ranged (is_client client && (is_address space vpage && nat_lt word z.page_size)) (access_refusal z (address_of space vpage))) }
-    ensures zone { pool.new.zone ≡ left pool.old.zone (λ z. ranged (is_client client && (is_address space vpage && nat_lt word z.page_size)) (access_refusal z (address_of space vpage))) (λ z. stored z client (address_of space vpage) word value) }
+    ensures call { IsCall (λ z. ranged (is_client client && (is_address space vpage && nat_lt word z.page_size)) (access_refusal z (address_of space vpage))) (λ z. stored z client (address_of space vpage) word value) pool.old.zone pool.new.zone result }
 {
-    let Some(zone) = pool.zone() else {
-        return CLOSED;
-    };
-    let answer = zone.store(client, space, vpage, word, value);
-    numbered(answer)
+    let zone = open_zone!(pool);
+    numbered(zone.store(client, space, vpage, word, value))
 }
 
 /// Makes an alias name the page of an address too. A page has at most 4 addresses.
@@ -283,19 +237,10 @@ pub extern "C" fn compactd_share(
     alias_space: u32,
     alias_vpage: u32,
 ) -> u32
-    ensures answer { result ≡ answer pool.old.zone (λ z. ranged (is_client client && (is_address space vpage && is_address alias_space alias_vpage)) (share_refusal z (address_of space vpage) (address_of alias_space alias_vpage))) }
-    ensures zone { pool.new.zone ≡ left pool.old.zone (λ z. ranged (is_client client && (is_address space vpage && is_address alias_space alias_vpage)) (share_refusal z (address_of space vpage) (address_of alias_space alias_vpage))) (λ z. shared z client (address_of space vpage) (address_of alias_space alias_vpage)) }
+    ensures call { IsCall (λ z. ranged (is_client client && (is_address space vpage && is_address alias_space alias_vpage)) (share_refusal z (address_of space vpage) (address_of alias_space alias_vpage))) (λ z. shared z client (address_of space vpage) (address_of alias_space alias_vpage)) pool.old.zone pool.new.zone result }
 {
-    done(make(
-        pool,
-        client,
-        Asked::Share {
-            space,
-            vpage,
-            alias_space,
-            alias_vpage,
-        },
-    ))
+    let zone = open_zone!(pool);
+    numbered(zone.share(client, space, vpage, alias_space, alias_vpage))
 }
 
 /// Makes an address name no page any more.
@@ -303,10 +248,10 @@ pub extern "C" fn compactd_share(
 /// Refused as CLOSED, RANGE, JOURNAL_FULL, UNMAPPED, MOVING or PINNED.
 #[unsafe(no_mangle)]
 pub extern "C" fn compactd_unmap(pool: &mut Pool, client: u32, space: u32, vpage: u32) -> u32
-    ensures answer { result ≡ answer pool.old.zone (λ z. ranged (is_client client && is_address space vpage) (unmap_refusal z (address_of space vpage))) }
-    ensures zone { pool.new.zone ≡ left pool.old.zone (λ z. ranged (is_client client && is_address space vpage) (unmap_refusal z (address_of space vpage))) (λ z. unmapped z client (address_of space vpage)) }
+    ensures call { IsCall (λ z. ranged (is_client client && is_address space vpage) (unmap_refusal z (address_of space vpage))) (λ z. unmapped z client (address_of space vpage)) pool.old.zone pool.new.zone result }
 {
-    done(make(pool, client, Asked::Unmap { space, vpage }))
+    let zone = open_zone!(pool);
+    numbered(zone.unmap(client, space, vpage))
 }
 
 /// Pins the page that an address names. No round moves it until each of its pins is taken off.
@@ -314,10 +259,10 @@ pub extern "C" fn compactd_unmap(pool: &mut Pool, client: u32, space: u32, vpage
 /// Refused as CLOSED, RANGE, JOURNAL_FULL, UNMAPPED or PIN_FULL.
 #[unsafe(no_mangle)]
 pub extern "C" fn compactd_pin(pool: &mut Pool, client: u32, space: u32, vpage: u32) -> u32
-    ensures answer { result ≡ answer pool.old.zone (λ z. ranged (is_client client && is_address space vpage) (pin_refusal z (address_of space vpage))) }
-    ensures zone { pool.new.zone ≡ left pool.old.zone (λ z. ranged (is_client client && is_address space vpage) (pin_refusal z (address_of space vpage))) (λ z. pinned z client (address_of space vpage)) }
+    ensures call { IsCall (λ z. ranged (is_client client && is_address space vpage) (pin_refusal z (address_of space vpage))) (λ z. pinned z client (address_of space vpage)) pool.old.zone pool.new.zone result }
 {
-    done(make(pool, client, Asked::Pin { space, vpage }))
+    let zone = open_zone!(pool);
+    numbered(zone.pin(client, space, vpage))
 }
 
 /// Takes a pin off the page that an address names.
@@ -325,10 +270,10 @@ pub extern "C" fn compactd_pin(pool: &mut Pool, client: u32, space: u32, vpage: 
 /// Refused as CLOSED, RANGE, JOURNAL_FULL, UNMAPPED or NOT_PINNED.
 #[unsafe(no_mangle)]
 pub extern "C" fn compactd_unpin(pool: &mut Pool, client: u32, space: u32, vpage: u32) -> u32
-    ensures answer { result ≡ answer pool.old.zone (λ z. ranged (is_client client && is_address space vpage) (unpin_refusal z (address_of space vpage))) }
-    ensures zone { pool.new.zone ≡ left pool.old.zone (λ z. ranged (is_client client && is_address space vpage) (unpin_refusal z (address_of space vpage))) (λ z. unpinned z client (address_of space vpage)) }
+    ensures call { IsCall (λ z. ranged (is_client client && is_address space vpage) (unpin_refusal z (address_of space vpage))) (λ z. unpinned z client (address_of space vpage)) pool.old.zone pool.new.zone result }
 {
-    done(make(pool, client, Asked::Unpin { space, vpage }))
+    let zone = open_zone!(pool);
+    numbered(zone.unpin(client, space, vpage))
 }
 
 /// Hands out the lowest free block of an order, 3 to 9, and tells its first frame.
@@ -336,12 +281,11 @@ pub extern "C" fn compactd_unpin(pool: &mut Pool, client: u32, space: u32, vpage
 /// Refused as CLOSED, RANGE, JOURNAL_FULL or NO_BLOCK.
 #[unsafe(no_mangle)]
 pub extern "C" fn compactd_take_order(pool: &mut Pool, order: u32, first: &mut u32) -> u32
-    ensures answer { result ≡ answer pool.old.zone (λ z. ranged (is_order order) (take_order_refusal z order)) }
-    ensures zone { pool.new.zone ≡ left pool.old.zone (λ z. ranged (is_order order) (take_order_refusal z order)) (λ z. block_taken z (unwrap_or (lowest_run z order) 0) order) }
-    ensures first { (z : ZoneState) → pool.old.zone ≡ Some z → result ≡ 0 → first.new ≡ unwrap_or (lowest_run z order) 0 }
-    ensures kept { ¬ (result ≡ 0) → first.new ≡ first.old }
+    ensures call { IsCall (λ z. ranged (is_order order) (take_order_refusal z order)) (λ z. block_taken z (unwrap_or (lowest_run z order) 0) order) pool.old.zone pool.new.zone result }
+    ensures first { IsTold (λ z first. first ≡ unwrap_or (lowest_run z order) 0) pool.old.zone result first.old first.new }
 {
-    framed(make(pool, 0, Asked::TakeOrder { order }), first)
+    let zone = open_zone!(pool);
+    told(zone.take_order(order), first)
 }
 
 /// Takes back a block that was handed out, by its first frame and its order.
@@ -349,10 +293,10 @@ pub extern "C" fn compactd_take_order(pool: &mut Pool, order: u32, first: &mut u
 /// Refused as CLOSED, RANGE, JOURNAL_FULL or NOT_HUGE.
 #[unsafe(no_mangle)]
 pub extern "C" fn compactd_give_order(pool: &mut Pool, first: u32, order: u32) -> u32
-    ensures answer { result ≡ answer pool.old.zone (λ z. ranged (nat_lt first 16777216 && is_order order) (give_order_refusal z first order)) }
-    ensures zone { pool.new.zone ≡ left pool.old.zone (λ z. ranged (nat_lt first 16777216 && is_order order) (give_order_refusal z first order)) (λ z. block_given z first order) }
+    ensures call { IsCall (λ z. ranged (nat_lt first 16777216 && is_order order) (give_order_refusal z first order)) (λ z. block_given z first order) pool.old.zone pool.new.zone result }
 {
-    done(make(pool, 0, Asked::GiveOrder { first, order }))
+    let zone = open_zone!(pool);
+    numbered(zone.give_order(first, order))
 }
 
 /// Marks a pageblock: rounds take no frame of it.
@@ -360,10 +304,10 @@ pub extern "C" fn compactd_give_order(pool: &mut Pool, first: u32, order: u32) -
 /// Refused as CLOSED, RANGE, JOURNAL_FULL or MARKED.
 #[unsafe(no_mangle)]
 pub extern "C" fn compactd_mark(pool: &mut Pool, block: u32) -> u32
-    ensures answer { result ≡ answer pool.old.zone (λ z. ranged (nat_lt block 32768) (mark_refusal z block)) }
-    ensures zone { pool.new.zone ≡ left pool.old.zone (λ z. ranged (nat_lt block 32768) (mark_refusal z block)) (λ z. block_marked z block) }
+    ensures call { IsCall (λ z. ranged (nat_lt block 32768) (mark_refusal z block)) (λ z. block_marked z block) pool.old.zone pool.new.zone result }
 {
-    done(make(pool, 0, Asked::Mark { block }))
+    let zone = open_zone!(pool);
+    numbered(zone.mark(block))
 }
 
 /// Takes the mark of a pageblock off.
@@ -371,8 +315,8 @@ pub extern "C" fn compactd_mark(pool: &mut Pool, block: u32) -> u32
 /// Refused as CLOSED, RANGE, JOURNAL_FULL or NOT_MARKED.
 #[unsafe(no_mangle)]
 pub extern "C" fn compactd_unmark(pool: &mut Pool, block: u32) -> u32
-    ensures answer { result ≡ answer pool.old.zone (λ z. ranged (nat_lt block 32768) (unmark_refusal z block)) }
-    ensures zone { pool.new.zone ≡ left pool.old.zone (λ z. ranged (nat_lt block 32768) (unmark_refusal z block)) (λ z. block_unmarked z block) }
+    ensures call { IsCall (λ z. ranged (nat_lt block 32768) (unmark_refusal z block)) (λ z. block_unmarked z block) pool.old.zone pool.new.zone result }
 {
-    done(make(pool, 0, Asked::Unmark { block }))
+    let zone = open_zone!(pool);
+    numbered(zone.unmark(block))
 }

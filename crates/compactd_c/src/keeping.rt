@@ -3,8 +3,8 @@
 
 ghost use Rattle.std.specs.Prelude.{◌≡◌, ◌/◌, ◌^◌, ◌≤◌, ◌∷◌, [], length, IsTrue, None, Some, IfOk, OnErr};
 ghost use Rattle.std.specs.Result.{result_err};
-ghost use Rattle.compactd_c.specs.Answers.{answer};
-ghost use Rattle.compactd_c.specs.Asked.{is_order, ranged};
+ghost use Rattle.compactd_c.specs.Answers.{answer_of};
+ghost use Rattle.compactd_c.specs.Ranges.{is_order, ranged};
 ghost use Rattle.compactd_c.specs.Keepers.{are_frames, cheapest_refusal, has_more, is_keeper, keeper_of, moved_by, IsStep};
 ghost use Rattle.fewest_core.specs.Claims.{claim_refusal};
 ghost use Rattle.fewest_core.specs.FewestMoves.{cost, least};
@@ -12,7 +12,7 @@ ghost use Rattle.fewest_core.specs.Reservation.{ArePicked};
 ghost use Rattle.keeper_core.specs.Keeping.{keep_refusal, take_refusal, IsKept, IsTaken};
 ghost use Rattle.state_core.specs.ZoneState.{ZoneState};
 
-use crate::calls::{CLOSED, number};
+use crate::calls::number;
 use crate::pool::Pool;
 use crate::reserving::write_numbers;
 use crate::zone::Zone;
@@ -31,7 +31,7 @@ pub extern "C" fn compactd_cheapest_run(
     first: &mut u32,
     pages: &mut u32,
 ) -> u32
-    ensures answer { result ≡ answer pool.old.zone (λ z. ranged (is_order order) (cheapest_refusal z order)) }
+    ensures answer { result ≡ answer_of pool.old.zone (λ z. ranged (is_order order) (cheapest_refusal z order)) }
     ensures zone { pool.new.zone ≡ pool.old.zone }
     ensures picked { (z : ZoneState) → pool.old.zone ≡ Some z → result ≡ 0 → ArePicked z order (first.new ∷ []) }
     ensures pages { (z : ZoneState) → pool.old.zone ≡ Some z → result ≡ 0 → pages.new ≡ cost z (2 ^ order) (first.new / 2 ^ order) }
@@ -40,9 +40,7 @@ pub extern "C" fn compactd_cheapest_run(
     ensures claim { (z : ZoneState) → pool.old.zone ≡ Some z → result ≡ 0 → claim_refusal z first.new order ≡ None }
     ensures kept { ¬ (result ≡ 0) → (first.new ≡ first.old) × (pages.new ≡ pages.old) }
 {
-    let Some(zone) = pool.zone() else {
-        return CLOSED;
-    };
+    let zone = open_zone!(pool);
     match zone.cheapest_run(order) {
         Ok(run) => {
             *first = run.first.get();
@@ -71,7 +69,7 @@ pub extern "C" fn compactd_keep(
     moved: &mut u32,
     more: &mut bool,
 ) -> u32
-    ensures answer { ¬ (result ≡ 14) → result ≡ answer pool.old.zone (λ z. ranged (is_keeper order firsts.old count.old) (keep_refusal (keeper_of order firsts.old count.old) z most)) }
+    ensures answer { ¬ (result ≡ 14) → result ≡ answer_of pool.old.zone (λ z. ranged (is_keeper order firsts.old count.old) (keep_refusal (keeper_of order firsts.old count.old) z most)) }
     ensures memory { result ≡ 14 → ¬ (pool.old.zone ≡ None) × IsTrue (is_keeper order firsts.old count.old) }
     ensures step { (old new : ZoneState) → pool.old.zone ≡ Some old → pool.new.zone ≡ Some new → result ≡ 0 → IsStep (keeper_of order firsts.old count.old) old most (keeper_of order firsts.new count.new) new moved.new more.new }
     ensures open { result ≡ 0 → ¬ (pool.new.zone ≡ None) }
@@ -79,9 +77,7 @@ pub extern "C" fn compactd_keep(
     ensures places { length firsts.new ≡ length firsts.old }
     ensures kept { ¬ (result ≡ 0) → (pool.new.zone ≡ pool.old.zone) × (firsts.new ≡ firsts.old) × (count.new ≡ count.old) × (moved.new ≡ moved.old) × (more.new ≡ more.old) }
 {
-    let Some(zone) = pool.zone() else {
-        return CLOSED;
-    };
+    let zone = open_zone!(pool);
     match keep(alloc, zone, order, most, firsts, count) {
         Ok(step) => {
             *moved = moved_by(&step);
@@ -107,7 +103,7 @@ pub extern "C" fn compactd_take_kept(
     first: &mut u32,
     moved: &mut u32,
 ) -> u32
-    ensures answer { ¬ (result ≡ 14) → result ≡ answer pool.old.zone (λ z. ranged (is_keeper order firsts.old count.old) (take_refusal (keeper_of order firsts.old count.old) z)) }
+    ensures answer { ¬ (result ≡ 14) → result ≡ answer_of pool.old.zone (λ z. ranged (is_keeper order firsts.old count.old) (take_refusal (keeper_of order firsts.old count.old) z)) }
     ensures memory { result ≡ 14 → ¬ (pool.old.zone ≡ None) × IsTrue (is_keeper order firsts.old count.old) }
     ensures taken { (old new : ZoneState) → pool.old.zone ≡ Some old → pool.new.zone ≡ Some new → result ≡ 0 → IsTaken (keeper_of order firsts.old count.old) old (record { first = first.new; pages = moved.new }) (keeper_of order firsts.new count.new) new }
     ensures open { result ≡ 0 → ¬ (pool.new.zone ≡ None) }
@@ -115,9 +111,7 @@ pub extern "C" fn compactd_take_kept(
     ensures places { length firsts.new ≡ length firsts.old }
     ensures kept { ¬ (result ≡ 0) → (pool.new.zone ≡ pool.old.zone) × (firsts.new ≡ firsts.old) × (count.new ≡ count.old) × (first.new ≡ first.old) × (moved.new ≡ moved.old) }
 {
-    let Some(zone) = pool.zone() else {
-        return CLOSED;
-    };
+    let zone = open_zone!(pool);
     match take_kept(alloc, zone, order, firsts, count) {
         Ok(taken) => {
             *first = taken.first.get();

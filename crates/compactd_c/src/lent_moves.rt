@@ -2,8 +2,8 @@
 //! back.
 
 ghost use Rattle.std.specs.Prelude.{◌≡◌, ◌↔◌, ◌^◌, ◌<◌, true, length, IsTrue, None, Some, IfNone, IfSome, OnSome};
-ghost use Rattle.compactd_c.specs.Answers.{left};
-ghost use Rattle.compactd_c.specs.LentMoves.{end_move_refusal, lend_move_number, move_of, send_number, send_refused, HasItsWords, HasNone, HasNumbers, Holds, IsBroughtBack, IsCopied};
+ghost use Rattle.compactd_c.specs.Answers.{left, IsTold};
+ghost use Rattle.compactd_c.specs.LentMoves.{end_move_refusal, lend_move_number, move_of, send_number, send_refused, HasItsWords, HasNone, HasCopied, HasNumbers, Holds, IsBroughtBack};
 ghost use Rattle.fewest_core.specs.Sending.{next_move_from, next_sent, sent_committed};
 ghost use Rattle.frame_core.specs.Moves.{out};
 ghost use Rattle.state_core.specs.Claiming.{is_claimed};
@@ -14,7 +14,7 @@ ghost use Rattle.state_core.specs.Pairs.{HaveMet, next_pair};
 ghost use Rattle.state_core.specs.ZoneState.{ZoneState, is_quiet};
 ghost use Rattle.zone_core.specs.LentMoves.{LendsNext, SendsNext};
 
-use crate::calls::{CLOSED, MET, number, told};
+use crate::calls::{MET, number, numbered, told};
 use crate::memory::taken;
 use crate::pool::Pool;
 use row_core::{HeldWords, Row};
@@ -108,9 +108,7 @@ pub extern "C" fn compactd_lend_move(pool: &mut Pool, lent: &mut HeldMove) -> u3
     ensures packed { (z : ZoneState) → pool.new.zone ≡ Some z → result ≡ 53 → is_quiet z ≡ true → length (out z.records) ≡ 0 → IsPacked z }
     ensures kept { ¬ (result ≡ 0) → lent.new ≡ lent.old }
 {
-    let Some(zone) = pool.zone() else {
-        return CLOSED;
-    };
+    let zone = open_zone!(pool);
     match zone.lend_move() {
         Ok(Some(held)) => {
             *lent = held;
@@ -140,9 +138,7 @@ pub extern "C" fn compactd_lend_move_from(
     ensures lent { (z z_new : ZoneState) → pool.old.zone ≡ Some z → pool.new.zone ≡ Some z_new → result ≡ 0 → Holds (SendsNext first (2 ^ order) z z_new) (Some lent.new) }
     ensures kept { ¬ (result ≡ 0) → lent.new ≡ lent.old }
 {
-    let Some(zone) = pool.zone() else {
-        return CLOSED;
-    };
+    let zone = open_zone!(pool);
     match zone.lend_move_from(first, order) {
         Ok(Some(held)) => {
             *lent = held;
@@ -164,15 +160,11 @@ pub extern "C" fn compactd_commit_lent(
     lent: &mut HeldMove,
     moved: &mut bool,
 ) -> u32
-    requires copied { IsCopied lent.old }
-    requires rows { (z : ZoneState) → pool.old.zone ≡ Some z → HasItsWords lent.old z }
+    requires { HasCopied lent.old pool.old.zone }
     ensures back { IsBroughtBack lent_committed pool.old.zone pool.new.zone lent.old lent.new result }
-    ensures moved { (z : ZoneState) → pool.old.zone ≡ Some z → result ≡ 0 → IsTrue moved.new ↔ (ended_as z lent.old.page ≡ Ended.Moved) }
-    ensures kept { ¬ (result ≡ 0) → moved.new ≡ moved.old }
+    ensures moved { IsTold (λ z moved. IsTrue moved ↔ (ended_as z lent.old.page ≡ Ended.Moved)) pool.old.zone result moved.old moved.new }
 {
-    let Some(zone) = pool.zone() else {
-        return CLOSED;
-    };
+    let zone = open_zone!(pool);
     let ended = zone.commit_lent(lent);
     told(ended.map(|ended| ended == Ended::Moved), moved)
 }
@@ -188,16 +180,12 @@ pub extern "C" fn compactd_commit_and_claim(
     lent: &mut HeldMove,
     moved: &mut bool,
 ) -> u32
-    requires copied { IsCopied lent.old }
-    requires rows { (z : ZoneState) → pool.old.zone ≡ Some z → HasItsWords lent.old z }
+    requires { HasCopied lent.old pool.old.zone }
     ensures back { IsBroughtBack sent_committed pool.old.zone pool.new.zone lent.old lent.new result }
-    ensures moved { (z : ZoneState) → pool.old.zone ≡ Some z → result ≡ 0 → IsTrue moved.new ↔ (ended_as z lent.old.page ≡ Ended.Moved) }
+    ensures moved { IsTold (λ z moved. IsTrue moved ↔ (ended_as z lent.old.page ≡ Ended.Moved)) pool.old.zone result moved.old moved.new }
     ensures claimed { (z : ZoneState) → pool.new.zone ≡ Some z → result ≡ 0 → moved.new ≡ true → is_claimed z lent.old.source ≡ true }
-    ensures kept { ¬ (result ≡ 0) → moved.new ≡ moved.old }
 {
-    let Some(zone) = pool.zone() else {
-        return CLOSED;
-    };
+    let zone = open_zone!(pool);
     let ended = zone.commit_and_claim(lent);
     told(ended.map(|ended| ended == Ended::Moved), moved)
 }
@@ -210,11 +198,6 @@ pub extern "C" fn compactd_put_back_lent(pool: &mut Pool, lent: &mut HeldMove) -
     requires rows { (z : ZoneState) → pool.old.zone ≡ Some z → HasItsWords lent.old z }
     ensures back { IsBroughtBack lent_put_back pool.old.zone pool.new.zone lent.old lent.new result }
 {
-    let Some(zone) = pool.zone() else {
-        return CLOSED;
-    };
-    match zone.put_back_lent(lent) {
-        Ok(()) => 0,
-        Err(error) => number(error),
-    }
+    let zone = open_zone!(pool);
+    numbered(zone.put_back_lent(lent))
 }

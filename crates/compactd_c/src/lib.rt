@@ -6,7 +6,16 @@
 //! nothing for that one.
 #![tactic(auto)]
 
-mod asked;
+/// The zone of an open pool. The call ends with its number where the pool is closed.
+macro_rules! open_zone {
+    ($pool:expr) => {
+        match $pool.zone() {
+            Some(zone) => zone,
+            None => return crate::calls::CLOSED,
+        }
+    };
+}
+
 mod batches;
 mod bulk;
 mod calls;
@@ -21,6 +30,7 @@ mod looking;
 mod memory;
 mod moving;
 mod pool;
+mod ranges;
 mod records;
 mod reserving;
 mod rounds;

@@ -1,16 +1,16 @@
 //! What C calls to be told something. No call here changes the zone.
 
 ghost use Rattle.std.specs.Prelude.{◌≡◌, ◌+◌, ◌&&◌, nat_lt, None, Some};
-ghost use Rattle.compactd_c.specs.Answers.{answer};
-ghost use Rattle.compactd_c.specs.Asked.{address_of, is_address, ranged};
+ghost use Rattle.compactd_c.specs.Answers.{IsAsked};
+ghost use Rattle.compactd_c.specs.Ranges.{address_of, is_address, ranged};
 ghost use Rattle.compactd_c.specs.Looks.{look_refusal, audit_refusal};
-ghost use Rattle.compactd_c.specs.Told.{counts_of, geometry_of, page_info_of, reserved};
-ghost use Rattle.frame_core.specs.Moves.{isolated, moved, put_back};
+ghost use Rattle.compactd_c.specs.Told.{counts_of, geometry_of, page_info_of, reserved, AreMoves};
+ghost use Rattle.frame_core.specs.Moves.{moved, put_back};
 ghost use Rattle.state_core.specs.Looking.{look_of, info_of};
 ghost use Rattle.state_core.specs.Marking.{marked_of};
-ghost use Rattle.state_core.specs.ZoneState.{ZoneState, is_quiet};
+ghost use Rattle.state_core.specs.ZoneState.{is_quiet};
 
-use crate::calls::{CLOSED, told};
+use crate::calls::told;
 use crate::pool::Pool;
 use bitflags::Flags;
 use state_core::{Audit, Info, Look};
@@ -89,14 +89,9 @@ pub struct RoundCounts {
 /// Refused as CLOSED.
 #[unsafe(no_mangle)]
 pub extern "C" fn compactd_info(pool: &mut Pool, counts: &mut Counts) -> u32
-    ensures answer { result ≡ answer pool.old.zone (λ z. None) }
-    ensures zone { pool.new.zone ≡ pool.old.zone }
-    ensures counts { (z : ZoneState) → pool.old.zone ≡ Some z → counts.new ≡ counts_of (info_of z) }
-    ensures kept { ¬ (result ≡ 0) → counts.new ≡ counts.old }
+    ensures { IsAsked (λ z. None) (λ z counts. counts ≡ counts_of (info_of z)) pool.old.zone pool.new.zone result counts.old counts.new }
 {
-    let Some(zone) = pool.zone() else {
-        return CLOSED;
-    };
+    let zone = open_zone!(pool);
     *counts = counts_in(zone.info());
     0
 }
@@ -120,14 +115,9 @@ fn counts_in(info: Info) -> Counts
 /// Refused as CLOSED.
 #[unsafe(no_mangle)]
 pub extern "C" fn compactd_describe(pool: &mut Pool, geometry: &mut Geometry) -> u32
-    ensures answer { result ≡ answer pool.old.zone (λ z. None) }
-    ensures zone { pool.new.zone ≡ pool.old.zone }
-    ensures geometry { (z : ZoneState) → pool.old.zone ≡ Some z → geometry.new ≡ geometry_of z }
-    ensures kept { ¬ (result ≡ 0) → geometry.new ≡ geometry.old }
+    ensures { IsAsked (λ z. None) (λ z geometry. geometry ≡ geometry_of z) pool.old.zone pool.new.zone result geometry.old geometry.new }
 {
-    let Some(zone) = pool.zone() else {
-        return CLOSED;
-    };
+    let zone = open_zone!(pool);
     *geometry = zone.geometry();
     0
 }
@@ -138,14 +128,9 @@ pub extern "C" fn compactd_describe(pool: &mut Pool, geometry: &mut Geometry) ->
 /// Refused as CLOSED.
 #[unsafe(no_mangle)]
 pub extern "C" fn compactd_quiet(pool: &mut Pool, quiet: &mut bool) -> u32
-    ensures answer { result ≡ answer pool.old.zone (λ z. None) }
-    ensures zone { pool.new.zone ≡ pool.old.zone }
-    ensures quiet { (z : ZoneState) → pool.old.zone ≡ Some z → quiet.new ≡ is_quiet z }
-    ensures kept { ¬ (result ≡ 0) → quiet.new ≡ quiet.old }
+    ensures { IsAsked (λ z. None) (λ z quiet. quiet ≡ is_quiet z) pool.old.zone pool.new.zone result quiet.old quiet.new }
 {
-    let Some(zone) = pool.zone() else {
-        return CLOSED;
-    };
+    let zone = open_zone!(pool);
     *quiet = zone.quiet();
     0
 }
@@ -155,16 +140,10 @@ pub extern "C" fn compactd_quiet(pool: &mut Pool, quiet: &mut bool) -> u32
 /// Refused as RANGE where the zone has no such pageblock, or as CLOSED.
 #[unsafe(no_mangle)]
 pub extern "C" fn compactd_marked(pool: &mut Pool, block: u32, marked: &mut bool) -> u32
-    ensures answer { result ≡ answer pool.old.zone (λ z. ranged (nat_lt block 32768 && nat_lt block z.blocks) None) }
-    ensures zone { pool.new.zone ≡ pool.old.zone }
-    ensures marked { (z : ZoneState) → pool.old.zone ≡ Some z → result ≡ 0 → marked_of z block ≡ Some marked.new }
-    ensures kept { ¬ (result ≡ 0) → marked.new ≡ marked.old }
+    ensures { IsAsked (λ z. ranged (nat_lt block 32768 && nat_lt block z.blocks) None) (λ z marked. marked_of z block ≡ Some marked) pool.old.zone pool.new.zone result marked.old marked.new }
 {
-    let Some(zone) = pool.zone() else {
-        return CLOSED;
-    };
-    let answer = zone.marked(block);
-    told(answer, marked)
+    let zone = open_zone!(pool);
+    told(zone.marked(block), marked)
 }
 
 /// Tells what is known of the page that an address names.
@@ -172,16 +151,10 @@ pub extern "C" fn compactd_marked(pool: &mut Pool, block: u32, marked: &mut bool
 /// Refused as RANGE where a number is out of its range, as UNMAPPED where the address names no page, or as CLOSED.
 #[unsafe(no_mangle)]
 pub extern "C" fn compactd_look(pool: &mut Pool, space: u32, vpage: u32, info: &mut PageInfo) -> u32
-    ensures answer { result ≡ answer pool.old.zone (λ z. ranged (is_address space vpage) (look_refusal z (address_of space vpage))) }
-    ensures zone { pool.new.zone ≡ pool.old.zone }
-    ensures info { (z : ZoneState) → pool.old.zone ≡ Some z → result ≡ 0 → page_info_of (look_of z (address_of space vpage)) ≡ Some info.new }
-    ensures kept { ¬ (result ≡ 0) → info.new ≡ info.old }
+    ensures { IsAsked (λ z. ranged (is_address space vpage) (look_refusal z (address_of space vpage))) (λ z info. page_info_of (look_of z (address_of space vpage)) ≡ Some info) pool.old.zone pool.new.zone result info.old info.new }
 {
-    let Some(zone) = pool.zone() else {
-        return CLOSED;
-    };
-    let answer = zone.look(space, vpage);
-    told(answer.map(page_info_in), info)
+    let zone = open_zone!(pool);
+    told(zone.look(space, vpage).map(page_info_in), info)
 }
 
 fn page_info_in(look: Look) -> PageInfo
@@ -219,14 +192,9 @@ fn page_info_in(look: Look) -> PageInfo
 /// Refused as CLOSED.
 #[unsafe(no_mangle)]
 pub extern "C" fn compactd_ended(pool: &mut Pool, ended: &mut u64) -> u32
-    ensures answer { result ≡ answer pool.old.zone (λ z. None) }
-    ensures zone { pool.new.zone ≡ pool.old.zone }
-    ensures ended { (z : ZoneState) → pool.old.zone ≡ Some z → ended.new ≡ moved z.records + put_back z.records }
-    ensures kept { ¬ (result ≡ 0) → ended.new ≡ ended.old }
+    ensures { IsAsked (λ z. None) (λ z ended. ended ≡ moved z.records + put_back z.records) pool.old.zone pool.new.zone result ended.old ended.new }
 {
-    let Some(zone) = pool.zone() else {
-        return CLOSED;
-    };
+    let zone = open_zone!(pool);
     *ended = zone.ended();
     0
 }
@@ -236,27 +204,14 @@ pub extern "C" fn compactd_ended(pool: &mut Pool, ended: &mut u64) -> u32
 /// Refused as OUT while a page is moving, or as CLOSED.
 #[unsafe(no_mangle)]
 pub extern "C" fn compactd_audit(pool: &mut Pool, counts: &mut RoundCounts) -> u32
-    ensures answer { result ≡ answer pool.old.zone audit_refusal }
-    ensures zone { pool.new.zone ≡ pool.old.zone }
-    ensures isolated { (z : ZoneState) → pool.old.zone ≡ Some z → result ≡ 0 → counts.new.isolated ≡ isolated z.records }
-    ensures moved { (z : ZoneState) → pool.old.zone ≡ Some z → result ≡ 0 → counts.new.moved ≡ moved z.records }
-    ensures back { (z : ZoneState) → pool.old.zone ≡ Some z → result ≡ 0 → counts.new.back ≡ put_back z.records }
-    ensures sum { result ≡ 0 → counts.new.moved + counts.new.back ≡ counts.new.isolated }
-    ensures reserved { result ≡ 0 → counts.new.reserved ≡ reserved }
-    ensures kept { ¬ (result ≡ 0) → counts.new ≡ counts.old }
+    ensures { IsAsked audit_refusal AreMoves pool.old.zone pool.new.zone result counts.old counts.new }
 {
-    let Some(zone) = pool.zone() else {
-        return CLOSED;
-    };
-    let answer = zone.audit();
-    told(answer.map(round_counts_in), counts)
+    let zone = open_zone!(pool);
+    told(zone.audit().map(round_counts_in), counts)
 }
 
 fn round_counts_in(audit: Audit) -> RoundCounts
-    ensures isolated { result.isolated ≡ audit.isolated }
-    ensures moved { result.moved ≡ audit.moved }
-    ensures back { result.back ≡ audit.back }
-    ensures reserved { result.reserved ≡ reserved }
+    ensures { result ≡ record { isolated = audit.isolated; moved = audit.moved; back = audit.back; reserved = reserved } }
 {
     RoundCounts {
         isolated: audit.isolated,

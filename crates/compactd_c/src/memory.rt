@@ -1,20 +1,20 @@
 //! What C calls for a pool in memory of its own, and to have the words of a block by a pointer.
 
-ghost use Rattle.std.specs.Prelude.{◌≡◌, ◌<◌, ◌*◌, length, replicate, None, Some, IsTrue, IfErr, IfOk, IfSome};
+ghost use Rattle.std.specs.Prelude.{◌≡◌, ◌<◌, ◌*◌, length, replicate, None, Some, IsTrue, IfErr, IfOk, IfSome, OnErr, OnOk};
 ghost use Rattle.std.specs.FinSet as set;
 ghost use Rattle.std.specs.Option.{option_map};
-ghost use Rattle.compactd_c.specs.Answers.{answer, left};
-ghost use Rattle.compactd_c.specs.Kinds.{IsPageSize};
-ghost use Rattle.compactd_c.specs.Memory.{back_refusal, block_refusal, end_refusal, page_back_refusal, page_words_refusal, words_in, IsOpenableIn};
-ghost use Rattle.compactd_c.specs.Sizes.{size_with, some_places};
-ghost use Rattle.compactd_c.specs.Asked.{address_of};
+ghost use Rattle.std.specs.Result.{result_err, result_ok};
+ghost use Rattle.compactd_c.specs.Answers.{answer_of, number_for, IsCall};
+ghost use Rattle.compactd_c.specs.Memory.{back_refusal, block_refusal, end_refusal, page_back_refusal, page_words_refusal, words_in, AreLent, AreTaken, IsOpenableIn};
+ghost use Rattle.compactd_c.specs.Sizes.{size_with, some_places, IsOpening};
+ghost use Rattle.compactd_c.specs.Ranges.{address_of};
 ghost use Rattle.state_core.specs.Bulk.{values_at};
 ghost use Rattle.state_core.specs.Contents.{contents_of};
 ghost use Rattle.state_core.specs.Lending.{block_lent, block_place, block_returned, page_lent, page_place, page_returned, LendsNone};
-ghost use Rattle.state_core.specs.Opening.{opened_in, places_of, IsAllowed};
+ghost use Rattle.state_core.specs.Opening.{opened_in, places_of};
 ghost use Rattle.state_core.specs.ZoneState.{ZoneState};
 
-use crate::calls::{CLOSED, number};
+use crate::calls::number;
 use crate::exports::{OPEN, some_places};
 use crate::pool::Pool;
 use crate::zone::Zone;
@@ -42,12 +42,8 @@ pub extern "C" fn compactd_open_in(
     is_blank: bool,
 ) -> u32
     requires { IsTrue is_blank → words_in memory.old.row ≡ replicate (length (words_in memory.old.row)) 0 }
-    ensures open { ¬ (pool.old.zone ≡ None) → result ≡ 52 }
-    ensures range { pool.old.zone ≡ None → ¬ (IsOpenableIn page_words blocks spaces vpages places memory.old.row) → result ≡ 1 }
-    ensures memory { pool.old.zone ≡ None → IsOpenableIn page_words blocks spaces vpages places memory.old.row → ¬ (result ≡ 0) → result ≡ 14 }
-    ensures zone { result ≡ 0 → IfSome memory.old.row (λ row. pool.new.zone ≡ Some (opened_in row.at page_words 0 (size_with blocks spaces vpages) (places_of (some_places places)))) }
+    ensures opening { IsOpening (IsOpenableIn page_words blocks spaces vpages places memory.old.row) (λ zone. IfSome memory.old.row (λ row. zone ≡ Some (opened_in row.at page_words 0 (size_with blocks spaces vpages) (places_of (some_places places))))) pool.old.zone pool.new.zone result }
     ensures taken { result ≡ 0 → (memory.new.row ≡ None) × ¬ (memory.old.row ≡ None) }
-    ensures kept { ¬ (result ≡ 0) → pool.new.zone ≡ pool.old.zone }
     ensures back { ¬ (result ≡ 0) → ¬ (result ≡ 14) → memory.new.row ≡ memory.old.row }
     ensures place { result ≡ 14 → IfSome memory.old.row (λ old. IfSome memory.new.row (λ new. (new.at ≡ old.at) × (length new.words ≡ length old.words))) × ¬ (memory.new.row ≡ None) }
 {
@@ -62,36 +58,26 @@ pub extern "C" fn compactd_open_in(
         spaces,
         vpages,
     };
-    match open_boxed(alloc, page_words, size, some_places(places), row, is_blank) {
-        Ok(zone) => {
-            pool.put(alloc, zone);
-            0
-        }
-        Err((error, row)) => {
-            *memory = HeldWords::of(row);
-            number(error)
-        }
+    match Zone::open_in(alloc, page_words, size, some_places(places), row, is_blank) {
+        Ok(zone) => returned(put_in(alloc, pool, zone), memory),
+        Err(back) => returned(Err(back), memory),
     }
 }
 
-/// A zone in memory of its caller, in a place of its own.
-fn open_boxed(
-    alloc: Global,
-    page_words: u32,
-    size: ZoneSize,
-    places: Option<u32>,
-    memory: Row,
-    is_blank: bool,
-) -> Result<Box<Zone>, (ZoneError, Row)>
-    requires { IsTrue is_blank → memory.words ≡ replicate (length memory.words) 0 }
-    ensures range { ¬ (IsPageSize page_words × IsAllowed size places × (length memory.words ≡ 512 * size.blocks * page_words)) → result ≡ Err (ZoneError.Range, memory) }
-    ensures memory { IsPageSize page_words → IsAllowed size places → length memory.words ≡ 512 * size.blocks * page_words → IfErr result (λ back. back.0 ≡ ZoneError.Memory) }
-    ensures back { IfErr result (λ back. (back.1.at ≡ memory.at) × (length back.1.words ≡ length memory.words)) }
-    ensures zone { IfOk result (λ zone. zone.value ≡ opened_in memory.at page_words 0 size (places_of places)) }
+/// Puts a zone in memory of its caller's into a closed pool, or gives the memory back.
+fn put_in(alloc: Global, pool: &mut Pool, zone: Zone) -> Result<(), (ZoneError, Row)>
+    requires closed { pool.old.zone ≡ None }
+    requires lent { LendsNone zone × ¬ (zone.memory ≡ None) }
+    ensures memory { IfErr result (λ back. (back.0 ≡ ZoneError.Memory) × (Some back.1.at ≡ zone.memory)) }
+    ensures count { IfErr result (λ back. (length back.1.words ≡ 512 * zone.blocks * zone.page_size) × (0 < length back.1.words)) }
+    ensures zone { OnOk result (pool.new.zone ≡ Some zone) }
+    ensures kept { OnErr result (pool.new.zone ≡ None) }
 {
-    let zone = Zone::open_in(alloc, page_words, size, places, memory, is_blank)?;
     match Box::new(alloc, zone) {
-        Ok(zone) => Ok(zone),
+        Ok(zone) => {
+            pool.put(alloc, zone);
+            Ok(())
+        }
         Err(failed) => Err((ZoneError::Memory, failed.value.end().unwrap())),
     }
 }
@@ -101,15 +87,13 @@ fn open_boxed(
 /// Refused as OWN_MEMORY where the pool lies in memory of its own, as LENT where words of it are lent, or as CLOSED.
 #[unsafe(no_mangle)]
 pub extern "C" fn compactd_close_in(alloc: Global, pool: &mut Pool, memory: &mut HeldWords) -> u32
-    ensures answer { result ≡ answer pool.old.zone end_refusal }
+    ensures answer { result ≡ answer_of pool.old.zone end_refusal }
     ensures closed { result ≡ 0 → pool.new.zone ≡ None }
     ensures memory { (z : ZoneState) → pool.old.zone ≡ Some z → result ≡ 0 → IfSome memory.new.row (λ row. (Some row.at ≡ z.memory) × (length row.words ≡ 512 * z.blocks * z.page_size)) }
     ensures given { result ≡ 0 → ¬ (memory.new.row ≡ None) }
     ensures kept { ¬ (result ≡ 0) → (pool.new.zone ≡ pool.old.zone) × (memory.new.row ≡ memory.old.row) }
 {
-    let Some(zone) = pool.zone() else {
-        return CLOSED;
-    };
+    let zone = open_zone!(pool);
     if let Some(error) = zone.end_refusal() {
         return number(error);
     }
@@ -140,6 +124,38 @@ pub(crate) fn taken(words: &mut HeldWords) -> Option<Row>
     replace(words, HeldWords::none()).into_row()
 }
 
+/// The number of an answer, whose words go where C wants them.
+fn lent(answer: Result<Row, ZoneError>, words: &mut HeldWords) -> u32
+    requires { IfOk answer (λ row. 0 < length row.words) }
+    ensures number { result ≡ number_for (result_err answer) }
+    ensures words { OnOk answer (words.new.row ≡ result_ok answer) }
+    ensures kept { OnErr answer (words.new.row ≡ words.old.row) }
+{
+    match answer {
+        Ok(row) => {
+            *words = HeldWords::of(row);
+            0
+        }
+        Err(error) => number(error),
+    }
+}
+
+/// The number of an answer to words that C brought back. It has them again where they aren't taken.
+fn returned(answer: Result<(), (ZoneError, Row)>, words: &mut HeldWords) -> u32
+    requires { IfErr answer (λ back. 0 < length back.1.words) }
+    ensures number { result ≡ number_for (option_map (λ back. back.0) (result_err answer)) }
+    ensures taken { OnOk answer (words.new.row ≡ words.old.row) }
+    ensures back { IfErr answer (λ back. words.new.row ≡ Some back.1) }
+{
+    match answer {
+        Ok(()) => 0,
+        Err((error, row)) => {
+            *words = HeldWords::of(row);
+            number(error)
+        }
+    }
+}
+
 /// Lends the words of a block that is handed out. They are the caller's until `compactd_return_block`. A fresh block holds zeros. Nothing
 /// is copied.
 ///
@@ -152,22 +168,11 @@ pub extern "C" fn compactd_block_words(
     order: u32,
     words: &mut HeldWords,
 ) -> u32
-    ensures answer { result ≡ answer pool.old.zone (block_refusal first order) }
-    ensures zone { pool.new.zone ≡ left pool.old.zone (block_refusal first order) (λ z. block_lent z first) }
-    ensures words { (z : ZoneState) → pool.old.zone ≡ Some z → result ≡ 0 → IfSome words.new.row (λ row. (row.words ≡ contents_of z first) × (Some row.at ≡ block_place z first)) }
-    ensures given { result ≡ 0 → ¬ (words.new.row ≡ None) }
-    ensures kept { ¬ (result ≡ 0) → words.new.row ≡ words.old.row }
+    ensures call { IsCall (block_refusal first order) (λ z. block_lent z first) pool.old.zone pool.new.zone result }
+    ensures words { AreLent (λ z. contents_of z first) (λ z. block_place z first) pool.old.zone result words.old.row words.new.row }
 {
-    let Some(zone) = pool.zone() else {
-        return CLOSED;
-    };
-    match zone.lend_block(first, order) {
-        Ok(row) => {
-            *words = HeldWords::of(row);
-            0
-        }
-        Err(error) => number(error),
-    }
+    let zone = open_zone!(pool);
+    lent(zone.lend_block(first, order), words)
 }
 
 /// Takes back the words of a block that `compactd_block_words` lent, which no call tests. The block has what was left in them.
@@ -181,24 +186,14 @@ pub extern "C" fn compactd_return_block(
     words: &mut HeldWords,
 ) -> u32
     requires { (z : ZoneState) → pool.old.zone ≡ Some z → IfSome words.old.row (λ row. Some row.at ≡ block_place z first) }
-    ensures answer { result ≡ answer pool.old.zone (back_refusal first order words.old.row) }
-    ensures zone { pool.new.zone ≡ left pool.old.zone (back_refusal first order words.old.row) (λ z. block_returned z first (words_in words.old.row)) }
-    ensures taken { result ≡ 0 → words.new.row ≡ None }
-    ensures kept { ¬ (result ≡ 0) → words.new.row ≡ words.old.row }
+    ensures call { IsCall (back_refusal first order words.old.row) (λ z. block_returned z first (words_in words.old.row)) pool.old.zone pool.new.zone result }
+    ensures words { AreTaken result words.old.row words.new.row }
 {
-    let Some(zone) = pool.zone() else {
-        return CLOSED;
-    };
+    let zone = open_zone!(pool);
     let Some(row) = taken(words) else {
         return number(ZoneError::Range);
     };
-    match zone.return_block(first, order, row) {
-        Ok(()) => 0,
-        Err((error, row)) => {
-            *words = HeldWords::of(row);
-            number(error)
-        }
-    }
+    returned(zone.return_block(first, order, row), words)
 }
 
 /// Lends the words of the page that an address names, which is pinned. They are the caller's until `compactd_return_page`. Meanwhile no call
@@ -213,22 +208,11 @@ pub extern "C" fn compactd_page_words(
     vpage: u32,
     words: &mut HeldWords,
 ) -> u32
-    ensures answer { result ≡ answer pool.old.zone (page_words_refusal space vpage) }
-    ensures zone { pool.new.zone ≡ left pool.old.zone (page_words_refusal space vpage) (λ z. page_lent z (address_of space vpage)) }
-    ensures words { (z : ZoneState) → pool.old.zone ≡ Some z → result ≡ 0 → IfSome words.new.row (λ row. (row.words ≡ values_at z (address_of space vpage) 0 z.page_size) × (Some row.at ≡ page_place z (address_of space vpage))) }
-    ensures given { result ≡ 0 → ¬ (words.new.row ≡ None) }
-    ensures kept { ¬ (result ≡ 0) → words.new.row ≡ words.old.row }
+    ensures call { IsCall (page_words_refusal space vpage) (λ z. page_lent z (address_of space vpage)) pool.old.zone pool.new.zone result }
+    ensures words { AreLent (λ z. values_at z (address_of space vpage) 0 z.page_size) (λ z. page_place z (address_of space vpage)) pool.old.zone result words.old.row words.new.row }
 {
-    let Some(zone) = pool.zone() else {
-        return CLOSED;
-    };
-    match zone.lend_page(space, vpage) {
-        Ok(row) => {
-            *words = HeldWords::of(row);
-            0
-        }
-        Err(error) => number(error),
-    }
+    let zone = open_zone!(pool);
+    lent(zone.lend_page(space, vpage), words)
 }
 
 /// Takes back the words of a page that `compactd_page_words` lent, which no call tests. The page has what was left in them, as if the client had
@@ -245,22 +229,12 @@ pub extern "C" fn compactd_return_page(
     words: &mut HeldWords,
 ) -> u32
     requires { (z : ZoneState) → pool.old.zone ≡ Some z → IfSome words.old.row (λ row. Some row.at ≡ page_place z (address_of space vpage)) }
-    ensures answer { result ≡ answer pool.old.zone (page_back_refusal client space vpage words.old.row) }
-    ensures zone { pool.new.zone ≡ left pool.old.zone (page_back_refusal client space vpage words.old.row) (λ z. page_returned z client (address_of space vpage) (words_in words.old.row)) }
-    ensures taken { result ≡ 0 → words.new.row ≡ None }
-    ensures kept { ¬ (result ≡ 0) → words.new.row ≡ words.old.row }
+    ensures call { IsCall (page_back_refusal client space vpage words.old.row) (λ z. page_returned z client (address_of space vpage) (words_in words.old.row)) pool.old.zone pool.new.zone result }
+    ensures words { AreTaken result words.old.row words.new.row }
 {
-    let Some(zone) = pool.zone() else {
-        return CLOSED;
-    };
+    let zone = open_zone!(pool);
     let Some(row) = taken(words) else {
         return number(ZoneError::Range);
     };
-    match zone.return_page(client, space, vpage, row) {
-        Ok(()) => 0,
-        Err((error, row)) => {
-            *words = HeldWords::of(row);
-            number(error)
-        }
-    }
+    returned(zone.return_page(client, space, vpage, row), words)
 }

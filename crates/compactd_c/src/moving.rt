@@ -5,7 +5,7 @@ ghost use Rattle.compactd_c.specs.Moving.{IsToldOfNext, move_of, page_of};
 ghost use Rattle.state_core.specs.ZoneState.{ZoneState};
 ghost use Rattle.zone_tables.specs.MovingPages.{IsNoneMoving};
 
-use crate::calls::{CLOSED, number};
+use crate::calls::number;
 use crate::carrying::MovingPage;
 use crate::looking::RESERVED;
 use crate::pool::Pool;
@@ -48,9 +48,7 @@ pub extern "C" fn compactd_next_moving(
     ensures zone { pool.new.zone ≡ pool.old.zone }
     ensures kept { ¬ (result ≡ 0) → (page.new ≡ page.old) × (way.new ≡ way.old) }
 {
-    let Some(zone) = pool.zone() else {
-        return CLOSED;
-    };
+    let zone = open_zone!(pool);
     let Some(from) = FrameNo::in_any_zone(from) else {
         return number(ZoneError::Range);
     };

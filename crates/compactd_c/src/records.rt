@@ -2,11 +2,10 @@
 
 ghost use Rattle.std.specs.Prelude.{◌≡◌, length, reverse, slice_get, None, Some};
 ghost use Rattle.std.specs.Option.{option_map};
-ghost use Rattle.compactd_c.specs.Answers.{answer};
+ghost use Rattle.compactd_c.specs.Answers.{IsAsked, IsTold};
 ghost use Rattle.compactd_c.specs.Records.{of_client, of_zone, cause_of, record_of, record_refused};
-ghost use Rattle.state_core.specs.ZoneState.{ZoneState};
 
-use crate::calls::{CLOSED, told};
+use crate::calls::told;
 use crate::looking::RESERVED;
 use crate::pool::Pool;
 use frame_core::{Address, Cause, ClientNo, Record as Entry};
@@ -36,15 +35,10 @@ pub struct Record {
 /// Refused as CLOSED.
 #[unsafe(no_mangle)]
 pub extern "C" fn compactd_journal(pool: &mut Pool, records: &mut u64, room: &mut u64) -> u32
-    ensures answer { result ≡ answer pool.old.zone (λ z. None) }
-    ensures zone { pool.new.zone ≡ pool.old.zone }
-    ensures records { (z : ZoneState) → pool.old.zone ≡ Some z → records.new ≡ length z.records }
-    ensures room { (z : ZoneState) → pool.old.zone ≡ Some z → room.new ≡ z.room }
-    ensures kept { ¬ (result ≡ 0) → (records.new ≡ records.old) × (room.new ≡ room.old) }
+    ensures records { IsAsked (λ z. None) (λ z records. records ≡ length z.records) pool.old.zone pool.new.zone result records.old records.new }
+    ensures room { IsTold (λ z room. room ≡ z.room) pool.old.zone result room.old room.new }
 {
-    let Some(zone) = pool.zone() else {
-        return CLOSED;
-    };
+    let zone = open_zone!(pool);
     *records = zone.journal().len();
     *room = zone.journal().room();
     0
@@ -55,16 +49,10 @@ pub extern "C" fn compactd_journal(pool: &mut Pool, records: &mut u64, room: &mu
 /// Refused as RANGE where the journal has no such record or isn't kept, or as CLOSED.
 #[unsafe(no_mangle)]
 pub extern "C" fn compactd_record_at(pool: &mut Pool, place: usize, entry: &mut Record) -> u32
-    ensures answer { result ≡ answer pool.old.zone (λ z. record_refused z place) }
-    ensures zone { pool.new.zone ≡ pool.old.zone }
-    ensures entry { (z : ZoneState) → pool.old.zone ≡ Some z → result ≡ 0 → option_map record_of (slice_get (reverse z.records) place) ≡ Some entry.new }
-    ensures kept { ¬ (result ≡ 0) → entry.new ≡ entry.old }
+    ensures { IsAsked (λ z. record_refused z place) (λ z entry. option_map record_of (slice_get (reverse z.records) place) ≡ Some entry) pool.old.zone pool.new.zone result entry.old entry.new }
 {
-    let Some(zone) = pool.zone() else {
-        return CLOSED;
-    };
-    let answer = zone.record(place);
-    told(answer.map(numbers_of), entry)
+    let zone = open_zone!(pool);
+    told(zone.record(place).map(numbers_of), entry)
 }
 
 /// A record, in numbers.

@@ -1,17 +1,15 @@
 //! What C calls to get several blocks at once.
 
-ghost use Rattle.std.specs.Prelude.{◌≡◌, ◌+◌, ◌<◌, ◌^◌, ℕ, length, slice_index, IsTrue, None, Some, IfOk, OnErr, OnOk};
+ghost use Rattle.std.specs.Prelude.{◌≡◌, ◌<◌, length, IsTrue, None, Some, IfOk, OnErr};
 ghost use Rattle.std.specs.FinMap as map;
 ghost use Rattle.std.specs.Result.{result_err};
-ghost use Rattle.compactd_c.specs.Answers.{answer};
-ghost use Rattle.compactd_c.specs.Asked.{is_order, ranged};
-ghost use Rattle.fewest_core.specs.Evacuation.{IsCarriedFrom};
-ghost use Rattle.fewest_core.specs.FewestMoves.{least};
-ghost use Rattle.fewest_core.specs.Reservation.{is_in_runs, reserve_refusal, reserved, ArePicked};
-ghost use Rattle.frame_core.specs.Moves.{moved as pages_moved};
+ghost use Rattle.compactd_c.specs.Answers.{answer_of};
+ghost use Rattle.compactd_c.specs.Emptied.{IsReserved};
+ghost use Rattle.compactd_c.specs.Ranges.{is_order, ranged};
+ghost use Rattle.fewest_core.specs.Reservation.{reserve_refusal, reserved};
 ghost use Rattle.state_core.specs.ZoneState.{ZoneState};
 
-use crate::calls::{CLOSED, told};
+use crate::calls::told;
 use crate::pool::Pool;
 use crate::zone::Zone;
 use frame_core::{FixedVec, FrameNo, Order};
@@ -34,22 +32,14 @@ pub extern "C" fn compactd_reserve(
     firsts: &mut [u32],
     moved: &mut u32,
 ) -> u32
-    ensures answer { ¬ (result ≡ 14) → result ≡ answer pool.old.zone (λ z. ranged (is_order order) (reserve_refusal z (length firsts.old) order)) }
+    ensures answer { ¬ (result ≡ 14) → result ≡ answer_of pool.old.zone (λ z. ranged (is_order order) (reserve_refusal z (length firsts.old) order)) }
     ensures memory { result ≡ 14 → ¬ (pool.old.zone ≡ None) × IsTrue (is_order order) }
-    ensures zone { (z : ZoneState) → pool.old.zone ≡ Some z → result ≡ 0 → pool.new.zone ≡ Some (reserved z order firsts.new) }
-    ensures picked { (z : ZoneState) → pool.old.zone ≡ Some z → result ≡ 0 → ArePicked z order firsts.new }
-    ensures moved { (z : ZoneState) → pool.old.zone ≡ Some z → result ≡ 0 → moved.new ≡ least (length firsts.old) z (2 ^ order) }
-    // The records of the zone that it leaves have so many moves more.
-    ensures records { (z : ZoneState) → pool.old.zone ≡ Some z → result ≡ 0 → pages_moved (reserved z order firsts.new).records ≡ pages_moved z.records + moved.new }
-    // The blocks are handed out, and the pages are as they were, but for the frames of those that went.
-    ensures taken { (z : ZoneState) → pool.new.zone ≡ Some z → result ≡ 0 → (place : ℕ) → place < length firsts.new → map.get z.handed_out (slice_index firsts.new place) ≡ Some order }
-    ensures carried { (old new : ZoneState) → pool.old.zone ≡ Some old → pool.new.zone ≡ Some new → result ≡ 0 → IsCarriedFrom (is_in_runs firsts.new (2 ^ order)) old new }
+    ensures reserved { (old new : ZoneState) → pool.old.zone ≡ Some old → pool.new.zone ≡ Some new → result ≡ 0 → IsReserved order firsts.new old new moved.new }
+    ensures open { result ≡ 0 → ¬ (pool.new.zone ≡ None) }
     ensures count { length firsts.new ≡ length firsts.old }
     ensures kept { ¬ (result ≡ 0) → (pool.new.zone ≡ pool.old.zone) × (firsts.new ≡ firsts.old) × (moved.new ≡ moved.old) }
 {
-    let Some(zone) = pool.zone() else {
-        return CLOSED;
-    };
+    let zone = open_zone!(pool);
     let answer = reserve(alloc, zone, order, firsts);
     told(answer, moved)
 }
@@ -59,12 +49,7 @@ fn reserve(alloc: Global, zone: &mut Zone, order: u32, firsts: &mut [u32]) -> Re
     ensures refused { ¬ (result ≡ Err ZoneError.Memory) → result_err result ≡ ranged (is_order order) (reserve_refusal zone.old (length firsts.old) order) }
     ensures memory { result ≡ Err ZoneError.Memory → IsTrue (is_order order) }
     ensures err { OnErr result ((zone.new ≡ zone.old) × (firsts.new ≡ firsts.old)) }
-    ensures pages { IfOk result (λ pages. pages ≡ least (length firsts.old) zone.old (2 ^ order)) }
-    ensures picked { OnOk result (ArePicked zone.old order firsts.new) }
-    ensures ok { OnOk result (zone.new ≡ reserved zone.old order firsts.new) }
-    ensures moved { IfOk result (λ pages. pages_moved zone.new.records ≡ pages_moved zone.old.records + pages) }
-    ensures taken { OnOk result ((place : ℕ) → place < length firsts.new → map.get zone.new.handed_out (slice_index firsts.new place) ≡ Some order) }
-    ensures carried { OnOk result (IsCarriedFrom (is_in_runs firsts.new (2 ^ order)) zone.old zone.new) }
+    ensures ok { IfOk result (IsReserved order firsts.new zone.old zone.new) }
     ensures count { length firsts.new ≡ length firsts.old }
 {
     let order = Order::new(order).ok_or(ZoneError::Range)?;

@@ -1,20 +1,19 @@
 //! What C calls to run rounds, and to make the moves of a round itself.
 
-ghost use Rattle.std.specs.Prelude.{◌≡◌, ◌+◌, ◌≤◌, ◌↔◌, true, false, if◌then◌else◌, is_some, nat_eq, length, IsTrue, None, Some};
-ghost use Rattle.compactd_c.specs.Answers.{answer, left};
+ghost use Rattle.std.specs.Prelude.{◌≡◌, ◌+◌, ◌≤◌, ◌↔◌, false, if◌then◌else◌, is_some, nat_eq, IsTrue, None, Some};
+ghost use Rattle.compactd_c.specs.Answers.{IsCall};
 ghost use Rattle.compactd_c.specs.Carried.{is_carried};
-ghost use Rattle.frame_core.specs.Moves.{moved as pages_moved, out};
+ghost use Rattle.compactd_c.specs.Rounds.{IsCompacted};
+ghost use Rattle.frame_core.specs.Moves.{moved as pages_moved};
 ghost use Rattle.frame_core.specs.declared.record.Cause.{Cause};
 ghost use Rattle.state_core.specs.Ending.{put_back_to_source};
 ghost use Rattle.state_core.specs.Isolating.{isolate_refusal};
-ghost use Rattle.state_core.specs.Packed.{IsPacked};
-ghost use Rattle.state_core.specs.Pairs.{HaveMet};
 ghost use Rattle.state_core.specs.Rounds.{round_begun};
-ghost use Rattle.state_core.specs.ZoneState.{ZoneState, is_quiet};
+ghost use Rattle.state_core.specs.ZoneState.{ZoneState};
 ghost use Rattle.state_core.specs.declared.error.ZoneError.{ZoneError};
 ghost use Rattle.zone_core.specs.OneThread.{moved_at_most, all_moved};
 
-use crate::calls::{CLOSED, MET, number, numbered};
+use crate::calls::{MET, number, numbered};
 use crate::carrying::MovingPage;
 use crate::pool::Pool;
 use state_core::ZoneError;
@@ -26,17 +25,12 @@ use zone_core::Answered;
 /// Refused as CLOSED.
 #[unsafe(no_mangle)]
 pub extern "C" fn compactd_compact(pool: &mut Pool, met: &mut bool) -> u32
-    ensures answer { result ≡ answer pool.old.zone (λ z. None) }
-    ensures zone { pool.new.zone ≡ left pool.old.zone (λ z. None) (λ z. all_moved (round_begun z)) }
-    ensures met { (z : ZoneState) → pool.new.zone ≡ Some z → IsTrue met.new → HaveMet z }
+    ensures call { IsCall (λ z. None) (λ z. all_moved (round_begun z)) pool.old.zone pool.new.zone result }
+    ensures met { (z : ZoneState) → pool.new.zone ≡ Some z → IsTrue met.new → IsCompacted z }
     ensures full { (z : ZoneState) → pool.new.zone ≡ Some z → (met.new ≡ false) ↔ (isolate_refusal z ≡ Some ZoneError.JournalFull) }
-    // Where nothing was stuck and the scanners met, the zone is packed.
-    ensures packed { (z : ZoneState) → pool.new.zone ≡ Some z → IsTrue met.new → is_quiet z ≡ true → length (out z.records) ≡ 0 → IsPacked z }
     ensures kept { ¬ (result ≡ 0) → met.new ≡ met.old }
 {
-    let Some(zone) = pool.zone() else {
-        return CLOSED;
-    };
+    let zone = open_zone!(pool);
     *met = zone.compact();
     0
 }
@@ -52,18 +46,13 @@ pub extern "C" fn compactd_move_pages(
     moved: &mut u32,
     stopped: &mut u32,
 ) -> u32
-    ensures answer { result ≡ answer pool.old.zone (λ z. None) }
-    ensures zone { pool.new.zone ≡ left pool.old.zone (λ z. None) (moved_at_most most) }
+    ensures call { IsCall (λ z. None) (moved_at_most most) pool.old.zone pool.new.zone result }
     ensures moved { (z : ZoneState) → pool.old.zone ≡ Some z → (moved.new ≤ most) × (pages_moved (moved_at_most most z).records ≡ pages_moved z.records + moved.new) }
     ensures stopped { (z : ZoneState) → pool.new.zone ≡ Some z → stopped.new ≡ (if nat_eq moved.new most then 0 else if is_some (isolate_refusal z) then 2 else 53) }
-    ensures met { (z : ZoneState) → pool.new.zone ≡ Some z → stopped.new ≡ 53 → HaveMet z }
-    // Where nothing was stuck and the scanners met, the zone is packed.
-    ensures packed { (z : ZoneState) → pool.new.zone ≡ Some z → stopped.new ≡ 53 → is_quiet z ≡ true → length (out z.records) ≡ 0 → IsPacked z }
+    ensures met { (z : ZoneState) → pool.new.zone ≡ Some z → stopped.new ≡ 53 → IsCompacted z }
     ensures kept { ¬ (result ≡ 0) → (moved.new ≡ moved.old) × (stopped.new ≡ stopped.old) }
 {
-    let Some(zone) = pool.zone() else {
-        return CLOSED;
-    };
+    let zone = open_zone!(pool);
     let slice = zone.move_pages(most);
     *moved = slice.moved;
     *stopped = match slice.last {
@@ -79,12 +68,9 @@ pub extern "C" fn compactd_move_pages(
 /// Refused as CLOSED.
 #[unsafe(no_mangle)]
 pub extern "C" fn compactd_begin_round(pool: &mut Pool) -> u32
-    ensures answer { result ≡ answer pool.old.zone (λ z. None) }
-    ensures zone { pool.new.zone ≡ left pool.old.zone (λ z. None) round_begun }
+    ensures call { IsCall (λ z. None) round_begun pool.old.zone pool.new.zone result }
 {
-    let Some(zone) = pool.zone() else {
-        return CLOSED;
-    };
+    let zone = open_zone!(pool);
     zone.begin_round();
     0
 }
@@ -100,9 +86,6 @@ pub extern "C" fn compactd_put_back(pool: &mut Pool, page: &MovingPage) -> u32
     ensures zone { (z : ZoneState) → pool.old.zone ≡ Some z → result ≡ 0 → pool.new.zone ≡ Some (put_back_to_source z page.now.serial page.now.number Cause.NotCopied) }
     ensures kept { ¬ (result ≡ 0) → pool.new.zone ≡ pool.old.zone }
 {
-    let Some(zone) = pool.zone() else {
-        return CLOSED;
-    };
-    let answer = zone.put_back(page.serial, page.number);
-    numbered(answer)
+    let zone = open_zone!(pool);
+    numbered(zone.put_back(page.serial, page.number))
 }

@@ -1,19 +1,16 @@
 //! A zone whose pages have one of two sizes.
 
-ghost use Rattle.std.specs.Prelude.{◌≡◌, ◌+◌, ◌<◌, ◌≤◌, ◌↔◌, ◌&&◌, ◌/◌, ◌^◌, ◌∷◌, [], nat_lt, true, ℕ, false, length, reverse, slice_get, slice_index, is_some, Some, None, IsTrue, IsOk, IfOk, IfErr, OnOk, OnErr, IfSome};
+ghost use Rattle.std.specs.Prelude.{◌≡◌, ◌+◌, ◌<◌, ◌≤◌, ◌↔◌, ◌&&◌, ◌/◌, ◌^◌, ◌∷◌, [], nat_lt, true, ℕ, false, length, reverse, slice_get, Some, None, IsTrue, IsOk, IfOk, IfErr, OnOk, OnErr, IfSome};
 ghost use Rattle.std.specs.FinMap as map;
 ghost use Rattle.std.specs.Result.{result_err};
 ghost use Rattle.fewest_core.specs.Claims.{claim_refusal, claimed_frames, claimed_taken, drop_refusal, step_refusal, stepped, take_claimed_refusal};
-ghost use Rattle.fewest_core.specs.Evacuation.{evacuate_refusal, evacuated, is_in_run, IsCarriedFrom, IsCarriedOut};
+ghost use Rattle.fewest_core.specs.Evacuation.{evacuate_refusal, evacuated, is_in_run, IsCarriedOut};
 ghost use Rattle.fewest_core.specs.FewestMoves.{cost, least};
-ghost use Rattle.fewest_core.specs.Reservation.{is_in_runs, reserve_refusal, reserved, ArePicked};
+ghost use Rattle.fewest_core.specs.Reservation.{reserve_refusal, reserved, ArePicked};
 ghost use Rattle.frame_core.specs.Moves.{moved, out, put_back};
 ghost use Rattle.frame_core.specs.declared.record.Cause.{Cause};
 ghost use Rattle.keeper_core.specs.Keeping.{keep_refusal, take_refusal, IsKept, IsTaken};
-ghost use Rattle.state_core.specs.Access.{access_refusal, value_at, loaded, stored};
-ghost use Rattle.state_core.specs.Bulk.{bulk_refusal, values_at, loaded_all, stored_all};
-ghost use Rattle.state_core.specs.Claiming.{is_claimed, run_claimed, run_dropped, with_apart};
-ghost use Rattle.state_core.specs.Contents.{contents_refusal, contents_from, contents_written};
+ghost use Rattle.state_core.specs.Claiming.{run_claimed, run_dropped, with_apart};
 ghost use Rattle.state_core.specs.Ending.{committed, ended_as, put_back_to_source};
 ghost use Rattle.state_core.specs.HandingOut.{is_run};
 ghost use Rattle.state_core.specs.Isolating.{isolate_refusal, next_state};
@@ -28,9 +25,12 @@ ghost use Rattle.zone_core.specs.Counted.{IsCounted};
 ghost use Rattle.zone_core.specs.FreeRuns.{fragmentation, maximal_runs};
 ghost use Rattle.zone_tables.specs.MovingPages.{IsNextMoving, IsNoneMoving};
 ghost use Rattle.zone_core.specs.OneThread.{last_of_slice, moved_at_most, all_moved};
-ghost use Rattle.compactd_c.specs.Asked.{address_of, is_address, is_client, is_block, is_order, ranged, refusal_for, answer_for, after_asked};
+ghost use Rattle.compactd_c.specs.Ranges.{address_of, is_address, is_block, is_order, ranged};
 ghost use Rattle.compactd_c.specs.Keepers.{cheapest_refusal};
+ghost use Rattle.compactd_c.specs.Answers.{IsMade};
+ghost use Rattle.compactd_c.specs.Emptied.{IsEmptied, IsReserved};
 ghost use Rattle.compactd_c.specs.Kinds.{IsPageSize};
+ghost use Rattle.compactd_c.specs.Rounds.{IsCompacted};
 ghost use Rattle.compactd_c.specs.Looks.{look_refusal, audit_refusal};
 ghost use Rattle.compactd_c.specs.Records.{record_refused};
 ghost use Rattle.compactd_c.specs.Told.{geometry_of, places_of};
@@ -46,19 +46,20 @@ macro_rules! of_zone {
     };
 }
 
+mod calls;
 mod lending;
 mod lent_moves;
 
-use crate::asked::{Asked, address, word_of};
 use crate::carrying::MovingPage;
 use crate::looking::{Geometry, RESERVED};
+use crate::ranges::{address, block};
 use bitflags::Flags;
 use frame_core::{
     BlockNo, ClientNo, FrameNo, IsolatedOf, Journal, Order, PageFlags, PageNo, PageOf, Record,
     ZoneNo,
 };
 use keeper_core::{Keeper, Step as KeeperStep, Taken};
-use state_core::{Audit, Ended, Info, Look, Next, ZoneAnswer, ZoneError, ZoneSize};
+use state_core::{Audit, Ended, Info, Look, Next, ZoneError, ZoneSize};
 use std::alloc::Global;
 use std::marker::Model;
 use zone_core::{Answered, BareZone, CheapestRun, MovingPage as Found, Slice};
@@ -135,134 +136,6 @@ impl Zone {
             _ => return Err(ZoneError::Range),
         };
         Ok(Zone { kind })
-    }
-
-    /// Makes the call that a client asks for.
-    pub(crate) fn make(&mut self, client: u32, asked: Asked) -> Result<ZoneAnswer, ZoneError>
-        ensures refused { result_err result ≡ refusal_for client asked self.old }
-        ensures err { OnErr result (self.new ≡ self.old) }
-        ensures answer { IfOk result (λ answer. answer ≡ answer_for asked self.old) }
-        ensures ok { OnOk result (self.new ≡ after_asked client asked self.old) }
-    {
-        of_zone!(&mut self.kind, zone => make(zone, client, asked))
-    }
-
-    /// Reads a word of the page that an address names.
-    pub(crate) fn load(
-        &mut self,
-        client: u32,
-        space: u32,
-        vpage: u32,
-        word: u32,
-    ) -> Result<u64, ZoneError>
-        ensures refused { result_err result ≡ ranged (is_client client && (is_address space vpage && nat_lt word self.old.page_size)) (access_refusal self.old (address_of space vpage)) }
-        ensures err { OnErr result (self.new ≡ self.old) }
-        ensures value { IfOk result (λ value. value ≡ value_at self.old (address_of space vpage) word) }
-        ensures ok { OnOk result (self.new ≡ loaded self.old client (address_of space vpage) word) }
-    {
-        let client = ClientNo::new(client).ok_or(ZoneError::Range)?;
-        let address = address(space, vpage).ok_or(ZoneError::Range)?;
-        of_zone!(&mut self.kind, zone => {
-            let word = word_of(zone, word).ok_or(ZoneError::Range)?;
-            zone.load(client, address, word)
-        })
-    }
-
-    /// Writes a word of the page that an address names.
-    pub(crate) fn store(
-        &mut self,
-        client: u32,
-        space: u32,
-        vpage: u32,
-        word: u32,
-        value: u64,
-    ) -> Result<(), ZoneError>
-        ensures refused { result_err result ≡ ranged (is_client client && (is_address space vpage && nat_lt word self.old.page_size)) (access_refusal self.old (address_of space vpage)) }
-        ensures err { OnErr result (self.new ≡ self.old) }
-        ensures ok { OnOk result (self.new ≡ stored self.old client (address_of space vpage) word value) }
-    {
-        let client = ClientNo::new(client).ok_or(ZoneError::Range)?;
-        let address = address(space, vpage).ok_or(ZoneError::Range)?;
-        of_zone!(&mut self.kind, zone => {
-            let word = word_of(zone, word).ok_or(ZoneError::Range)?;
-            zone.store(client, address, word, value)
-        })
-    }
-
-    /// Reads words of the page that an address names, from one on.
-    pub(crate) fn read(
-        &mut self,
-        client: u32,
-        space: u32,
-        vpage: u32,
-        from: u32,
-        values: &mut [u64],
-    ) -> Result<(), ZoneError>
-        ensures refused { result_err result ≡ ranged (is_client client && (is_address space vpage && nat_lt from self.old.page_size)) (bulk_refusal self.old (address_of space vpage) from (length values.old)) }
-        ensures err { OnErr result ((self.new ≡ self.old) × (values.new ≡ values.old)) }
-        ensures values { OnOk result (values.new ≡ values_at self.old (address_of space vpage) from (length values.old)) }
-        ensures ok { OnOk result (self.new ≡ loaded_all self.old client (address_of space vpage) from (length values.old)) }
-    {
-        let client = ClientNo::new(client).ok_or(ZoneError::Range)?;
-        let address = address(space, vpage).ok_or(ZoneError::Range)?;
-        of_zone!(&mut self.kind, zone => {
-            let from = word_of(zone, from).ok_or(ZoneError::Range)?;
-            zone.read(client, address, from, values)
-        })
-    }
-
-    /// Writes words of the page that an address names, from one on.
-    pub(crate) fn write(
-        &mut self,
-        client: u32,
-        space: u32,
-        vpage: u32,
-        from: u32,
-        values: &[u64],
-    ) -> Result<(), ZoneError>
-        ensures refused { result_err result ≡ ranged (is_client client && (is_address space vpage && nat_lt from self.old.page_size)) (bulk_refusal self.old (address_of space vpage) from (length values.now)) }
-        ensures err { OnErr result (self.new ≡ self.old) }
-        ensures ok { OnOk result (self.new ≡ stored_all self.old client (address_of space vpage) from values.now) }
-    {
-        let client = ClientNo::new(client).ok_or(ZoneError::Range)?;
-        let address = address(space, vpage).ok_or(ZoneError::Range)?;
-        of_zone!(&mut self.kind, zone => {
-            let from = word_of(zone, from).ok_or(ZoneError::Range)?;
-            zone.write(client, address, from, values)
-        })
-    }
-
-    /// Reads words of a block that is handed out, from one on.
-    pub(crate) fn read_block(
-        &mut self,
-        first: u32,
-        order: u32,
-        from: usize,
-        values: &mut [u64],
-    ) -> Result<(), ZoneError>
-        ensures refused { result_err result ≡ ranged (is_block first order) (contents_refusal self.old first order from (length values.old)) }
-        ensures err { OnErr result (values.new ≡ values.old) }
-        ensures values { OnOk result (values.new ≡ contents_from self.old first from (length values.old)) }
-        ensures same { self.new ≡ self.old }
-    {
-        let (first, order) = block(first, order).ok_or(ZoneError::Range)?;
-        of_zone!(&mut self.kind, zone => zone.read_block(first, order, from, values))
-    }
-
-    /// Writes words of a block that is handed out, from one on.
-    pub(crate) fn write_block(
-        &mut self,
-        first: u32,
-        order: u32,
-        from: usize,
-        values: &[u64],
-    ) -> Result<(), ZoneError>
-        ensures refused { result_err result ≡ ranged (is_block first order) (contents_refusal self.old first order from (length values.now)) }
-        ensures err { OnErr result (self.new ≡ self.old) }
-        ensures ok { OnOk result (self.new ≡ contents_written self.old first from values.now) }
-    {
-        let (first, order) = block(first, order).ok_or(ZoneError::Range)?;
-        of_zone!(&mut self.kind, zone => zone.write_block(first, order, from, values))
     }
 
     /// What is known of the page that an address names.
@@ -390,9 +263,8 @@ impl Zone {
     /// Runs a whole round, and tells whether its scanners met; else the journal was full.
     pub(crate) fn compact(&mut self) -> bool
         ensures zone { self.new ≡ all_moved (round_begun self.old) }
-        ensures met { IsTrue result → HaveMet self.new }
+        ensures met { IsTrue result → IsCompacted self.new }
         ensures full { (result ≡ false) ↔ (isolate_refusal self.new ≡ Some ZoneError.JournalFull) }
-        ensures packed { IsTrue result → is_quiet self.new ≡ true → length (out self.new.records) ≡ 0 → IsPacked self.new }
     {
         let stopped = of_zone!(&mut self.kind, zone => zone.compact());
         stopped == Answered::Met
@@ -404,18 +276,15 @@ impl Zone {
         ensures moved { moved self.new.records ≡ moved self.old.records + result.moved }
         ensures most { result.moved ≤ most }
         ensures last { result.last ≡ last_of_slice result.moved most (isolate_refusal self.new) }
-        ensures met { result.last ≡ Answered.Met → HaveMet self.new }
-        ensures packed { result.last ≡ Answered.Met → is_quiet self.new ≡ true → length (out self.new.records) ≡ 0 → IsPacked self.new }
+        ensures met { result.last ≡ Answered.Met → IsCompacted self.new }
     {
         of_zone!(&mut self.kind, zone => zone.move_pages(most))
     }
 
     /// Empties a run of frames, and answers how many pages went out of it.
     pub(crate) fn evacuate(&mut self, first: u32, order: u32) -> Result<u32, ZoneError>
-        ensures refused { result_err result ≡ ranged (is_block first order) (evacuate_refusal self.old first order) }
-        ensures err { OnErr result (self.new ≡ self.old) }
+        ensures made { IsMade (λ z. ranged (is_block first order) (evacuate_refusal z first order)) (λ z. evacuated z first (2 ^ order)) self.old self.new result }
         ensures pages { IfOk result (λ pages. pages ≡ cost self.old (2 ^ order) (first / 2 ^ order)) }
-        ensures ok { OnOk result (self.new ≡ evacuated self.old first (2 ^ order)) }
         ensures moved { IfOk result (λ pages. moved self.new.records ≡ moved self.old.records + pages) }
         ensures empty { OnOk result (IsTrue (is_run self.new order first)) }
         ensures carried { OnOk result (IsCarriedOut first (2 ^ order) self.old self.new) }
@@ -428,12 +297,7 @@ impl Zone {
     pub(crate) fn reserve(&mut self, order: Order, firsts: &mut [FrameNo]) -> Result<u32, ZoneError>
         ensures refused { result_err result ≡ reserve_refusal self.old (length firsts.old) order }
         ensures err { OnErr result ((self.new ≡ self.old) × (firsts.new ≡ firsts.old)) }
-        ensures pages { IfOk result (λ pages. pages ≡ least (length firsts.old) self.old (2 ^ order)) }
-        ensures picked { OnOk result (ArePicked self.old order firsts.new) }
-        ensures ok { OnOk result (self.new ≡ reserved self.old order firsts.new) }
-        ensures moved { IfOk result (λ pages. moved self.new.records ≡ moved self.old.records + pages) }
-        ensures taken { OnOk result ((place : ℕ) → place < length firsts.new → map.get self.new.handed_out (slice_index firsts.new place) ≡ Some order) }
-        ensures carried { OnOk result (IsCarriedFrom (is_in_runs firsts.new (2 ^ order)) self.old self.new) }
+        ensures ok { IfOk result (IsReserved order firsts.new self.old self.new) }
         ensures count { length firsts.new ≡ length firsts.old }
     {
         of_zone!(&mut self.kind, zone => zone.reserve(order, firsts))
@@ -448,10 +312,8 @@ impl Zone {
 
     /// Claims the free frames of an open run, and answers how many pages it has.
     pub(crate) fn claim(&mut self, first: u32, order: u32) -> Result<u32, ZoneError>
-        ensures refused { result_err result ≡ ranged (is_block first order) (claim_refusal self.old first order) }
-        ensures err { OnErr result (self.new ≡ self.old) }
+        ensures made { IsMade (λ z. ranged (is_block first order) (claim_refusal z first order)) (run_claimed first (2 ^ order)) self.old self.new result }
         ensures pages { IfOk result (λ pages. pages ≡ cost self.old (2 ^ order) (first / 2 ^ order)) }
-        ensures ok { OnOk result (self.new ≡ run_claimed first (2 ^ order) self.old) }
         ensures shut { OnOk result ((frame : ℕ) → is_in_run first (2 ^ order) frame ≡ true → is_free self.new frame ≡ false) }
     {
         let (first, order) = block(first, order).ok_or(ZoneError::Range)?;
@@ -465,15 +327,8 @@ impl Zone {
         order: u32,
         most: u32,
     ) -> Result<Step, ZoneError>
-        ensures refused { result_err result ≡ ranged (is_block first order) (step_refusal self.old first order most) }
-        ensures err { OnErr result (self.new ≡ self.old) }
-        ensures ok { OnOk result (self.new ≡ stepped first (2 ^ order) self.old most) }
-        ensures moved { IfOk result (λ step. moved self.new.records ≡ moved self.old.records + step.moved) }
-        ensures most { IfOk result (λ step. step.moved ≤ most) }
-        ensures unclaimed { IfOk result (λ step. claimed_frames first (2 ^ order) self.new + step.unclaimed ≡ 2 ^ order) }
-        ensures shut { OnOk result ((frame : ℕ) → is_in_run first (2 ^ order) frame ≡ true → is_free self.new frame ≡ false) }
-        ensures claims { OnOk result ((frame : ℕ) → is_claimed self.old frame ≡ true → is_claimed self.new frame ≡ true) }
-        ensures carried { OnOk result (IsCarriedOut first (2 ^ order) self.old self.new) }
+        ensures made { IsMade (λ z. ranged (is_block first order) (step_refusal z first order most)) (λ z. stepped first (2 ^ order) z most) self.old self.new result }
+        ensures emptied { IfOk result (IsEmptied first order most self.old self.new) }
     {
         let (first, order) = block(first, order).ok_or(ZoneError::Range)?;
         of_zone!(&mut self.kind, zone => empty_some(zone, first, order, most))
@@ -481,9 +336,7 @@ impl Zone {
 
     /// Hands out a run whose frames are all claimed.
     pub(crate) fn take_claimed(&mut self, first: u32, order: u32) -> Result<(), ZoneError>
-        ensures refused { result_err result ≡ ranged (is_block first order) (take_claimed_refusal self.old first order) }
-        ensures err { OnErr result (self.new ≡ self.old) }
-        ensures ok { OnOk result (self.new ≡ claimed_taken self.old first order) }
+        ensures made { IsMade (λ z. ranged (is_block first order) (take_claimed_refusal z first order)) (λ z. claimed_taken z first order) self.old self.new result }
         ensures taken { OnOk result (map.get self.new.handed_out first ≡ Some order) }
     {
         let (first, order) = block(first, order).ok_or(ZoneError::Range)?;
@@ -492,9 +345,7 @@ impl Zone {
 
     /// Drops the claims of the frames of a run.
     pub(crate) fn drop_claim(&mut self, first: u32, order: u32) -> Result<(), ZoneError>
-        ensures refused { result_err result ≡ ranged (is_block first order) (drop_refusal self.old first order) }
-        ensures err { OnErr result (self.new ≡ self.old) }
-        ensures ok { OnOk result (self.new ≡ run_dropped first (2 ^ order) self.old) }
+        ensures { IsMade (λ z. ranged (is_block first order) (drop_refusal z first order)) (run_dropped first (2 ^ order)) self.old self.new result }
     {
         let (first, order) = block(first, order).ok_or(ZoneError::Range)?;
         of_zone!(&mut self.kind, zone => zone.drop_claim(first, order))
@@ -596,21 +447,6 @@ impl Zone {
     }
 }
 
-fn make<const W: usize>(
-    zone: &mut BareZone<W>,
-    client: u32,
-    asked: Asked,
-) -> Result<ZoneAnswer, ZoneError>
-    ensures refused { result_err result ≡ refusal_for client asked zone.old }
-    ensures err { OnErr result (zone.new ≡ zone.old) }
-    ensures answer { IfOk result (λ answer. answer ≡ answer_for asked zone.old) }
-    ensures ok { OnOk result (zone.new ≡ after_asked client asked zone.old) }
-{
-    let client = ClientNo::new(client).ok_or(ZoneError::Range)?;
-    let call = asked.call().ok_or(ZoneError::Range)?;
-    zone.make(client, call)
-}
-
 /// The number of each zone for C, 0: a pool has one zone.
 fn lowest() -> ZoneNo
     ensures { result ≡ 0 }
@@ -627,15 +463,8 @@ fn empty_some<const W: usize>(
     order: Order,
     most: u32,
 ) -> Result<Step, ZoneError>
-    ensures refused { result_err result ≡ step_refusal zone.old first order most }
-    ensures err { OnErr result (zone.new ≡ zone.old) }
-    ensures ok { OnOk result (zone.new ≡ stepped first (2 ^ order) zone.old most) }
-    ensures moved { IfOk result (λ step. moved zone.new.records ≡ moved zone.old.records + step.moved) }
-    ensures most { IfOk result (λ step. step.moved ≤ most) }
-    ensures unclaimed { IfOk result (λ step. claimed_frames first (2 ^ order) zone.new + step.unclaimed ≡ 2 ^ order) }
-    ensures shut { OnOk result ((frame : ℕ) → is_in_run first (2 ^ order) frame ≡ true → is_free zone.new frame ≡ false) }
-    ensures claims { OnOk result ((frame : ℕ) → is_claimed zone.old frame ≡ true → is_claimed zone.new frame ≡ true) }
-    ensures carried { OnOk result (IsCarriedOut first (2 ^ order) zone.old zone.new) }
+    ensures made { IsMade (λ z. step_refusal z first order most) (λ z. stepped first (2 ^ order) z most) zone.old zone.new result }
+    ensures emptied { IfOk result (IsEmptied first order most zone.old zone.new) }
 {
     let moved = zone.empty_some(first, order, most)?;
     let Some(claimed) = zone.claimed_frames(first, order) else {
@@ -645,16 +474,6 @@ fn empty_some<const W: usize>(
         moved,
         unclaimed: order.frames() - claimed,
     })
-}
-
-/// A block's first frame and its order, if both are in their ranges.
-fn block(first: u32, order: u32) -> Option<(FrameNo, Order)>
-    ensures some { is_some result ≡ is_block first order }
-    ensures value { IfSome result (λ block. (block.0 ≡ first) × (block.1 ≡ order)) }
-{
-    let first = FrameNo::in_any_zone(first)?;
-    let order = Order::new(order)?;
-    Some((first, order))
 }
 
 /// The number of a page, if the zone may have such a page: there are as many as it has frames.

@@ -4,7 +4,8 @@ ghost use Rattle.std.specs.Prelude.{◌≡◌, ◌<◌, ◌≤◌, ◌*◌, Some
 ghost use Rattle.std.specs.FinSet as set;
 ghost use Rattle.std.specs.Option.{option_map};
 ghost use Rattle.std.specs.Result.{result_err};
-ghost use Rattle.compactd_c.specs.Asked.{address_of, ranged};
+ghost use Rattle.compactd_c.specs.Answers.{IsMade};
+ghost use Rattle.compactd_c.specs.Ranges.{address_of};
 ghost use Rattle.compactd_c.specs.Kinds.{IsPageSize};
 ghost use Rattle.compactd_c.specs.Memory.{back_refusal, block_refusal, end_refusal, page_back_refusal, page_words_refusal};
 ghost use Rattle.state_core.specs.Bulk.{values_at};
@@ -12,9 +13,8 @@ ghost use Rattle.state_core.specs.Contents.{contents_of};
 ghost use Rattle.state_core.specs.Lending.{block_lent, block_place, block_returned, page_lent, page_place, page_returned, LendsNone};
 ghost use Rattle.state_core.specs.Opening.{IsAllowed, opened_in, places_of};
 
-use super::{Kind, Zone, block, lowest};
-use crate::asked::address;
-use frame_core::ClientNo;
+use super::{Kind, Zone, lowest};
+use crate::ranges::{address, block, of_client};
 use row_core::Row;
 use state_core::{ZoneError, ZoneSize};
 use std::alloc::Global;
@@ -64,12 +64,10 @@ impl Zone {
 
     /// Lends the words of a block that is handed out.
     pub(crate) fn lend_block(&mut self, first: u32, order: u32) -> Result<Row, ZoneError>
-        ensures refused { result_err result ≡ block_refusal first order self.old }
-        ensures err { OnErr result (self.new ≡ self.old) }
+        ensures made { IsMade (block_refusal first order) (λ z. block_lent z first) self.old self.new result }
         ensures words { IfOk result (λ row. row.words ≡ contents_of self.old first) }
         ensures some { IfOk result (λ row. 0 < length row.words) }
         ensures place { IfOk result (λ row. Some row.at ≡ block_place self.old first) }
-        ensures ok { OnOk result (self.new ≡ block_lent self.old first) }
     {
         let (first, order) = block(first, order).ok_or(ZoneError::Range)?;
         of_zone!(&mut self.kind, zone => zone.lend_block(first, order))
@@ -99,12 +97,10 @@ impl Zone {
 
     /// Lends the words of the page that an address names, which is pinned.
     pub(crate) fn lend_page(&mut self, space: u32, vpage: u32) -> Result<Row, ZoneError>
-        ensures refused { result_err result ≡ page_words_refusal space vpage self.old }
-        ensures err { OnErr result (self.new ≡ self.old) }
+        ensures made { IsMade (page_words_refusal space vpage) (λ z. page_lent z (address_of space vpage)) self.old self.new result }
         ensures words { IfOk result (λ row. row.words ≡ values_at self.old (address_of space vpage) 0 self.old.page_size) }
         ensures some { IfOk result (λ row. 0 < length row.words) }
         ensures place { IfOk result (λ row. Some row.at ≡ page_place self.old (address_of space vpage)) }
-        ensures ok { OnOk result (self.new ≡ page_lent self.old (address_of space vpage)) }
     {
         let address = address(space, vpage).ok_or(ZoneError::Range)?;
         of_zone!(&mut self.kind, zone => zone.lend_page(address))
@@ -124,7 +120,7 @@ impl Zone {
         ensures err { OnErr result (self.new ≡ self.old) }
         ensures ok { OnOk result (self.new ≡ page_returned self.old client (address_of space vpage) row.words) }
     {
-        let (Some(client), Some(address)) = (ClientNo::new(client), address(space, vpage)) else {
+        let Some((client, address)) = of_client(client, space, vpage) else {
             return Err((ZoneError::Range, row));
         };
         if row.len() != self.page_words() {

@@ -15,8 +15,9 @@ ghost use Rattle.state_core.specs.ZoneState.{is_quiet};
 ghost use Rattle.state_core.specs.declared.placement.Placement.TheVariants.{Moving};
 ghost use Rattle.zone_core.specs.LentMoves.{LendsNext, SendsNext};
 
-use super::{Kind, Zone, block, page_no};
+use super::{Kind, Zone, page_no};
 use crate::lent_moves::HeldMove;
+use crate::ranges::block;
 use frame_core::FrameNo;
 use state_core::{Ended, Next, Stranger, ZoneError};
 use zone_core::{BareZone, CopiedMove, LentMove};
@@ -64,9 +65,9 @@ impl Zone {
         requires rows { HasItsWords held.old self.old }
         ensures refused { result_err result ≡ end_move_refusal (move_of held.old) self.old }
         ensures err { OnErr result ((self.new ≡ self.old) × IsKept held.old held.new) }
-        ensures ended { IfOk result (λ ended. ended ≡ ended_as self.old held.old.page) }
         ensures ok { OnOk result (self.new ≡ held_ended lent_committed (move_of held.old) self.old) }
         ensures taken { OnOk result (HasNone held.new) }
+        ensures ended { IfOk result (λ ended. ended ≡ ended_as self.old held.old.page) }
     {
         of_zone!(&mut self.kind, zone => {
             let lent = bring(zone, held)?;
@@ -83,9 +84,9 @@ impl Zone {
         requires rows { HasItsWords held.old self.old }
         ensures refused { result_err result ≡ end_move_refusal (move_of held.old) self.old }
         ensures err { OnErr result ((self.new ≡ self.old) × IsKept held.old held.new) }
-        ensures ended { IfOk result (λ ended. ended ≡ ended_as self.old held.old.page) }
         ensures ok { OnOk result (self.new ≡ held_ended sent_committed (move_of held.old) self.old) }
         ensures taken { OnOk result (HasNone held.new) }
+        ensures ended { IfOk result (λ ended. ended ≡ ended_as self.old held.old.page) }
         ensures claimed { result ≡ Ok Ended.Moved → is_claimed self.new held.old.source ≡ true }
     {
         of_zone!(&mut self.kind, zone => {

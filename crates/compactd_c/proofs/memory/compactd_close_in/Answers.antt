@@ -29,6 +29,6 @@ lends_none z is =
     (is_empty z.lent none.0, is_empty z.lent_pages none.1)
 
 pub ended-requires : goal.ended-requires
-ended-requires c z is = same is (lends_none c.in-Some.zone.now (sym c.end_refusal.ensures ∙ c.in_default-end_refusal.is)) where
+ended-requires c z is = same is (lends_none c.in-Some.zone.now (sym c.end_refusal.ensures ∙ c.in_default.is)) where
   same : {z : ZoneState} → Some c.in-Some.zone.now ≡ Some z → LendsNone c.in-Some.zone.now → LendsNone z
   same {z} one none = let which : c.in-Some.zone.now ≡ z = cc in subst LendsNone which none

@@ -2,7 +2,7 @@ use Rattle.std.proofs.Common.{◌≡◌, sym, subst, ◌∙◌}
 use Rattle.std.specs.Prelude.{Option, Some, IfSome}
 use Rattle.row_core.specs.Seen.{Row}
 use Rattle.state_core.specs.Lending.{page_place}
-use Rattle.compactd_c.specs.Asked.{address_of}
+use Rattle.compactd_c.specs.Ranges.{address_of}
 use Rattle.compactd_c.proofs.memory.compactd_return_page.Goals as goal
 
 pub return_page-requires : goal.return_page-requires

@@ -1,4 +1,4 @@
-use Rattle.std.proofs.Common.{arith, ◌≡◌, ◌^◌, ℕ, Some, None, if◌then◌else◌}
+use Rattle.std.proofs.Common.{arith, rules, ◌≡◌, ◌^◌, ℕ, Some, None, if◌then◌else◌}
 use Rattle.fewest_core.specs.Claims.{claimed_frames}
 use Rattle.frame_core.proofs.Searches.{count_from_most}
 use Rattle.state_core.specs.Claiming.{is_claimed}
@@ -14,6 +14,12 @@ pub overflow_sub-result : goal.overflow_sub-result
 overflow_sub-result g c =
     omega (arith, claimed_in_run c.empty_some.new.self c.args.first c.args.order c.in-Some.claimed c.in-Some.ensures, c.frames.ensures.value, count_from_most (is_claimed c.empty_some.new.self) c.args.first (2 ^ c.args.order))
 
-pub returns-clause-unclaimed : goal.returns-clause-unclaimed
-returns-clause-unclaimed g c =
-    omega (arith, claimed_in_run c.empty_some.new.self c.args.first c.args.order c.in-Some.claimed c.in-Some.ensures, c.frames.ensures.value, count_from_most (is_claimed c.empty_some.new.self) c.args.first (2 ^ c.args.order))
+pub returns-clause-emptied : goal.returns-clause-emptied
+returns-clause-emptied g c = record {
+  moved = search rules;
+  limit = search rules;
+  unclaimed = omega (arith, claimed_in_run c.empty_some.new.self c.args.first c.args.order c.in-Some.claimed c.in-Some.ensures, c.frames.ensures.value, count_from_most (is_claimed c.empty_some.new.self) c.args.first (2 ^ c.args.order));
+  shut = search rules;
+  claims = search rules;
+  carried = search rules;
+}
