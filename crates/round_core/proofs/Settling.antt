@@ -1,6 +1,7 @@
 -- What was settled of a round between its audits, and the round that is answered.
 use Rattle.std.proofs.Common.{◌≡◌, ◌+◌, ◌-◌, ◌≤◌, ◌∙◌, ◌⊎◌, ⊎_elim, inl, inr, ℕ, ap, sym, subst, refl, arith, Option, Some, IfSome, OnSome, map, length}
-use Rattle.std.specs.Prelude.{Result, Ok, Err, IfOk, IfErr}
+use Rattle.std.specs.Prelude.{Result, Ok, Err, None, IfOk, IfErr, OnOk}
+use Rattle.std.specs.Result.{result_err}
 use Rattle.state_core.specs.declared.error.ZoneError.{ZoneError}
 use Rattle.state_core.specs.declared.information.Audit.{Audit}
 use Rattle.state_core.specs.ZoneState.{ZoneState}
@@ -115,3 +116,9 @@ settled_run stops_at unpinned most copiers scan scan_new ends ends_new ran (Ok s
 -- what is known of the seats is known of the same
 pub on_seats : (P : ScanSeat → EndSeat → Type 0) (scan scan_new : ScanSeat) (ends ends_new : EndSeat) → (scan_new ≡ scan) × (ends_new ≡ ends) → P scan ends → P scan_new ends_new
 on_seats P scan scan_new ends ends_new same p = subst (λ s. P s ends_new) (sym same.0) (subst (λ e. P scan e) (sym same.1) p)
+
+-- where the answer is Ok, the audit after the round passed
+pub passed : (before : Audit) (settled : Result Settlement RoundError) (after : Result Audit ZoneError) (refusal : Option ZoneError) → result_err after ≡ refusal → OnOk (answer_between before settled after) (refusal ≡ None)
+passed before (Err error) after refusal is = tt
+passed before (Ok settled) (Err error) refusal is = tt
+passed before (Ok settled) (Ok after) refusal is = sym is

@@ -3,6 +3,7 @@ ghost use Rattle.frame_core.specs.Moves.{isolated};
 ghost use Rattle.zone_core.specs.ByHand.{by_hand};
 ghost use Rattle.zone_core.specs.Fingers.{IsSameInRound};
 ghost use Rattle.zone_core.specs.Outcome.{IsSame};
+ghost use Rattle.zone_core.specs.Seats.{audit_refusal};
 ghost use Rattle.round_core.specs.Kept.{LockInvariant};
 ghost use Rattle.round_core.specs.Rounds.{IsRound, IsRefusedEarly, IsBroken, IsUnlimited, stop_by_hand};
 ghost use Rattle.round_core.specs.Scanning.{HasMore};
@@ -50,6 +51,8 @@ pub fn compact_alone<Z: Opening + Send + Sync, G: Gate, R: Threads + Wait + Sync
     ensures none_back { IfOk result.1 (λ r. r.back ≡ 0) }
     ensures stopped { IfOk result.1 (λ r. r.stopped ≡ stop_by_hand zone) }
     ensures unlimited { IsUnlimited result.1 }
+    // An audit of the zone passes.
+    ensures passes { OnOk result.1 (audit_refusal result.0 seats.new.ends ≡ None) }
     // Where nothing was stuck and the scanners met, the zone is packed.
     ensures packed { IfOk result.1 (λ r. r.stopped ≡ Stop.Met → is_calm zone ≡ true → IsPacked result.0) }
     // It had as many copiers as were asked for: each has its list.

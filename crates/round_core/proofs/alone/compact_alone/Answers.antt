@@ -1,11 +1,14 @@
-use Rattle.std.proofs.Common.{◌∙◌, sym, subst, ap, None}
+use Rattle.std.proofs.Common.{◌≡◌, ◌∙◌, sym, subst, ap, None, Result}
+use Rattle.std.specs.Prelude.{OnOk}
 use Rattle.state_core.specs.Valid.{IsValidZone}
 use Rattle.zone_core.specs.Alone.{IsAtRest, KeepsAlone}
-use Rattle.zone_core.specs.Seats.{EndSeat}
+use Rattle.zone_core.specs.Seats.{EndSeat, audit_refusal}
 use Rattle.round_core.specs.Alone.{StopsAlone, QuietAlone}
 use Rattle.round_core.specs.Counts.{CountsOn}
+use Rattle.round_core.specs.declared.error.RoundError.{RoundError}
+use Rattle.round_core.specs.declared.round.Round.{Round}
 use Rattle.round_core.specs.Settling.{IsRoundRun, answer_between}
-use Rattle.round_core.proofs.Settling.{counted_by, if_counted_by, no_less}
+use Rattle.round_core.proofs.Settling.{counted_by, if_counted_by, no_less, passed}
 use Rattle.round_core.proofs.ByHand.{IsRoundByHand, comes_by_hand, if_ok, if_same, if_packed, known_on}
 use Rattle.round_core.proofs.alone.compact_alone.Goals as goal
 use Rattle.round_core.proofs.alone.compact_alone.Given.{Over}
@@ -67,6 +70,12 @@ returns-clause-stopped g c = if_ok (λ r is. is.stopped) c.round_between.result 
 
 pub returns-clause-unlimited : goal.returns-clause-unlimited
 returns-clause-unlimited g c = (by_hand g c).unlimited
+
+pub returns-clause-passes : goal.returns-clause-passes
+returns-clause-passes g c =
+    let after = c.audit-after in
+    subst (λ (result : Result Round RoundError). OnOk result (audit_refusal after.new.self after.new.ends ≡ None)) (sym c.round_between.ensures)
+    (passed c.in-Ok.before c.run_shared-zone.result.1 after.result _ (after.ensures.refused ∙ (λ i. audit_refusal (sym after.ensures.same i) (sym after.ensures.seats.1 i))))
 
 pub returns-clause-packed : goal.returns-clause-packed
 returns-clause-packed g c = if_packed c.args.zone c.audit-after.new.self (law g c) c.round_between.result (by_hand g c).by_hand
