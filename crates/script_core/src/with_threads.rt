@@ -1,4 +1,4 @@
-ghost use Rattle.std.specs.Prelude.{◌≡◌, ◌≢◌, ◌⊎◌, ◌+◌, ◌≤◌, ◌↔◌, [], false, length, Some, None, option_map, IsOk, IfOk, OnErr, IfSome, IfNone};
+ghost use Rattle.std.specs.Prelude.{◌≡◌, ◌≢◌, ◌⊎◌, ◌+◌, ◌≤◌, ◌↔◌, [], false, length, Some, None, option_map, IsOk, IfOk, OnOk, OnErr, IfSome, IfNone};
 ghost use Rattle.std.specs.Result.{result_err};
 ghost use Rattle.round_core.specs.Kept.{LockInvariant};
 ghost use Rattle.round_core.specs.Rounds.{IsRefusedEarly, IsRound, IsUnlimited};
@@ -169,7 +169,7 @@ impl<Z: Opening + Send + Sync> WithThreads<Z> {
     {
         let (zone, mut seats, rest) = parts_of(world);
         let (zone, round) = self.compact(rt, alloc, zone, &mut seats);
-        self.take_back(zone, seats, rest);
+        self.take_back_after(&round, zone, seats, rest);
         reply_to(round)
     }
 
@@ -270,6 +270,7 @@ impl<Z: Opening + Send + Sync> WithThreads<Z> {
         ensures early { IsRefusedEarly seats.old.scan seats.new.scan seats.old.ends seats.new.ends result.1 }
         ensures by_hand { ComesToByHand zone result.0 result.1 }
         ensures unlimited { IsUnlimited result.1 }
+        ensures passes { OnOk result.1 (audit_refusal result.0 seats.new.ends ≡ None) }
     {
         compact_alone(
             rt,
@@ -315,6 +316,39 @@ impl<Z: Opening + Send + Sync> WithThreads<Z> {
         }
     }
 
+    /// Keeps a zone whose audit passes as that of the machine's world again.
+    fn keep(&mut self, zone: ZoneIn<Z>, seats: SeatsIn<Z>, rest: Rest)
+        requires given { self.old.single.world ≡ None }
+        requires whole { self.old.broken ≡ None }
+        requires rest { rest ≡ zone.blocks }
+        requires passes { audit_refusal zone seats.ends ≡ None }
+        ensures { self.new ≡ left_by self.old.single.places self.old.client zone seats.scan seats.ends (audit_refusal zone seats.ends) }
+    {
+        self.machine.give_world(World::join(zone, seats, rest));
+    }
+
+    /// Takes a zone back after a round over it, with its seats, as `take_back` does. A round that is answered Ok ended with an audit that
+    /// passed.
+    fn take_back_after(
+        &mut self,
+        round: &Result<Round, RoundError>,
+        zone: ZoneIn<Z>,
+        seats: SeatsIn<Z>,
+        rest: Rest,
+    )
+        requires given { self.old.single.world ≡ None }
+        requires whole { self.old.broken ≡ None }
+        requires rest { rest ≡ zone.blocks }
+        requires passes { OnOk round.now (audit_refusal zone seats.ends ≡ None) }
+        ensures left { self.new ≡ left_by self.old.single.places self.old.client zone seats.scan seats.ends (audit_refusal zone seats.ends) }
+        ensures exact { 64 ≤ seats.ends.parts → seats.ends.moved + seats.ends.back ≡ seats.scan.count → audit_refusal zone seats.ends ≡ None }
+    {
+        match round {
+            Ok(_) => self.keep(zone, seats, rest),
+            Err(_) => self.take_back(zone, seats, rest),
+        }
+    }
+
     /// Takes a zone back with its seats. Where its audit fails the zone is dropped, and its number is kept.
     fn take_back(&mut self, mut zone: ZoneIn<Z>, mut seats: SeatsIn<Z>, rest: Rest)
         requires given { self.old.single.world ≡ None }
@@ -325,7 +359,7 @@ impl<Z: Opening + Send + Sync> WithThreads<Z> {
     {
         let number = zone.number();
         match audit(&mut zone, &mut seats) {
-            Ok(_) => self.machine.give_world(World::join(zone, seats, rest)),
+            Ok(_) => self.keep(zone, seats, rest),
             Err(_) => self.broken = Some(number),
         }
     }

@@ -5,19 +5,15 @@ use Rattle.std.specs.Result.{result_err}
 use Rattle.state_core.specs.declared.error.ZoneError.{ZoneError}
 use Rattle.state_core.specs.declared.information.Audit.{Audit}
 use Rattle.state_core.specs.ZoneState.{ZoneState}
-use Rattle.machine_core.specs.OneThread.{OneThread}
-use Rattle.script_core.specs.WithThreads.{WithThreads}
-use Rattle.script_core.proofs.Rounds.{left_broken, left_whole}
+use Rattle.script_core.specs.WithThreads.{WithThreads, left_by}
+use Rattle.zone_core.specs.Seats.{audit_refusal}
+use Rattle.script_core.proofs.Rounds.{left_broken}
 use Rattle.script_core.proofs.with_threads.WithThreads.take_back.Goals as goal
 
 pub returns-in-Ok-clause-left : goal.returns-in-Ok-clause-left
 returns-in-Ok-clause-left g c =
-    left_whole c.args.self.now.single.places c.args.self.now.client c.args.zone c.audit.new.zone c.args.seats.scan c.audit.new.seats.scan c.args.seats.ends c.audit.new.seats.ends _ _
-    (sym c.audit.ensures.refused ∙ ap result_err c.in-Ok.is) c.audit.ensures.same.0 c.audit.ensures.same.1 c.audit.ensures.same.2
-    (ap (λ (m : OneThread). m.places) c.give_world.ensures ∙ ap (λ (t : WithThreads). t.single.places) c.self.view_is)
-    (ap (λ (m : OneThread). m.world) c.give_world.ensures ∙ ap Some c.join.ensures.world)
-    (ap (λ (t : WithThreads). t.broken) c.self.view_is ∙ c.requires.whole)
-    (ap (λ (t : WithThreads). t.client) c.self.view_is)
+    let same = c.audit.ensures.same in
+    c.keep.ensures ∙ (λ i. left_by c.args.self.now.single.places c.args.self.now.client (same.0 i) (same.1 i) (same.2 i) (audit_refusal (same.0 i) (same.2 i)))
 
 pub returns-in-Ok-clause-exact : goal.returns-in-Ok-clause-exact
 returns-in-Ok-clause-exact g c = λ whole settled. sym c.audit.ensures.refused ∙ ap result_err c.in-Ok.is
