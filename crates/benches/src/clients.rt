@@ -6,15 +6,13 @@ mod moving;
 mod outcome;
 mod runs;
 
+use crate::Runtime;
 use array::rate_of_array;
 use outcome::{Outcome, Spread};
 use runs::{Plan, Work, run};
 use std::alloc::Global;
 use std::io;
 use std::marker::Brand;
-use std::sync::Wait;
-use std::thread::Threads;
-use std::time::Clock;
 use zone_core::Blanks;
 
 const COUNTS: [u32; 3] = [1, 2, 4];
@@ -22,10 +20,7 @@ const COUNTS: [u32; 3] = [1, 2, 4];
 const ROOMS: [usize; 3] = [1, 8, 64];
 
 /// How many calls of clients beside rounds stand in the journal as they were answered.
-pub fn show_settled<R: Threads + Wait + Print + Clock + Sync>(
-    rt: &R,
-    alloc: Global,
-) -> io::Result<()> {
+pub fn show_settled<R: Runtime>(rt: &R, alloc: Global) -> io::Result<()> {
     for count in COUNTS {
         let settled = make_calls(rt, alloc, count, 8).settled;
         println!(rt; "clients {count} calls {settled}")?;
@@ -35,21 +30,13 @@ pub fn show_settled<R: Threads + Wait + Print + Clock + Sync>(
 
 /// How many thousands of calls 1, 2 and 4 clients make in a second, the best of so many times, and how long a load takes beside
 /// rounds, by the room of their queues.
-pub fn show_times<R: Threads + Wait + Print + Clock + Sync>(
-    rt: &R,
-    alloc: Global,
-    times: u32,
-) -> io::Result<()> {
+pub fn show_times<R: Runtime>(rt: &R, alloc: Global, times: u32) -> io::Result<()> {
     show_rates(rt, alloc, times)?;
     show_waits(rt, alloc)
 }
 
 /// Thousands of calls in a second: in an array, of a zone at rest, and beside rounds.
-fn show_rates<R: Threads + Wait + Print + Clock + Sync>(
-    rt: &R,
-    alloc: Global,
-    times: u32,
-) -> io::Result<()> {
+fn show_rates<R: Runtime>(rt: &R, alloc: Global, times: u32) -> io::Result<()> {
     println!(rt; "clients array rest rounds moved")?;
     for count in COUNTS {
         let Rates {
@@ -64,7 +51,7 @@ fn show_rates<R: Threads + Wait + Print + Clock + Sync>(
 }
 
 /// Nanoseconds that a load takes beside rounds.
-fn show_waits<R: Threads + Wait + Print + Clock + Sync>(rt: &R, alloc: Global) -> io::Result<()> {
+fn show_waits<R: Runtime>(rt: &R, alloc: Global) -> io::Result<()> {
     println!(rt; "room median 99th greatest")?;
     for room in ROOMS {
         let Spread {
@@ -87,12 +74,7 @@ struct Rates {
 }
 
 /// The best of so many times.
-fn best_rates<R: Threads + Wait + Clock + Sync>(
-    rt: &R,
-    alloc: Global,
-    count: u32,
-    times: u32,
-) -> Rates {
+fn best_rates<R: Runtime>(rt: &R, alloc: Global, count: u32, times: u32) -> Rates {
     let mut best = Rates {
         array: 0,
         rest: 0,
@@ -114,38 +96,25 @@ fn best_rates<R: Threads + Wait + Clock + Sync>(
 }
 
 /// What clients do beside rounds whose queues have so much room, or at rest where they have none.
-fn make_calls<R: Threads + Wait + Clock + Sync>(
-    rt: &R,
-    alloc: Global,
-    clients: u32,
-    room: usize,
-) -> Outcome {
-    let work = Work::Calls;
-    outcome_of(
-        rt,
-        alloc,
-        Plan {
-            clients,
-            work,
-            room,
-        },
-    )
+fn make_calls<R: Runtime>(rt: &R, alloc: Global, clients: u32, room: usize) -> Outcome {
+    let plan = Plan {
+        clients,
+        work: Work::Calls,
+        room,
+    };
+    outcome_of(rt, alloc, plan)
 }
 
 /// How long loads take beside rounds whose queues have so much room.
-fn make_loads<R: Threads + Wait + Clock + Sync>(rt: &R, alloc: Global, room: usize) -> Outcome {
-    let (clients, work) = (1, Work::Loads);
-    outcome_of(
-        rt,
-        alloc,
-        Plan {
-            clients,
-            work,
-            room,
-        },
-    )
+fn make_loads<R: Runtime>(rt: &R, alloc: Global, room: usize) -> Outcome {
+    let plan = Plan {
+        clients: 1,
+        work: Work::Loads,
+        room,
+    };
+    outcome_of(rt, alloc, plan)
 }
 
-fn outcome_of<R: Threads + Wait + Clock + Sync>(rt: &R, alloc: Global, plan: Plan) -> Outcome {
+fn outcome_of<R: Runtime>(rt: &R, alloc: Global, plan: Plan) -> Outcome {
     run::<Brand, Brand, R>(rt, alloc, plan, Blanks::new()).unwrap_or(Outcome::NOTHING)
 }

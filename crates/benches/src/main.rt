@@ -22,6 +22,11 @@ use std::sync::Wait;
 use std::thread::Threads;
 use std::time::Clock;
 
+/// What does the work: it starts threads, waits, prints and tells the time.
+trait Runtime: Threads + Wait + Print + Clock + Sync {}
+
+impl<R: Threads + Wait + Print + Clock + Sync> Runtime for R {}
+
 fn main(rt: HostRuntime) -> Result<()> {
     let mut words = env::args(&rt)?;
     let _program = words.next();
@@ -32,7 +37,7 @@ fn main(rt: HostRuntime) -> Result<()> {
 }
 
 /// What each subject does.
-fn show_all<R: Threads + Wait + Print + Clock + Sync>(rt: &R, alloc: Global) -> Result<()> {
+fn show_all<R: Runtime>(rt: &R, alloc: Global) -> Result<()> {
     for subject in SUBJECTS {
         show_doings(rt, alloc, subject)?;
     }
@@ -68,12 +73,7 @@ impl Subject {
     }
 }
 
-fn show<R: Threads + Wait + Print + Clock + Sync>(
-    rt: &R,
-    alloc: Global,
-    subject: Subject,
-    mut words: Args,
-) -> Result<()> {
+fn show<R: Runtime>(rt: &R, alloc: Global, subject: Subject, mut words: Args) -> Result<()> {
     match (words.next(), words.next()) {
         (None, _) => show_doings(rt, alloc, subject),
         (Some(times), None) => show_times(rt, alloc, subject, number_in(times.as_str())?),
@@ -84,11 +84,7 @@ fn show<R: Threads + Wait + Print + Clock + Sync>(
 }
 
 /// What a subject does.
-fn show_doings<R: Threads + Wait + Print + Clock + Sync>(
-    rt: &R,
-    alloc: Global,
-    subject: Subject,
-) -> Result<()> {
+fn show_doings<R: Runtime>(rt: &R, alloc: Global, subject: Subject) -> Result<()> {
     let shown = match subject {
         Subject::Rounds => rounds::show_moves(rt, alloc),
         Subject::Clients => clients::show_settled(rt, alloc),
@@ -99,12 +95,7 @@ fn show_doings<R: Threads + Wait + Print + Clock + Sync>(
 }
 
 /// How long a subject takes.
-fn show_times<R: Threads + Wait + Print + Clock + Sync>(
-    rt: &R,
-    alloc: Global,
-    subject: Subject,
-    times: u32,
-) -> Result<()> {
+fn show_times<R: Runtime>(rt: &R, alloc: Global, subject: Subject, times: u32) -> Result<()> {
     let shown = match subject {
         Subject::Rounds => rounds::show_times(rt, alloc, times),
         Subject::Clients => clients::show_times(rt, alloc, times),
@@ -115,7 +106,7 @@ fn show_times<R: Threads + Wait + Print + Clock + Sync>(
 }
 
 /// What a part of a subject does.
-fn show_part<R: Threads + Wait + Print + Clock + Sync>(
+fn show_part<R: Runtime>(
     rt: &R,
     alloc: Global,
     subject: Subject,

@@ -3,22 +3,17 @@
 mod alone;
 mod timed;
 
+use crate::Runtime;
 use crate::settings::{SETTINGS, Setting};
 use crate::times::Times;
 use std::alloc::Global;
 use std::io;
 use std::marker::Brand;
-use std::sync::Wait;
-use std::thread::Threads;
-use std::time::Clock;
 use timed::{Work, time};
 use zone_core::Blanks;
 
 /// What the rounds move, which doesn't depend on the schedule.
-pub fn show_moves<R: Threads + Wait + Print + Clock + Sync>(
-    rt: &R,
-    alloc: Global,
-) -> io::Result<()> {
+pub fn show_moves<R: Runtime>(rt: &R, alloc: Global) -> io::Result<()> {
     for setting in SETTINGS {
         let moved = best(rt, alloc, Work::Rounds(setting), 1)?.pages;
         show_moved(rt, setting, moved)?;
@@ -32,11 +27,7 @@ fn show_moved<R: Print>(rt: &R, setting: Setting, moved: u64) -> io::Result<()> 
 }
 
 /// Microseconds a round, nanoseconds a page, and how many hundredths of the zone's work alone that is.
-pub fn show_times<R: Threads + Wait + Print + Clock + Sync>(
-    rt: &R,
-    alloc: Global,
-    times: u32,
-) -> io::Result<()> {
+pub fn show_times<R: Runtime>(rt: &R, alloc: Global, times: u32) -> io::Result<()> {
     let alone = best(rt, alloc, Work::Alone, times)?;
     let (whole, each) = (alone.whole / 1000, alone.each());
     println!(rt; "copiers room us ns/page percent us/empty")?;
@@ -56,12 +47,7 @@ fn show_round<R: Print>(rt: &R, setting: Setting, round: Times, alone: Times) ->
 }
 
 /// Does the work of the zone alone so many times, or only fills the zone for it.
-pub fn show_part<R: Threads + Wait + Print + Clock + Sync>(
-    rt: &R,
-    alloc: Global,
-    part: &str,
-    times: u32,
-) -> anyhow::Result<()> {
+pub fn show_part<R: Runtime>(rt: &R, alloc: Global, part: &str, times: u32) -> anyhow::Result<()> {
     let work = match part {
         "alone" => Work::Alone,
         "filled" => Work::Filling,
@@ -73,12 +59,7 @@ pub fn show_part<R: Threads + Wait + Print + Clock + Sync>(
 }
 
 /// The best of so many times.
-fn best<R: Threads + Wait + Clock + Sync>(
-    rt: &R,
-    alloc: Global,
-    work: Work,
-    times: u32,
-) -> io::Result<Times> {
+fn best<R: Runtime>(rt: &R, alloc: Global, work: Work, times: u32) -> io::Result<Times> {
     let mut best = Times::NONE;
     for _time in 0..times {
         let once = time::<Brand, R>(rt, alloc, work, Blanks::new())?;

@@ -3,15 +3,14 @@
 mod filled;
 mod hands;
 
+use crate::Runtime;
 use crate::times::nanos_since;
 use anyhow::{Context, Result};
 use filled::{kept, memory_of, opened, taken_back};
 use hands::{Hands, Work, by_one, cheapest, do_work, runs_at};
 use row_core::Row;
 use std::alloc::Global;
-use std::sync::Wait;
-use std::thread::Threads;
-use std::time::{Clock, Instant};
+use std::time::Instant;
 use zone_core::BareZone;
 
 /// The pageblocks of a zone in which the work is shown, and not how long it takes.
@@ -23,11 +22,6 @@ const HANDS: [Hands; 4] = [
     Hands::Workers(2),
     Hands::Workers(4),
 ];
-
-/// What does the work: it starts threads, waits, prints and tells the time.
-pub trait Runtime: Threads + Wait + Print + Clock + Sync {}
-
-impl<R: Threads + Wait + Print + Clock + Sync> Runtime for R {}
 
 /// What comes of each work. It is the same whoever does it.
 pub fn show_doings<R: Runtime>(rt: &R, alloc: Global) -> Result<()> {

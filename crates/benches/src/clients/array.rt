@@ -1,16 +1,17 @@
 //! The same stores and loads in an array under a plain mutex.
 
 use super::crowd::{CALLS, PAGES};
+use crate::Runtime;
 use crate::times::{nanos_since, thousands};
 use std::sync::{Mutex, Wait};
-use std::thread::{Threads, for_each_mut};
-use std::time::{Clock, Instant};
+use std::thread::for_each_mut;
+use std::time::Instant;
 
 /// Eight words for each page.
 type Array = Mutex<[u64; 512]>;
 
 /// How many thousands of stores and loads so many threads make in a second, at most four.
-pub fn rate_of_array<R: Threads + Wait + Clock + Sync>(rt: &R, count: usize) -> Option<u64> {
+pub fn rate_of_array<R: Runtime>(rt: &R, count: usize) -> Option<u64> {
     let array = Mutex::new([0; 512]);
     let mut words = [0, 1, 2, 3];
     let words = words.get_mut(..count)?;
@@ -21,7 +22,7 @@ pub fn rate_of_array<R: Threads + Wait + Clock + Sync>(rt: &R, count: usize) -> 
 }
 
 /// Lets a thread use each of these words of the pages, of which there are at most four.
-fn use_all<R: Threads + Wait + Sync>(rt: &R, array: &Array, words: &mut [u32]) {
+fn use_all<R: Runtime>(rt: &R, array: &Array, words: &mut [u32]) {
     for_each_mut(rt, words, 4, &|_, word| use_pages(rt, array, *word));
 }
 

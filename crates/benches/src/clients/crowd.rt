@@ -1,5 +1,6 @@
 //! Clients, each with a word of its own in every page.
 
+use crate::Runtime;
 use crate::opening::page;
 use crate::times::nanos_since;
 use client_core::Client;
@@ -7,7 +8,7 @@ use frame_core::WordNo;
 use round_core::{SharedZone, ZoneIdentity};
 use std::alloc::Global;
 use std::sync::Wait;
-use std::thread::{Threads, for_each_mut};
+use std::thread::for_each_mut;
 use std::time::{Clock, Instant};
 use zone_core::Opening;
 
@@ -26,18 +27,18 @@ fn word_of(client: &Client) -> Option<WordNo> {
 }
 
 /// Lets at most four clients make their calls, each on a thread of its own. How long all calls take, in nanoseconds.
-pub fn time_calls<
-    K: ZoneIdentity + Send + Sync,
-    Z: Opening + Send + Sync,
-    R: Threads + Wait + Clock + Sync,
->(rt: &R, shared: &SharedZone<K, Z>, clients: &mut [Client]) -> Option<u64> {
+pub fn time_calls<K: ZoneIdentity + Send + Sync, Z: Opening + Send + Sync, R: Runtime>(
+    rt: &R,
+    shared: &SharedZone<K, Z>,
+    clients: &mut [Client],
+) -> Option<u64> {
     let start = Instant::now(rt).ok()?;
     use_all(rt, shared, clients);
     nanos_since(rt, &start).ok()
 }
 
 /// Lets each of at most four clients make its calls, on a thread of its own.
-fn use_all<K: ZoneIdentity + Send + Sync, Z: Opening + Send + Sync, R: Threads + Wait + Sync>(
+fn use_all<K: ZoneIdentity + Send + Sync, Z: Opening + Send + Sync, R: Runtime>(
     rt: &R,
     shared: &SharedZone<K, Z>,
     clients: &mut [Client],

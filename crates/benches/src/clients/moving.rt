@@ -1,24 +1,20 @@
 //! Rounds that go on as long as clients do.
 
 use super::crowd::PAGES;
+use crate::Runtime;
 use crate::opening::{FRAMES, page};
 use client_core::Client;
 use round_core::{NoGate, SharedZone, ZoneIdentity, compact};
 use std::alloc::Global;
 use std::sync::Wait;
 use std::sync::atomic::{AtomicBool, Ordering};
-use std::thread::Threads;
 use zone_core::{Opening, SeatsIn};
 
 const COPIERS: usize = 2;
 
 /// Frees the frames after the pages of the clients, and moves the pages there by a round, again and again, until the clients have
 /// ended or the pages stand at the top. How many pages were moved. No round is run where the queues have no room.
-pub fn run_rounds<
-    K: ZoneIdentity + Send + Sync,
-    Z: Opening + Send + Sync,
-    R: Threads + Wait + Sync,
->(
+pub fn run_rounds<K: ZoneIdentity + Send + Sync, Z: Opening + Send + Sync, R: Runtime>(
     rt: &R,
     alloc: Global,
     shared: &SharedZone<K, Z>,

@@ -7,6 +7,7 @@ ghost use Rattle.zone_core.specs.Books.{AreFor};
 use super::crowd::{PAGES, time_calls, time_loads};
 use super::moving::run_rounds;
 use super::outcome::{Outcome, Spread};
+use crate::Runtime;
 use crate::opening::{FRAMES, Opened, open, page};
 use bitflags::Flags;
 use client_core::{Client, settle_clients};
@@ -15,8 +16,7 @@ use round_core::{SharedZone, ZoneIdentity};
 use std::alloc::Global;
 use std::sync::Wait;
 use std::sync::atomic::{AtomicBool, Ordering};
-use std::thread::{Threads, join};
-use std::time::Clock;
+use std::thread::join;
 use zone_core::{Blanks, Opening, SeatsIn};
 
 /// What clients do.
@@ -38,11 +38,12 @@ pub struct Plan {
 }
 
 /// Opens zone 0 and runs clients over it. The first client maps the pages that the others use.
-pub fn run<
-    K: ZoneIdentity + Send + Sync,
-    Z: Opening + Send + Sync,
-    R: Threads + Wait + Clock + Sync,
->(rt: &R, alloc: Global, plan: Plan, blanks: Blanks) -> Option<Outcome>
+pub fn run<K: ZoneIdentity + Send + Sync, Z: Opening + Send + Sync, R: Runtime>(
+    rt: &R,
+    alloc: Global,
+    plan: Plan,
+    blanks: Blanks,
+) -> Option<Outcome>
     requires identity { (K.number ≡ 0) × (K.blocks ≡ 8) }
     requires blanks { AreFor blanks Z.isolated Z.rounds Z.moved Z.back }
 {
@@ -53,11 +54,7 @@ pub fn run<
 }
 
 /// Lets clients work, and compares the receipts of all clients with the journal.
-fn work_and_settle<
-    K: ZoneIdentity + Send + Sync,
-    Z: Opening + Send + Sync,
-    R: Threads + Wait + Clock + Sync,
->(
+fn work_and_settle<K: ZoneIdentity + Send + Sync, Z: Opening + Send + Sync, R: Runtime>(
     rt: &R,
     alloc: Global,
     shared: &SharedZone<K, Z>,
@@ -116,11 +113,7 @@ fn map_all<K: ZoneIdentity, Z: Opening, R: Wait>(
 }
 
 /// Lets clients work beside rounds. The times that were taken, and how many pages the rounds moved.
-fn work_beside_rounds<
-    K: ZoneIdentity + Send + Sync,
-    Z: Opening + Send + Sync,
-    R: Threads + Wait + Clock + Sync,
->(
+fn work_beside_rounds<K: ZoneIdentity + Send + Sync, Z: Opening + Send + Sync, R: Runtime>(
     rt: &R,
     alloc: Global,
     shared: &SharedZone<K, Z>,
@@ -144,11 +137,7 @@ fn work_beside_rounds<
 }
 
 /// Lets clients work. The times that were taken.
-fn take_times<
-    K: ZoneIdentity + Send + Sync,
-    Z: Opening + Send + Sync,
-    R: Threads + Wait + Clock + Sync,
->(
+fn take_times<K: ZoneIdentity + Send + Sync, Z: Opening + Send + Sync, R: Runtime>(
     rt: &R,
     alloc: Global,
     shared: &SharedZone<K, Z>,

@@ -4,6 +4,7 @@ ghost use Rattle.zone_core.specs.Books.{AreFor};
 ghost use Rattle.zone_core.specs.ZoneIdentity.{HasIdentity};
 
 use super::alone::{half_full, time_moves};
+use crate::Runtime;
 use crate::opening::Opened;
 use crate::settings::Setting;
 use crate::times::{Times, nanos_since};
@@ -11,9 +12,7 @@ use round_core::{NoGate, SharedZone, ZoneIdentity, compact};
 use std::alloc::Global;
 use std::io;
 use std::marker::Brand;
-use std::sync::Wait;
-use std::thread::Threads;
-use std::time::{Clock, Instant};
+use std::time::Instant;
 use zone_core::{Blanks, Opening, SeatsIn, ZoneIn};
 
 /// What is done with the zone.
@@ -28,7 +27,7 @@ pub enum Work {
 }
 
 /// How long a work takes in a zone that is opened and filled for it.
-pub fn time<Z: Opening + Send + Sync, R: Threads + Wait + Clock + Sync>(
+pub fn time<Z: Opening + Send + Sync, R: Runtime>(
     rt: &R,
     alloc: Global,
     work: Work,
@@ -53,11 +52,7 @@ pub fn time<Z: Opening + Send + Sync, R: Threads + Wait + Clock + Sync>(
 }
 
 /// How long both rounds take over a zone of the identity that the type names.
-fn time_rounds<
-    K: ZoneIdentity + Send + Sync,
-    Z: Opening + Send + Sync,
-    R: Threads + Wait + Clock + Sync,
->(
+fn time_rounds<K: ZoneIdentity + Send + Sync, Z: Opening + Send + Sync, R: Runtime>(
     rt: &R,
     alloc: Global,
     zone: ZoneIn<Z>,
@@ -76,11 +71,7 @@ fn time_rounds<
 }
 
 /// How long a round takes.
-fn time_round<
-    K: ZoneIdentity + Send + Sync,
-    Z: Opening + Send + Sync,
-    R: Threads + Wait + Clock + Sync,
->(
+fn time_round<K: ZoneIdentity + Send + Sync, Z: Opening + Send + Sync, R: Runtime>(
     rt: &R,
     alloc: Global,
     shared: &SharedZone<K, Z>,

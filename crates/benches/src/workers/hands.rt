@@ -2,12 +2,11 @@
 
 ghost use Rattle.std.specs.Prelude.{◌≡◌, ◌<◌, ◌≤◌};
 
+use crate::Runtime;
 use frame_core::{FrameNo, Order};
 use std::alloc::Global;
 use std::collections::VecDeque;
 use std::marker::Brand;
-use std::sync::Wait;
-use std::thread::Threads;
 use worker_threads::{NoGate, Round, Runs, RunsIdentity, WorkError, compact_alone, empty_alone};
 use zone_core::BareZone;
 
@@ -77,7 +76,7 @@ fn empty_each(zone: &mut BareZone<512>, firsts: &[FrameNo], most: u32) {
 }
 
 /// Does the work. Where it is refused, the zone comes back with the work undone.
-pub fn do_work<R: Threads + Wait + Sync>(
+pub fn do_work<R: Runtime>(
     rt: &R,
     alloc: Global,
     mut zone: BareZone<512>,
@@ -99,7 +98,7 @@ pub fn do_work<R: Threads + Wait + Sync>(
     }
 }
 
-fn by_workers<K: RunsIdentity + Send + Sync, R: Threads + Wait + Sync>(
+fn by_workers<K: RunsIdentity + Send + Sync, R: Runtime>(
     rt: &R,
     alloc: Global,
     zone: BareZone<512>,

@@ -62,15 +62,11 @@ fn send_by_all<R: Threads + Wait + Abort + Sync>(
     ensures { (queue : _) → All (λ s. s.queue ≡ queue) senders.items → All (λ s. s.queue ≡ queue) result.items }
 {
     let numbers = AtomicU32::new(0);
-    map_vec(
-        rt,
-        senders,
-        &|sender: DoneSender| -> DoneSender
-            requires { sender.closed ≡ false }
-            ensures { result.queue ≡ sender.queue }
-        { send_all(rt, sender, numbers.fetch_add(1, Ordering::SeqCst) % 4) },
-    )
-    .expect(rt, "memory")
+    let sends = |sender: DoneSender| -> DoneSender
+        requires { sender.closed ≡ false }
+        ensures { result.queue ≡ sender.queue }
+    { send_all(rt, sender, numbers.fetch_add(1, Ordering::SeqCst) % 4) };
+    map_vec(rt, senders, &sends).expect(rt, "memory")
 }
 
 // The next copy, or none at the end.

@@ -128,15 +128,11 @@ fn take_by_all<R: Threads + Wait + Abort + Sync>(
     requires { All (λ t. t.ended ≡ false) takers.items }
     ensures { (h : _) → All (λ t. t.hand_over ≡ h) takers.items → All (λ t. t.hand_over ≡ h) result.items }
 {
-    map_vec(
-        rt,
-        takers,
-        &|taker: Taker| -> Taker
-            requires { taker.ended ≡ false }
-            ensures { result.hand_over ≡ taker.hand_over }
-        { take_all(rt, taker, seen) },
-    )
-    .expect(rt, "memory")
+    let takes = |taker: Taker| -> Taker
+        requires { taker.ended ≡ false }
+        ensures { result.hand_over ≡ taker.hand_over }
+    { take_all(rt, taker, seen) };
+    map_vec(rt, takers, &takes).expect(rt, "memory")
 }
 
 fn nothing_seen<R: Abort>(rt: &R, alloc: Global) -> Vec<AtomicU32> {

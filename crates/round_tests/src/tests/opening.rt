@@ -77,21 +77,16 @@ pub fn open_zone<Z: Opening + ZoneIdentity + Send + Sync, R: Abort + AllocGlobal
 /// How many pages a round isolates, moves and puts back.
 pub type Counts = (u64, u64, u64);
 
-impl<Z: Opening + ZoneIdentity + Send + Sync> Shared<Z> {
-    /// A round with so many copiers and so much room, or why it is refused.
-    pub fn try_round<G: Gate, R: Runtime>(
-        &self,
-        rt: &R,
-        seats: &mut SeatsIn<Z>,
-        copiers: usize,
-        room: usize,
-        gate: &G,
-    ) -> Result<Round, RoundError> {
-        assert!(rt; 0 < copiers && copiers <= 4 && 0 < room && room <= 64);
-        compact(rt, rt.alloc(), &self.zone, seats, copiers, room, gate)
+/// A round that isn't refused.
+fn done(rt: &impl Abort, round: Result<Round, RoundError>) -> Round {
+    match round {
+        Ok(round) => round,
+        Err(error) => panic!(rt; "the round is refused: {error}"),
     }
+}
 
-    /// A round that isn't refused.
+impl<Z: Opening + ZoneIdentity + Send + Sync> Shared<Z> {
+    /// A round with so many copiers and so much room, that isn't refused.
     pub fn round<G: Gate, R: Runtime>(
         &self,
         rt: &R,
@@ -100,10 +95,9 @@ impl<Z: Opening + ZoneIdentity + Send + Sync> Shared<Z> {
         room: usize,
         gate: &G,
     ) -> Round {
-        match self.try_round(rt, seats, copiers, room, gate) {
-            Ok(round) => round,
-            Err(error) => panic!(rt; "the round is refused: {error}"),
-        }
+        assert!(rt; 0 < copiers && copiers <= 4 && 0 < room && room <= 64);
+        let round = compact(rt, rt.alloc(), &self.zone, seats, copiers, room, gate);
+        done(rt, round)
     }
 
     /// A round of at most so many pages that isn't refused, with room for three.
@@ -115,10 +109,8 @@ impl<Z: Opening + ZoneIdentity + Send + Sync> Shared<Z> {
         most: u32,
     ) -> Round {
         assert!(rt; 0 < copiers && copiers <= 4 && 0 < most);
-        match compact_at_most(rt, rt.alloc(), &self.zone, seats, copiers, 3, most, &NoGate) {
-            Ok(round) => round,
-            Err(error) => panic!(rt; "the round is refused: {error}"),
-        }
+        let round = compact_at_most(rt, rt.alloc(), &self.zone, seats, copiers, 3, most, &NoGate);
+        done(rt, round)
     }
 }
 

@@ -2,7 +2,7 @@ use super::calls::{Answer, Call};
 use super::opening::{Opened, counts_of};
 use super::{Runtime, Trial, tries};
 use frame_core::Isolated;
-use round_core::{NoGate, RoundError, Stop, ZoneIdentity};
+use round_core::{NoGate, RoundError, Stop, ZoneIdentity, compact};
 use std::process::Abort;
 use std::sync::Wait;
 use zone_core::{Next, Opening, ZoneError};
@@ -103,7 +103,8 @@ impl<Z: Opening + ZoneIdentity + Send + Sync> Opened<Z> {
     /// A round isn't begun, and the zone is as before.
     fn assert_broken<R: Runtime>(&mut self, rt: &R) {
         let before = self.told(rt);
-        let refused = self.shared.try_round(rt, &mut self.seats, 2, 8, &NoGate);
+        let zone = &self.shared.zone;
+        let refused = compact(rt, rt.alloc(), zone, &mut self.seats, 2, 8, &NoGate);
         assert!(rt; matches!(refused, Err(RoundError::Broken)));
         assert!(rt; self.told(rt) == before);
     }
